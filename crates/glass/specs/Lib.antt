@@ -1,0 +1,2 @@
+-- The root of glass's specs.
+pub mod Optics
