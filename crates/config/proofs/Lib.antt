@@ -1,0 +1,2 @@
+-- The laws of config that belong to no one function.
+pub mod Registers

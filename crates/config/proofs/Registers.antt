@@ -1,0 +1,74 @@
+-- Registers and sixteenths of a degree: what stands for what, the range, and that each undoes the other. Assumes nothing.
+use mathlib.Core.Path.{_≡_, refl, sym, ap, _∙_}
+use mathlib.Core.Bool.{Bool, true, false}
+use Prim.Native.Nat.{ℕ, _+_, _-_, _%_, _≤_, _<_}
+use native.Mathlib.Nat.{mod-eq-of-lt, mod-mod}
+use native.Mathlib.Omega.{arith}
+use lib.Dec.{ltb}
+use lib.IntN.{ℤ, pos, negsuc, natAbs, _-ℤ_}
+use borrow.Author.Tests.{ltb-true, ltb-false, lt-ltb, le-ltb}
+use Rattle.numbers.proofs.Lin.{up, down, Le, whole, sub-out, eq-in}
+use Rattle.config.specs.Temperature.{sixteenthsOf, registerOf}
+
+pub low-half : (r : ℕ) → r % 4096 < 2048 → pos (r % 4096) ≡ sixteenthsOf r
+unfolding sixteenthsOf
+low-half r h = rw (lt-ltb _ _ h)
+
+pub high-half : (r : ℕ) → 2048 ≤ r % 4096 → pos (r % 4096) -ℤ pos 4096 ≡ sixteenthsOf r
+unfolding sixteenthsOf
+high-half r h = rw (le-ltb _ _ h)
+
+-- the upper half, as the number below 0 that it is
+pub high-below : (r : ℕ) → 2048 ≤ r % 4096 → negsuc (4095 - r % 4096) ≡ sixteenthsOf r
+high-below r h = eq-in (negsuc (4095 - r % 4096)) (pos (r % 4096) -ℤ pos 4096) (omega (whole, sub-out (pos (r % 4096)) (pos 4096))) ∙ high-half r h
+
+pub at-or-above : (z : ℤ) → down z ≡ 0 → natAbs z % 4096 ≡ registerOf z
+unfolding registerOf
+at-or-above (pos n) h = refl
+at-or-above (negsuc n) h = absurd (omega arith)
+
+pub below : (z : ℤ) (m : ℕ) → m + 1 ≡ down z → 4095 - m % 4096 ≡ registerOf z
+unfolding registerOf
+below (pos n) m h = absurd (omega arith)
+below (negsuc n) m h = let e : m ≡ n = omega arith in rw e
+
+-- of a register the low twelve bits count
+pub low-bits : (r : ℕ) → sixteenthsOf (r % 4096) ≡ sixteenthsOf r
+unfolding sixteenthsOf
+low-bits r = let e : r % 4096 % 4096 ≡ r % 4096 = omega arith in rw e
+
+pub record Ranged (r : ℕ) : Type 0 where
+  pub bottom : down (sixteenthsOf r) ≤ 2048
+  pub top : up (sixteenthsOf r) ≤ 2047
+
+pub ranged : (r : ℕ) → Ranged r
+ranged r = by (ltb (r % 4096) 2048) refl
+  where
+    by : (t : Bool) → ltb (r % 4096) 2048 ≡ t → Ranged r
+    by true e =
+        let h = ltb-true (r % 4096) 2048 e in
+        let s = low-half r h in
+        record { bottom = omega (arith, ap down s); top = omega (arith, ap up s) }
+    by false e =
+        let h = ltb-false (r % 4096) 2048 e in
+        let s = high-below r h in
+        record { bottom = omega (arith, ap down s); top = omega (arith, ap up s) }
+
+-- a register's temperature has the register's low twelve bits
+pub register-of-sixteenths : (r : ℕ) → registerOf (sixteenthsOf r) ≡ r % 4096
+unfolding registerOf
+register-of-sixteenths r = by (ltb (r % 4096) 2048) refl
+  where
+    by : (t : Bool) → ltb (r % 4096) 2048 ≡ t → registerOf (sixteenthsOf r) ≡ r % 4096
+    by true e = rw (← low-half r (ltb-true (r % 4096) 2048 e)) (omega arith)
+    by false e = let h = ltb-false (r % 4096) 2048 e in rw (← high-below r h) (omega arith)
+
+-- a temperature of the format is its register's
+pub sixteenths-of-register : (z : ℤ) → up z ≤ 2047 → down z ≤ 2048 → sixteenthsOf (registerOf z) ≡ z
+unfolding registerOf
+sixteenths-of-register (pos n) h k =
+    let e : n % 4096 % 4096 ≡ n = omega arith in
+    sym (low-half (n % 4096) (omega arith)) ∙ ap pos e
+sixteenths-of-register (negsuc n) h k =
+    let e : 4095 - (4095 - n % 4096) % 4096 ≡ n = omega arith in
+    sym (high-below (4095 - n % 4096) (omega arith)) ∙ ap negsuc e

@@ -1,0 +1,27 @@
+-- `config::Temperature::from_celsius` meets its contract: sixteen times an i8 fits an i16.
+use mathlib.Core.Path.{_≡_, ap, _∙_}
+use lib.IntN.{ℤ, pos, _*ℤ_}
+use mir.Syntax.{w8, w16}
+use mir.Val.{SFits, toZ, ofZ}
+use Rattle.numbers.proofs.Lin.{whole, ranged, back, fits-is, scale-up, scale-down}
+use Rattle.config.proofs.Temperature.from_celsius.Statement.{statement}
+use Rattle.config.proofs.Temperature.from_celsius.Tie as tie
+
+cast-t2 : tie.Need-cast-t2
+cast-t2 c = fits-is (omega (whole, ranged (c .fits .celsius)))
+
+-- the number of degrees, as it is read back from eight bits
+abbrev degrees : tie.Start → ℤ
+degrees c = toZ w8 (ofZ w8 (c .args .celsius))
+
+abbrev wide : tie.Start → ℤ
+wide c = toZ w16 (ofZ w16 (degrees c))
+
+mul-t3 : tie.Need-mul-t3
+mul-t3 c = fits-is (omega (whole, ranged (c .fits .celsius), ranged (cast-t2 c), scale-up 16 (wide c), scale-down 16 (wide c)))
+
+returns : tie.Need-returns
+returns c = back (mul-t3 c) ∙ ap (λ (z : ℤ). pos 16 *ℤ z) (back (cast-t2 c) ∙ back (c .fits .celsius))
+
+pub from-celsius-spec : {M : Type 1} → statement M
+from-celsius-spec = tie.close (tie.spec cast-t2 mul-t3 returns)

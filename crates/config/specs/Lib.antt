@@ -1,0 +1,3 @@
+-- The root of config's specs.
+pub mod Temperature
+pub mod Timing

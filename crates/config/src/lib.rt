@@ -1,0 +1,192 @@
+// The parameters of an SSD1677 and of the panel it drives: what the datasheet leaves open, what belongs to the glass, and what no
+// source gives (config.rs). The waveforms in the panel's OTP are a lent table of their own.
+ghost use mathlib.Core.Path.{_≡_};
+ghost use lib.IntN.{pos, _*ℤ_};
+ghost use Rattle.config.specs.Temperature.{coldest, warmest, sixteenthsOf, registerOf, fromSixteenths};
+ghost use Rattle.config.specs.Timing.{defaultTiming};
+use glass::Optics;
+use glass::Provenance;
+
+// Sources of the controller: the width of each RAM plane, in pixels (datasheet §1).
+pub const RAM_SOURCES: u16 = 960;
+
+// Gates of the controller: the height of each RAM plane, in rows (datasheet §1).
+pub const RAM_GATES: u16 = 680;
+
+const MILLISECOND: u64 = 1_000_000;
+
+// ASSUMPTION: the datasheet does not tabulate the periods of the frame-rate codes.
+const FRAME_PERIOD: u64 = 20_000_000;
+
+// The gate-scan bits of command 0x01: SM (no left and right interlacing) and GD (the first output gate is G1). The datasheet's
+// Table 8-2 gives the RAM row each gate shows for each pair.
+pub struct GateScan {
+    pub sm: bool,
+    pub gd: bool,
+}
+
+// The glass behind the controller: which sources and gates it uses, and in what order its rows lie.
+pub struct PanelGeometry {
+    // Pixels in a row: the sources the panel uses.
+    pub width: u16,
+    // Rows: the gates the panel uses, from G0.
+    pub height: u16,
+    // The source of the panel's first column; RAM column x drives source x.
+    pub first_source: u16,
+    // The panel's first column is its last source.
+    pub columns_reversed: bool,
+    // The gate-scan setting under which the RAM's rows lie on the glass in sequence.
+    pub native_scan: GateScan,
+    // Under the native setting, the last RAM row is the top row of the glass.
+    pub rows_reversed: bool,
+}
+
+// How long each operation keeps BUSY high, in nanoseconds. Every value the datasheet does not give is an ASSUMPTION.
+pub struct Ssd1677Timing {
+    pub provenance: Provenance,
+    // Starting the clock (0x22 bit 7).
+    pub clock_on: u64,
+    // Starting the analog supplies (bit 6).
+    pub analog_on: u64,
+    // Stopping them (bit 1).
+    pub analog_off: u64,
+    // Reading the internal temperature sensor (bit 5, 0x18 = 80h).
+    pub temperature_internal: u64,
+    // Reading the external sensor over the controller's I2C (bit 5, 0x18 = 48h).
+    pub temperature_external: u64,
+    // Loading a waveform from OTP (bit 4).
+    pub lut_load: u64,
+    // The SW reset (0x12).
+    pub soft_reset: u64,
+    // After RES# rises.
+    pub hardware_reset: u64,
+    // The auto write of a plane (0x46, 0x47).
+    pub auto_write: u64,
+    // The VCI detection (0x15).
+    pub vci_detection: u64,
+    // The period of one frame for each of the sixteen frame-rate codes of the LUT.
+    pub frame_period: [u64; 16],
+}
+
+impl Ssd1677Timing {
+    pub fn default() -> Ssd1677Timing
+        ensures { λ r. ⌜ r ≡ defaultTiming ⌝ }
+    {
+        Ssd1677Timing {
+            provenance: Provenance::Approximation,
+            clock_on: 0,
+            analog_on: 100 * MILLISECOND,
+            analog_off: 200 * MILLISECOND,
+            temperature_internal: 5 * MILLISECOND,
+            temperature_external: 5 * MILLISECOND,
+            lut_load: MILLISECOND,
+            soft_reset: 2 * MILLISECOND,
+            hardware_reset: MILLISECOND,
+            auto_write: 2 * MILLISECOND,
+            vci_detection: MILLISECOND,
+            frame_period: [FRAME_PERIOD; 16],
+        }
+    }
+}
+
+// A temperature in the controller's format: twelve bits, two's complement, in sixteenths of a degree Celsius (datasheet §6.8.3).
+pub struct Temperature(pub i16);
+
+// A temperature, where the format holds it.
+pub enum FromSixteenths {
+    Within(Temperature),
+    Outside,
+}
+
+impl Temperature {
+    // The lowest value of the format, 800h, −128 °C.
+    pub fn min() -> Temperature
+        ensures { λ r. ⌜ r ≡ coldest ⌝ }
+    {
+        Temperature(-2048)
+    }
+
+    // The highest value of the format, 7FFh, 127.9375 °C; the temperature register's reset value.
+    pub fn max() -> Temperature
+        ensures { λ r. ⌜ r ≡ warmest ⌝ }
+    {
+        Temperature(2047)
+    }
+
+    pub fn from_sixteenths(sixteenths: i16) -> FromSixteenths
+        ensures { λ r. ⌜ r ≡ fromSixteenths sixteenths ⌝ }
+    {
+        if sixteenths < -2048 {
+            return FromSixteenths::Outside;
+        }
+        if 2047 < sixteenths {
+            return FromSixteenths::Outside;
+        }
+        FromSixteenths::Within(Temperature(sixteenths))
+    }
+
+    // A whole number of degrees Celsius. An i8 times 16 never leaves the format, so nothing saturates.
+    pub fn from_celsius(celsius: i8) -> Temperature
+        ensures { λ r. ⌜ r .0 ≡ pos 16 *ℤ celsius ⌝ }
+    {
+        Temperature(16 * (celsius as i16))
+    }
+
+    pub fn sixteenths(self) -> i16
+        ensures { λ r. ⌜ r ≡ self .0 ⌝ }
+    {
+        self.0
+    }
+
+    // The twelve-bit register value.
+    pub fn register(self) -> u16
+        ensures { λ r. ⌜ r ≡ registerOf (self .0) ⌝ }
+    {
+        let sixteenths = self.0;
+        if sixteenths < 0 {
+            return 4095 - (-(sixteenths + 1)) as u16 % 4096;
+        }
+        sixteenths as u16 % 4096
+    }
+
+    // The temperature a twelve-bit register value stands for; bits above the twelfth are ignored.
+    pub fn from_register(register: u16) -> Temperature
+        ensures { λ r. ⌜ r .0 ≡ sixteenthsOf register ⌝ }
+    {
+        let value = register & 0xFFF;
+        if value & 0x800 == 0 {
+            return Temperature(value as i16);
+        }
+        Temperature(value as i16 - 0x1000)
+    }
+}
+
+// The two display modes of 0x22 bit 3 and of the waveform settings in OTP (0x37).
+pub enum DisplayMode {
+    // Mode 1: the full waveforms on the X4 (0xF7, 0xD7).
+    One,
+    // Mode 2: the fast, differential waveform on the X4 (0xFC) and the custom-LUT one (0xCC).
+    Two,
+}
+
+// A sensor on the controller's own I2C, with the register it reads, of which the low twelve bits count.
+pub enum ExternalSensor {
+    Absent,
+    Reads(u16),
+}
+
+// Everything an SSD1677 model is built from but the table of waveforms.
+pub struct Ssd1677Config {
+    pub panel: PanelGeometry,
+    pub optics: Optics,
+    pub timing: Ssd1677Timing,
+    // BUSY is high while busy (datasheet Table 5-2); a board that inverts the line sets it false.
+    pub busy_active_high: bool,
+    // The register that the internal sensor reads, of which the low twelve bits count.
+    pub ambient: u16,
+    pub external_sensor: ExternalSensor,
+    // The supply VCI, for the VCI detection (0x15).
+    pub vci_millivolts: u32,
+    // The user ID of the OTP, read by 0x2E and loaded into its register at reset.
+    pub user_id: [u8; 10],
+}
