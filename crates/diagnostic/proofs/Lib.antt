@@ -1,0 +1,2 @@
+-- The laws of diagnostic that belong to no one function.
+pub mod Over

@@ -1,0 +1,147 @@
+-- A diagnostic's number and fields, and its record of 16 bytes (document 01, "Forms that cannot stay" and "The firmware on the bus").
+use Prim.Native.Nat.{ℕ, _*_, _/_, _%_, _^_}
+use mathlib.Core.List.{List, [], _∷_}
+use Rattle.config.specs.declared.DisplayMode.{DisplayMode}
+use Rattle.config.specs.declared.DisplayMode.the-variants.{One, Two}
+use Rattle.diagnostic.specs.declared.Stage.{Stage}
+use Rattle.diagnostic.specs.declared.Stage.the-variants.{AnalogOn, TemperatureLoad, LutLoad, Display, HvReadyDetection, VciDetection, VcomSense}
+use Rattle.diagnostic.specs.declared.DiagnosticKind.{DiagnosticKind}
+use Rattle.diagnostic.specs.declared.DiagnosticKind.the-variants.{
+  UnknownCommand,
+  ReservedCommand,
+  UnsupportedCommand,
+  DataWithoutCommand,
+  ExtraData,
+  MissingData,
+  WhileBusy,
+  WhileAsleep,
+  WhileInReset,
+  ReservedValue,
+  RamOutOfRange,
+  CounterOutsideWindow,
+  WithoutClock,
+  WithoutAnalog,
+  NoWaveform,
+  NoExternalSensor,
+  RamPingPong,
+  NothingToRead,
+  ResetDuringDisplay,
+}
+use Rattle.diagnostic.specs.declared.Fields.{Fields}
+
+-- the stages, counted from 0 in their order
+abbrev pub stageNumber : Stage → ℕ
+stageNumber AnalogOn = 0
+stageNumber TemperatureLoad = 1
+stageNumber LutLoad = 2
+stageNumber Display = 3
+stageNumber HvReadyDetection = 4
+stageNumber VciDetection = 5
+stageNumber VcomSense = 6
+
+-- the modes: 0 One, 1 Two
+abbrev pub modeNumber : DisplayMode → ℕ
+modeNumber One = 0
+modeNumber Two = 1
+
+-- 21 to 39, the cases of DiagnosticKind in its order
+abbrev pub numberOf : DiagnosticKind → ℕ
+numberOf (UnknownCommand command) = 21
+numberOf (ReservedCommand command) = 22
+numberOf (UnsupportedCommand command) = 23
+numberOf (DataWithoutCommand byte) = 24
+numberOf (ExtraData command) = 25
+numberOf (MissingData command expected received) = 26
+numberOf (WhileBusy command) = 27
+numberOf (WhileAsleep command) = 28
+numberOf (WhileInReset command) = 29
+numberOf (ReservedValue command value) = 30
+numberOf (RamOutOfRange command x y) = 31
+numberOf (CounterOutsideWindow command x y) = 32
+numberOf (WithoutClock stage) = 33
+numberOf (WithoutAnalog stage) = 34
+numberOf (NoWaveform mode temperature) = 35
+numberOf NoExternalSensor = 36
+numberOf RamPingPong = 37
+numberOf (NothingToRead command) = 38
+numberOf ResetDuringDisplay = 39
+
+-- field a is the command; for 24 the data, for 33 and 34 the stage, for 35 the mode
+abbrev pub fieldA : DiagnosticKind → ℕ
+fieldA (UnknownCommand command) = command
+fieldA (ReservedCommand command) = command
+fieldA (UnsupportedCommand command) = command
+fieldA (DataWithoutCommand byte) = byte
+fieldA (ExtraData command) = command
+fieldA (MissingData command expected received) = command
+fieldA (WhileBusy command) = command
+fieldA (WhileAsleep command) = command
+fieldA (WhileInReset command) = command
+fieldA (ReservedValue command value) = command
+fieldA (RamOutOfRange command x y) = command
+fieldA (CounterOutsideWindow command x y) = command
+fieldA (WithoutClock stage) = stageNumber stage
+fieldA (WithoutAnalog stage) = stageNumber stage
+fieldA (NoWaveform mode temperature) = modeNumber mode
+fieldA NoExternalSensor = 0
+fieldA RamPingPong = 0
+fieldA (NothingToRead command) = command
+fieldA ResetDuringDisplay = 0
+
+-- field b is expected (26), value (30), x (31, 32) or temperature register (35), and 0 where it is not used
+abbrev pub fieldB : DiagnosticKind → ℕ
+fieldB (UnknownCommand command) = 0
+fieldB (ReservedCommand command) = 0
+fieldB (UnsupportedCommand command) = 0
+fieldB (DataWithoutCommand byte) = 0
+fieldB (ExtraData command) = 0
+fieldB (MissingData command expected received) = expected
+fieldB (WhileBusy command) = 0
+fieldB (WhileAsleep command) = 0
+fieldB (WhileInReset command) = 0
+fieldB (ReservedValue command value) = value
+fieldB (RamOutOfRange command x y) = x
+fieldB (CounterOutsideWindow command x y) = x
+fieldB (WithoutClock stage) = 0
+fieldB (WithoutAnalog stage) = 0
+fieldB (NoWaveform mode temperature) = temperature
+fieldB NoExternalSensor = 0
+fieldB RamPingPong = 0
+fieldB (NothingToRead command) = 0
+fieldB ResetDuringDisplay = 0
+
+-- field c is received (26) or y (31, 32), and 0 where it is not used
+abbrev pub fieldC : DiagnosticKind → ℕ
+fieldC (UnknownCommand command) = 0
+fieldC (ReservedCommand command) = 0
+fieldC (UnsupportedCommand command) = 0
+fieldC (DataWithoutCommand byte) = 0
+fieldC (ExtraData command) = 0
+fieldC (MissingData command expected received) = received
+fieldC (WhileBusy command) = 0
+fieldC (WhileAsleep command) = 0
+fieldC (WhileInReset command) = 0
+fieldC (ReservedValue command value) = 0
+fieldC (RamOutOfRange command x y) = y
+fieldC (CounterOutsideWindow command x y) = y
+fieldC (WithoutClock stage) = 0
+fieldC (WithoutAnalog stage) = 0
+fieldC (NoWaveform mode temperature) = 0
+fieldC NoExternalSensor = 0
+fieldC RamPingPong = 0
+fieldC (NothingToRead command) = 0
+fieldC ResetDuringDisplay = 0
+
+-- number and fields of a diagnostic
+abbrev pub fieldsOf : DiagnosticKind → Fields
+fieldsOf k = record { number = numberOf k; a = fieldA k; b = fieldB k; c = fieldC k }
+
+-- byte k of a number, low byte first
+abbrev pub byteAt : ℕ → ℕ → ℕ
+byteAt x k = x / 2 ^ (8 * k) % 256
+
+-- a record: time 0–7, number 8, field a 9, b 10–11, c 12–13, low byte first, then zeros
+unfoldable pub recordOf : ℕ → Fields → List ℕ
+recordOf time f =
+    byteAt time 0 ∷ byteAt time 1 ∷ byteAt time 2 ∷ byteAt time 3 ∷ byteAt time 4 ∷ byteAt time 5 ∷ byteAt time 6 ∷ byteAt time 7
+    ∷ f .number ∷ f .a ∷ byteAt (f .b) 0 ∷ byteAt (f .b) 1 ∷ byteAt (f .c) 0 ∷ byteAt (f .c) 1 ∷ 0 ∷ 0 ∷ []
