@@ -1,5 +1,6 @@
 -- `diagnostic::report` meets its contract: the record's bytes are copied over their place.
 use Prim.Native.Nat.{_*_}
+use native.Mathlib.Omega.{arith}
 use mathlib.Core.Path.{ap, _∙_}
 use borrow.Author.Tests.{lt-ltb, le-ltb}
 use Rattle.diagnostic.specs.Log.{entries, reported}
@@ -43,10 +44,10 @@ same-length c = search needs
 
 returns : tie.Need-returns
 unfolding reported
-returns c = 
+returns c =
     let made = c .before .before .before .before .before in
     let then = made .before in
-    rw (lt-ltb _ _ (then .if1 .taken))
+    rw (lt-ltb (then .before .before .args .journal .count) 1024 (omega arith))
     (ap (entries _) (wrote _ (made .record-of .result) _ _ (16 * then .before .before .args .journal .count) 16 (search needs) (search needs) (c .before .before .copy .ensures .1) ∙ rw (made .record-of .ensures)))
 
 saturating-add-u64-requires : tie.Need-saturating-add-u64-requires
@@ -54,7 +55,7 @@ saturating-add-u64-requires c κs = search needs
 
 returns-2 : tie.Need-returns-2
 unfolding reported
-returns-2 c = rw (le-ltb _ _ (c .before .if1 .left), c .saturating-add-u64 .ensures)
+returns-2 c = rw (le-ltb (c .before .before .before .args .journal .count) 1024 (omega arith), c .saturating-add-u64 .ensures)
 
 pub report-spec : {M : Type 1} → statement M
 report-spec =
