@@ -1,0 +1,2 @@
+-- The laws of ram.
+pub mod Steps
