@@ -1,2 +1,3 @@
 -- The laws of ram.
 pub mod Steps
+pub mod Checkerboard

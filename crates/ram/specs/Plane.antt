@@ -13,8 +13,8 @@ use Rattle.ram.specs.declared.Place.{Place}
 use Rattle.ram.specs.declared.Place.the-variants.{At, Outside}
 use Rattle.ram.specs.declared.Byte.{Byte}
 use Rattle.ram.specs.declared.Byte.the-variants as byte
-use Rattle.ram.specs.declared.Bit.{Bit}
-use Rattle.ram.specs.declared.Bit.the-variants as pixel
+use Rattle.ram.specs.declared.Pixel.{Pixel}
+use Rattle.ram.specs.declared.Pixel.the-variants as pixel
 
 -- one of the two planes (§6.5)
 abbrev pub planeOf : List ℕ → List ℕ → Plane → List ℕ
@@ -53,10 +53,42 @@ unfoldable pub writtenAt : List ℕ → Counter → ℕ → List ℕ
 writtenAt p c b = putAt p (indexOf c) b
 
 -- the bit of a byte's pixel, the most significant at the lowest x (§6.5)
-abbrev pub bitIn : Byte → ℕ → Bit
+abbrev pub bitIn : Byte → ℕ → Pixel
 bitIn (byte.Is b) x = pixel.Is (bitOf b (7 - x % 8))
 bitIn byte.Nothing x = pixel.Nothing
 
 -- the bit of the pixel at x in a row
-unfoldable pub bitAt : List ℕ → ℕ → ℕ → Bit
+unfoldable pub bitAt : List ℕ → ℕ → ℕ → Pixel
 bitAt p x row = bitIn (readAt p (record { x = x; y = row })) x
+
+-- the heights of an auto write's steps in rows, by bits 6 to 4 of its parameter (Table 7-1)
+abbrev pub heights : List ℕ
+heights = 8 ∷ 16 ∷ 32 ∷ 64 ∷ 128 ∷ 256 ∷ 512 ∷ 680 ∷ []
+
+-- the widths of its steps in pixels, by bits 2 to 0 (Table 7-1)
+abbrev pub widths : List ℕ
+widths = 8 ∷ 16 ∷ 32 ∷ 64 ∷ 128 ∷ 256 ∷ 512 ∷ 960 ∷ []
+
+-- the height of a step in rows
+unfoldable pub heightOf : ℕ → ℕ
+heightOf parameter = getD heights (parameter / 16 % 8) 0
+
+-- the width of a step in bytes of eight pixels
+unfoldable pub widthOf : ℕ → ℕ
+widthOf parameter = getD widths (parameter % 8) 0 / 8
+
+-- the byte of a step, by how many steps it is from the first: they alternate between the first value and the other (Table 7-1)
+unfoldable pub stepByte : Bool → ℕ → ℕ
+stepByte first steps = pick (eqb (steps % 2) 0) (pick first 255 0) (pick first 0 255)
+
+-- what an auto write puts at a place, of row i / 120 and column i % 120; bit 7 is the first value (Table 7-1)
+unfoldable pub autoByte : ℕ → ℕ → ℕ
+autoByte parameter i = stepByte (bitOf parameter 7) (i / 120 / heightOf parameter + i % 120 / widthOf parameter)
+
+-- the bytes of a list's whole rows of 120: all of a plane's 81,600
+abbrev pub wholeRows : List ℕ → ℕ
+wholeRows p = length p / 120 * 120
+
+-- the plane after an auto write: every whole row by place, and what is left of a row that is not whole as it was
+unfoldable pub autoWritten : ℕ → List ℕ → List ℕ
+autoWritten parameter p = tab (wholeRows p) (autoByte parameter) ++ drop (wholeRows p) p

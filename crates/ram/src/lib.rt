@@ -11,6 +11,10 @@ ghost use Rattle.ram.specs.Counter.{resetWindow, resetEntry, stepOf, bet
 ghost use Rattle.ram.specs.Plane.{planeOf, indexOf, readAt, wroteAt, writtenAt, bitAt};
 ghost use Rattle.ram.specs.Registers.{tenBits};
 
+mod auto;
+
+pub use auto::auto_write;
+
 // The RAM holds a bit for each source and gate.
 pub const RAM_SOURCES: u16 = 960;
 
@@ -256,8 +260,26 @@ pub fn write(plane: &mut [u8], at: Counter, byte: u8) -> bool
 }
 
 // The bit of a pixel.
-pub enum Bit {
+pub enum Pixel {
     Is(bool),
     // Its byte is not there.
     Nothing,
+}
+
+pub fn bit(plane: &[u8], x: u16, row: u16) -> Pixel
+    ensures { λ r. ⌜ r ≡ bitAt (now (plane .entry)) x row ⌝ }
+{
+    match read(plane, Counter { x: x, y: row }) {
+        Byte::Is(byte) => Pixel::Is((byte >> (7 - x % 8)) & 1 == 1),
+        Byte::Nothing => Pixel::Nothing,
+    }
+}
+
+// Every byte of the plane, however long, becomes `byte`.
+pub fn fill(plane: &mut [u8], byte: u8)
+    ensures { λ _. ⌜ now (plane .exit) ≡ tab (length (now (plane .entry))) (λ _. byte) ⌝ }
+{
+    for i in 0..plane.len() {
+        plane[i] = byte;
+    }
 }
