@@ -1,6 +1,6 @@
 -- `fill`: after i turns the first i bytes are filled.
 use mathlib.Core.Path.{_≡_, refl}
-use Prim.Native.Nat.{ℕ, _≤_, _-_}
+use Prim.Native.Nat.{_-_}
 use native.Mathlib.Omega.{arith}
 use lib.ListN.{length}
 use Rattle.numbers.proofs.Painted.{Painted, painted-none, painted-more, painted-all}

@@ -1,9 +1,7 @@
 -- `inside`: the lesser and the greater of the two ends, in either order.
-use mathlib.Core.Path.{_≡_, sym, ap}
-use mathlib.Core.Bool.{_&&_}
-use Prim.Native.Nat.{ℕ, min, max}
+use mathlib.Core.Path.{_≡_}
+use Prim.Native.Nat.{min, max}
 use native.Mathlib.Omega.{arith}
-use lib.Dec.{leb}
 use Rattle.ram.specs.Counter.{between}
 use Rattle.ram.proofs.inside.Statement.{statement}
 use Rattle.ram.proofs.inside.Tie as tie

@@ -1,5 +1,5 @@
 -- `Counter::advanced`: what the steps are told to be, put into the law of the axis that moves first.
-use mathlib.Core.Path.{_≡_, sym, ap, _∙_}
+use mathlib.Core.Path.{sym, ap, _∙_}
 use mathlib.Core.Bool.{Bool}
 use Prim.Native.Nat.{_/_}
 use native.Mathlib.Omega.{arith}

@@ -1,14 +1,12 @@
 -- `auto_write`: after some rows and columns, all bytes before that place are written.
-use mathlib.Core.Path.{_≡_, refl, sym, ap, _∙_}
+use mathlib.Core.Path.{ap}
 use Prim.Native.Nat.{ℕ, _+_, _-_, _*_, _/_, _≤_}
 use native.Mathlib.Omega.{arith}
 use native.Mathlib.Nat.{div-le-self, add-assoc}
-use lib.ListN.{length}
-use borrow.Author.Needs.{needs}
 use Rattle.numbers.specs.Choice.{bitOf}
 use Rattle.numbers.proofs.Fields.{test-bit}
 use Rattle.numbers.proofs.Painted.{Painted, painted-none, painted-more, painted-again, painted-on, painted-at}
-use Rattle.ram.specs.Plane.{heightOf, widthOf, autoByte}
+use Rattle.ram.specs.Plane.{widthOf, autoByte}
 use Rattle.ram.proofs.Checkerboard.{height-pos, placed, written}
 use Rattle.ram.proofs.auto.auto_write.Statement.{statement}
 use Rattle.ram.proofs.auto.auto_write.Tie as tie

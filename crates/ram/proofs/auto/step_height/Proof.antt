@@ -1,6 +1,6 @@
 -- `step_height`: an entry of the table, at a place below 8.
-use Prim.Native.Nat.{ℕ, _/_, _%_, _<_}
-use mathlib.Core.Path.{_≡_, ap}
+use Prim.Native.Nat.{ℕ, _/_, _<_}
+use mathlib.Core.Path.{ap}
 use native.Mathlib.Omega.{arith}
 use mir.Facts.{fits-mask}
 use lib.Bits.{bitAnd, and-mask, mask-lt}

@@ -1,6 +1,6 @@
 -- `steps_before`: the shift is below 8.
 use Prim.Native.Nat.{ℕ, _/_, _^_, _<_}
-use mathlib.Core.Path.{_≡_, ap, _∙_}
+use mathlib.Core.Path.{ap, _∙_}
 use native.Mathlib.Omega.{arith}
 use mir.Facts.{fits-mask}
 use lib.Bits.{bitAnd, and-mask, mask-lt}
