@@ -152,35 +152,36 @@ impl Counter {
     pub fn advanced(self, window: Window, entry: Entry) -> Counter
         ensures { λ r. ⌜ r ≡ advancedOf self window entry ⌝ }
     {
+        let x_start = window.x_start;
         let byte = step(self.x / 8, window.x_end / 8, entry.x_increments());
         let row = step(self.y, window.y_end, entry.y_increments());
         if entry.y_first() {
             match row {
                 Next::To(y) => Counter { x: self.x, y: y },
                 Next::Past => match byte {
-                    Next::To(column) => Counter {
-                        x: column * 8,
-                        y: window.y_start,
-                    },
+                    Next::To(column) => {
+                        let x = column * 8;
+                        Counter {
+                            x: x,
+                            y: window.y_start,
+                        }
+                    }
                     Next::Past => Counter {
-                        x: window.x_start,
+                        x: x_start,
                         y: window.y_start,
                     },
                 },
             }
         } else {
             match byte {
-                Next::To(column) => Counter {
-                    x: column * 8,
-                    y: self.y,
-                },
+                Next::To(column) => {
+                    let x = column * 8;
+                    Counter { x: x, y: self.y }
+                }
                 Next::Past => match row {
-                    Next::To(y) => Counter {
-                        x: window.x_start,
-                        y: y,
-                    },
+                    Next::To(y) => Counter { x: x_start, y: y },
                     Next::Past => Counter {
-                        x: window.x_start,
+                        x: x_start,
                         y: window.y_start,
                     },
                 },

@@ -33,8 +33,8 @@ enum-told c = search needs
 enum-known-byte : tie.Need-enum-known-byte
 enum-known-byte c = search needs
 
-mul-t17 : tie.Need-mul-t17
-mul-t17 c =
+mul-x : tie.Need-mul-x
+mul-x c =
     let small =
     step-below (c .before .before .before .before .before .before .before .before .before .before .before .before .before .args .self .x / 8) (c .before .before .before .before .before .before .before .before .before .before .before .before .before .args .window .«x_end» / 8) 8191 _ (omega arith) (omega arith) _
     (sym (c .before .byte .given .1) ∙ c .before .before .before .before .before .before .before .before .before .step .ensures)
@@ -46,8 +46,8 @@ enum-told-2 c = search needs
 enum-known-byte-2 : tie.Need-enum-known-byte-2
 enum-known-byte-2 c = search needs
 
-mul-t19 : tie.Need-mul-t19
-mul-t19 c =
+mul-x-2 : tie.Need-mul-x-2
+mul-x-2 c =
     let small =
     step-below (c .before .before .before .before .before .before .before .before .before .before .before .args .self .x / 8) (c .before .before .before .before .before .before .before .before .before .before .before .args .window .«x_end» / 8) 8191 _ (omega arith) (omega arith) _
     (sym (c .before .byte2 .given .1) ∙ c .before .before .before .before .before .before .before .step .ensures)
@@ -116,10 +116,10 @@ advanced-spec =
     enum-known-row
     enum-told
     enum-known-byte
-    mul-t17
+    mul-x
     enum-told-2
     enum-known-byte-2
-    mul-t19
+    mul-x-2
     enum-told-3
     enum-known-row-2
     enum-told-4
