@@ -2,7 +2,7 @@
 -- Assumes nothing.
 use mathlib.Core.Path.{_≡_, refl}
 use mathlib.Core.Bool.{Bool, true, false}
-use Prim.Native.Nat.{ℕ, _+_, _-_, _≤_}
+use Prim.Native.Nat.{ℕ, _+_, _-_, _/_, _≤_}
 use native.Mathlib.Omega.{arith}
 use lib.Dec.{ltb}
 use borrow.Author.Tests.{ltb-true}
@@ -12,7 +12,7 @@ use Rattle.ram.specs.declared.Counter.{Counter}
 use Rattle.ram.specs.declared.Entry.{Entry}
 use Rattle.ram.specs.declared.Next.{Next}
 use Rattle.ram.specs.declared.Next.the-variants.{To, Past}
-use Rattle.ram.specs.Counter.{stepOf, byteStep, rowStep, xFirst, yFirst, advancedOf}
+use Rattle.ram.specs.Counter.{stepOf, xFirst, yFirst, advancedOf}
 
 never : {n : ℕ} → To n ≡ Past → ⊥
 never e = let z : _≡_ {A = ℕ} 0 1 = cc in omega arith
@@ -31,13 +31,13 @@ module _ (at end bound n : ℕ) (p : at ≤ bound) (q : end ≤ bound) where
       by true e h = let m : n ≡ at - 1 = cc in omega arith
       by false e h = absurd (never h)
 
-module _ (c : Counter) (w : Window) (e : Entry) (first : Bool) (inX inY : Next) (f : first ≡ bitOf (e .0) 2)
-    (x : inX ≡ byteStep c w e) (y : inY ≡ rowStep c w e) where
-  -- the answer where x moves first, and where y does
+-- the answer where x moves first, and where y does, from what each call said
+module _ (c : Counter) (w : Window) (e : Entry) {first incX incY : Bool} {inX inY : Next} (i : incX ≡ bitOf (e .0) 0) (j : incY ≡ bitOf (e .0) 1)
+    (f : first ≡ bitOf (e .0) 2) (x : inX ≡ stepOf incX (c .x / 8) (w .«x_end» / 8)) (y : inY ≡ stepOf incY (c .y) (w .«y_end»)) where
   pub x-moves : first ≡ false → xFirst c w inX inY ≡ advancedOf c w e
   unfolding advancedOf
-  x-moves h = rw (← f, h, x, y)
+  x-moves h = rw (← f, h, ← i, ← j, x, y)
 
   pub y-moves : first ≡ true → yFirst c w inX inY ≡ advancedOf c w e
   unfolding advancedOf
-  y-moves h = rw (← f, h, x, y)
+  y-moves h = rw (← f, h, ← i, ← j, x, y)

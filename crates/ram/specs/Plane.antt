@@ -25,30 +25,30 @@ planeOf blackWhite red Red = red
 unfoldable pub indexOf : Counter → Place
 indexOf c = pick (ltb (c .x / 8) 120 && ltb (c .y) 680) (At (c .y * 120 + c .x / 8)) Outside
 
--- the byte at a place; a list that is too short holds none there
+-- the byte at a place; past the end of a list that is too short there is none (document 01: a read outside gives none)
 abbrev pub byteAt : List ℕ → Place → Byte
 byteAt p (At i) = pick (ltb i (length p)) (byte.Is (getD p i 0)) byte.Nothing
 byteAt p Outside = byte.Nothing
 
--- what a read at the counter finds
+-- what a read at the counter finds: the byte that the index names, or none (document 01)
 unfoldable pub readAt : List ℕ → Counter → Byte
 readAt p c = byteAt p (indexOf c)
 
--- a place is there
+-- a place is within the list
 abbrev pub isThere : List ℕ → Place → Bool
 isThere p (At i) = ltb i (length p)
 isThere p Outside = false
 
--- a write at the counter finds its byte
+-- whether a write at the counter finds its byte (ram.rs, `write`)
 unfoldable pub wroteAt : List ℕ → Counter → Bool
 wroteAt p c = isThere p (indexOf c)
 
--- a byte put at a place; `set` past the end changes nothing
+-- a byte put at a place; `set` past the end changes nothing, as a write outside does (document 01)
 abbrev pub putAt : List ℕ → Place → ℕ → List ℕ
 putAt p (At i) b = set p i b
 putAt p Outside b = p
 
--- the plane after a write at the counter: that byte is b and every other is as it was
+-- the plane after a write at the counter: that byte is b and every other is as it was (ram.rs, `write`)
 unfoldable pub writtenAt : List ℕ → Counter → ℕ → List ℕ
 writtenAt p c b = putAt p (indexOf c) b
 
@@ -57,7 +57,7 @@ abbrev pub bitIn : Byte → ℕ → Pixel
 bitIn (byte.Is b) x = pixel.Is (bitOf b (7 - x % 8))
 bitIn byte.Nothing x = pixel.Nothing
 
--- the bit of the pixel at x in a row
+-- the bit of the pixel at x in a row (ram.rs, `bit`)
 unfoldable pub bitAt : List ℕ → ℕ → ℕ → Pixel
 bitAt p x row = bitIn (readAt p (record { x = x; y = row })) x
 
@@ -69,11 +69,11 @@ heights = 8 ∷ 16 ∷ 32 ∷ 64 ∷ 128 ∷ 256 ∷ 512 ∷ 680 ∷ []
 abbrev pub widths : List ℕ
 widths = 8 ∷ 16 ∷ 32 ∷ 64 ∷ 128 ∷ 256 ∷ 512 ∷ 960 ∷ []
 
--- the height of a step in rows
+-- the height of a step in rows, for a parameter (Table 7-1)
 unfoldable pub heightOf : ℕ → ℕ
 heightOf parameter = getD heights (parameter / 16 % 8) 0
 
--- the width of a step in bytes of eight pixels
+-- the width of a step in bytes of eight pixels, for a parameter (Table 7-1)
 unfoldable pub widthOf : ℕ → ℕ
 widthOf parameter = getD widths (parameter % 8) 0 / 8
 
@@ -85,10 +85,10 @@ stepByte first steps = pick (eqb (steps % 2) 0) (pick first 255 0) (pick first 0
 unfoldable pub autoByte : ℕ → ℕ → ℕ
 autoByte parameter i = stepByte (bitOf parameter 7) (i / 120 / heightOf parameter + i % 120 / widthOf parameter)
 
--- the bytes of a list's whole rows of 120: all of a plane's 81,600
+-- how many bytes the whole rows of a list have, 120 to a row: of a plane all 81,600 (§6.5)
 abbrev pub wholeRows : List ℕ → ℕ
 wholeRows p = length p / 120 * 120
 
--- the plane after an auto write: every whole row by place, and what is left of a row that is not whole as it was
+-- the plane after an auto write: every whole row by place, and what is left of a row that is not whole as it was (ram.rs, `auto_write`)
 unfoldable pub autoWritten : ℕ → List ℕ → List ℕ
 autoWritten parameter p = tab (wholeRows p) (autoByte parameter) ++ drop (wholeRows p) p

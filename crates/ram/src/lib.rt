@@ -15,9 +15,9 @@ mod auto;
 
 pub use auto::auto_write;
 
-// The RAM holds a bit for each source and gate.
+// Sources of the controller: the width of each plane, in pixels (datasheet §1).
 pub const RAM_SOURCES: u16 = 960;
-
+// Gates of the controller: the height of each plane, in rows (datasheet §1).
 pub const RAM_GATES: u16 = 680;
 
 // Bytes in a row of a plane.
@@ -34,6 +34,7 @@ pub enum Plane {
 }
 
 impl Plane {
+    // Its bytes, of the two planes that are lent.
     pub fn plane<'a>(self, black_white: &'a [u8], red: &'a [u8]) -> &'a [u8]
         ensures { λ r. ⌜ now r ≡ planeOf (now («black_white» .entry)) (now (red .entry)) self ⌝ }
     {
@@ -53,6 +54,7 @@ pub struct Window {
 }
 
 impl Window {
+    // The reset value: the whole RAM, 000h–3BFh by 000h–2A7h.
     pub const RESET: Window = Window {
         x_start: 0,
         x_end: RAM_SOURCES - 1,
@@ -60,6 +62,7 @@ impl Window {
         y_end: RAM_GATES - 1,
     };
 
+    // `RESET`, since a constant has no contract to say what it is.
     pub fn reset() -> Window
         ensures { λ r. ⌜ r ≡ resetWindow ⌝ }
     {
@@ -71,8 +74,10 @@ impl Window {
 pub struct Entry(pub u8);
 
 impl Entry {
+    // The reset value 03h: X and Y increment, the counter moves in X.
     pub const RESET: Entry = Entry(0x03);
 
+    // `RESET`, since a constant has no contract to say what it is.
     pub fn reset() -> Entry
         ensures { λ r. ⌜ r ≡ resetEntry ⌝ }
     {
@@ -190,7 +195,7 @@ impl Counter {
     }
 }
 
-// A ten-bit register with one of its two bytes written, the low byte by index 0 (Table 7-1).
+// A 10-bit register written low byte first; `index` is the byte's place in its command (mod.rs).
 pub fn ten_bits(value: u16, index: u16, byte: u8) -> u16
     ensures { λ r. ⌜ r ≡ tenBits value index byte ⌝ }
 {

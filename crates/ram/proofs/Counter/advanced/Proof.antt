@@ -1,10 +1,8 @@
--- `Counter::advanced`: what the steps are told to be, put into the law of the axis that moves first.
-use mathlib.Core.Path.{sym, ap, _∙_}
-use mathlib.Core.Bool.{Bool}
+-- `Counter::advanced`: what the calls said, put into the law of the axis that moves first; a byte's first pixel fits 16 bits.
+use mathlib.Core.Path.{sym, _∙_}
 use Prim.Native.Nat.{_/_}
 use native.Mathlib.Omega.{arith}
 use borrow.Author.Needs.{needs}
-use Rattle.ram.specs.Counter.{stepOf}
 use Rattle.ram.proofs.Steps.{step-below, x-moves, y-moves}
 use Rattle.ram.proofs.Counter.advanced.Statement.{statement}
 use Rattle.ram.proofs.Counter.advanced.Tie as tie
@@ -35,10 +33,9 @@ enum-known-byte c = search needs
 
 mul-x : tie.Need-mul-x
 mul-x c =
-    let small =
-    step-below (c .before .before .before .before .before .before .before .before .before .before .before .before .before .args .self .x / 8) (c .before .before .before .before .before .before .before .before .before .before .before .before .before .args .window .«x_end» / 8) 8191 _ (omega arith) (omega arith) _
-    (sym (c .before .byte .given .1) ∙ c .before .before .before .before .before .before .before .before .before .step .ensures)
-    in omega arith
+    let a = c .before .before .before .before .before .before .before .before .before .before .before .before .before .args in
+    let small = step-below (a .self .x / 8) (a .window .«x_end» / 8) 8191 _ (omega arith) (omega arith) _ (sym (c .before .byte .given .1) ∙ c .before .before .before .before .before .before .before .before .before .step .ensures) in
+    omega arith
 
 enum-told-2 : tie.Need-enum-told-2
 enum-told-2 c = search needs
@@ -48,10 +45,9 @@ enum-known-byte-2 c = search needs
 
 mul-x-2 : tie.Need-mul-x-2
 mul-x-2 c =
-    let small =
-    step-below (c .before .before .before .before .before .before .before .before .before .before .before .args .self .x / 8) (c .before .before .before .before .before .before .before .before .before .before .before .args .window .«x_end» / 8) 8191 _ (omega arith) (omega arith) _
-    (sym (c .before .byte2 .given .1) ∙ c .before .before .before .before .before .before .before .step .ensures)
-    in omega arith
+    let a = c .before .before .before .before .before .before .before .before .before .before .before .args in
+    let small = step-below (a .self .x / 8) (a .window .«x_end» / 8) 8191 _ (omega arith) (omega arith) _ (sym (c .before .byte2 .given .1) ∙ c .before .before .before .before .before .before .before .step .ensures) in
+    omega arith
 
 enum-told-3 : tie.Need-enum-told-3
 enum-told-3 c = search needs
@@ -64,44 +60,68 @@ enum-told-4 c = search needs
 
 returns : tie.Need-returns
 returns c =
-    y-moves (c .before .before .before .before .before .before .before .before .before .before .before .args .self) (c .before .before .before .before .before .before .before .before .before .before .before .args .window) (c .before .before .before .before .before .before .before .before .before .before .before .args .entry) _ _ _ (c .before .before .before .before .y-first .ensures)
-    (c .before .before .before .before .before .before .before .step .ensures ∙ ap (λ (i : Bool). stepOf i (c .before .before .before .before .before .before .before .before .before .before .before .args .self .x / 8) (c .before .before .before .before .before .before .before .before .before .before .before .args .window .«x_end» / 8)) (c .before .before .before .before .before .before .before .before .x-increments .ensures))
-    (sym (c .before .row .given .1) ∙ c .before .before .before .before .before .step2 .ensures ∙ ap (λ (i : Bool). stepOf i (c .before .before .before .before .before .before .before .before .before .before .before .args .self .y) (c .before .before .before .before .before .before .before .before .before .before .before .args .window .«y_end»)) (c .before .before .before .before .before .before .y-increments .ensures))
+    let a = c .before .before .before .before .before .before .before .before .before .before .before .args in
+    y-moves (a .self) (a .window) (a .entry)
+    (c .before .before .before .before .before .before .before .before .x-increments .ensures)
+    (c .before .before .before .before .before .before .y-increments .ensures)
+    (c .before .before .before .before .y-first .ensures)
+    (c .before .before .before .before .before .before .before .step .ensures)
+    (sym (c .before .row .given .1) ∙ c .before .before .before .before .before .step2 .ensures)
     (c .before .before .before .if1 .taken)
 
 returns-2 : tie.Need-returns-2
 returns-2 c =
-    y-moves (c .before .before .before .before .before .before .before .before .before .before .before .before .before .args .self) (c .before .before .before .before .before .before .before .before .before .before .before .before .before .args .window) (c .before .before .before .before .before .before .before .before .before .before .before .before .before .args .entry) _ _ _ (c .before .before .before .before .before .before .y-first .ensures)
-    (sym (c .before .byte .given .1) ∙ c .before .before .before .before .before .before .before .before .before .step .ensures ∙ ap (λ (i : Bool). stepOf i (c .before .before .before .before .before .before .before .before .before .before .before .before .before .args .self .x / 8) (c .before .before .before .before .before .before .before .before .before .before .before .before .before .args .window .«x_end» / 8)) (c .before .before .before .before .before .before .before .before .before .before .x-increments .ensures))
-    (sym (c .before .before .before .enum-told .given .1) ∙ c .before .before .before .before .before .before .before .step2 .ensures ∙ ap (λ (i : Bool). stepOf i (c .before .before .before .before .before .before .before .before .before .before .before .before .before .args .self .y) (c .before .before .before .before .before .before .before .before .before .before .before .before .before .args .window .«y_end»)) (c .before .before .before .before .before .before .before .before .y-increments .ensures))
+    let a = c .before .before .before .before .before .before .before .before .before .before .before .before .before .args in
+    y-moves (a .self) (a .window) (a .entry)
+    (c .before .before .before .before .before .before .before .before .before .before .x-increments .ensures)
+    (c .before .before .before .before .before .before .before .before .y-increments .ensures)
+    (c .before .before .before .before .before .before .y-first .ensures)
+    (sym (c .before .byte .given .1) ∙ c .before .before .before .before .before .before .before .before .before .step .ensures)
+    (sym (c .before .before .before .enum-told .given .1) ∙ c .before .before .before .before .before .before .before .step2 .ensures)
     (c .before .before .before .before .before .if1 .taken)
 
 returns-3 : tie.Need-returns-3
 returns-3 c =
-    y-moves (c .before .before .before .before .before .before .before .before .before .before .before .before .args .self) (c .before .before .before .before .before .before .before .before .before .before .before .before .args .window) (c .before .before .before .before .before .before .before .before .before .before .before .before .args .entry) _ _ _ (c .before .before .before .before .before .y-first .ensures)
-    (sym (c .enum-told2 .given .1) ∙ c .before .before .before .before .before .before .before .before .step .ensures ∙ ap (λ (i : Bool). stepOf i (c .before .before .before .before .before .before .before .before .before .before .before .before .args .self .x / 8) (c .before .before .before .before .before .before .before .before .before .before .before .before .args .window .«x_end» / 8)) (c .before .before .before .before .before .before .before .before .before .x-increments .ensures))
-    (sym (c .before .before .enum-told .given .1) ∙ c .before .before .before .before .before .before .step2 .ensures ∙ ap (λ (i : Bool). stepOf i (c .before .before .before .before .before .before .before .before .before .before .before .before .args .self .y) (c .before .before .before .before .before .before .before .before .before .before .before .before .args .window .«y_end»)) (c .before .before .before .before .before .before .before .y-increments .ensures))
+    let a = c .before .before .before .before .before .before .before .before .before .before .before .before .args in
+    y-moves (a .self) (a .window) (a .entry)
+    (c .before .before .before .before .before .before .before .before .before .x-increments .ensures)
+    (c .before .before .before .before .before .before .before .y-increments .ensures)
+    (c .before .before .before .before .before .y-first .ensures)
+    (sym (c .enum-told2 .given .1) ∙ c .before .before .before .before .before .before .before .before .step .ensures)
+    (sym (c .before .before .enum-told .given .1) ∙ c .before .before .before .before .before .before .step2 .ensures)
     (c .before .before .before .before .if1 .taken)
 
 returns-4 : tie.Need-returns-4
 returns-4 c =
-    x-moves (c .before .before .before .before .before .before .before .before .before .before .before .args .self) (c .before .before .before .before .before .before .before .before .before .before .before .args .window) (c .before .before .before .before .before .before .before .before .before .before .before .args .entry) _ _ _ (c .before .before .before .before .y-first .ensures)
-    (sym (c .before .byte2 .given .1) ∙ c .before .before .before .before .before .before .before .step .ensures ∙ ap (λ (i : Bool). stepOf i (c .before .before .before .before .before .before .before .before .before .before .before .args .self .x / 8) (c .before .before .before .before .before .before .before .before .before .before .before .args .window .«x_end» / 8)) (c .before .before .before .before .before .before .before .before .x-increments .ensures))
-    (c .before .before .before .before .before .step2 .ensures ∙ ap (λ (i : Bool). stepOf i (c .before .before .before .before .before .before .before .before .before .before .before .args .self .y) (c .before .before .before .before .before .before .before .before .before .before .before .args .window .«y_end»)) (c .before .before .before .before .before .before .y-increments .ensures))
+    let a = c .before .before .before .before .before .before .before .before .before .before .before .args in
+    x-moves (a .self) (a .window) (a .entry)
+    (c .before .before .before .before .before .before .before .before .x-increments .ensures)
+    (c .before .before .before .before .before .before .y-increments .ensures)
+    (c .before .before .before .before .y-first .ensures)
+    (sym (c .before .byte2 .given .1) ∙ c .before .before .before .before .before .before .before .step .ensures)
+    (c .before .before .before .before .before .step2 .ensures)
     (c .before .before .before .if1 .left)
 
 returns-5 : tie.Need-returns-5
 returns-5 c =
-    x-moves (c .before .before .before .before .before .before .before .before .before .before .before .before .before .args .self) (c .before .before .before .before .before .before .before .before .before .before .before .before .before .args .window) (c .before .before .before .before .before .before .before .before .before .before .before .before .before .args .entry) _ _ _ (c .before .before .before .before .before .before .y-first .ensures)
-    (sym (c .before .before .before .enum-told3 .given .1) ∙ c .before .before .before .before .before .before .before .before .before .step .ensures ∙ ap (λ (i : Bool). stepOf i (c .before .before .before .before .before .before .before .before .before .before .before .before .before .args .self .x / 8) (c .before .before .before .before .before .before .before .before .before .before .before .before .before .args .window .«x_end» / 8)) (c .before .before .before .before .before .before .before .before .before .before .x-increments .ensures))
-    (sym (c .before .row2 .given .1) ∙ c .before .before .before .before .before .before .before .step2 .ensures ∙ ap (λ (i : Bool). stepOf i (c .before .before .before .before .before .before .before .before .before .before .before .before .before .args .self .y) (c .before .before .before .before .before .before .before .before .before .before .before .before .before .args .window .«y_end»)) (c .before .before .before .before .before .before .before .before .y-increments .ensures))
+    let a = c .before .before .before .before .before .before .before .before .before .before .before .before .before .args in
+    x-moves (a .self) (a .window) (a .entry)
+    (c .before .before .before .before .before .before .before .before .before .before .x-increments .ensures)
+    (c .before .before .before .before .before .before .before .before .y-increments .ensures)
+    (c .before .before .before .before .before .before .y-first .ensures)
+    (sym (c .before .before .before .enum-told3 .given .1) ∙ c .before .before .before .before .before .before .before .before .before .step .ensures)
+    (sym (c .before .row2 .given .1) ∙ c .before .before .before .before .before .before .before .step2 .ensures)
     (c .before .before .before .before .before .if1 .left)
 
 returns-6 : tie.Need-returns-6
 returns-6 c =
-    x-moves (c .before .before .before .before .before .before .before .before .before .before .before .before .args .self) (c .before .before .before .before .before .before .before .before .before .before .before .before .args .window) (c .before .before .before .before .before .before .before .before .before .before .before .before .args .entry) _ _ _ (c .before .before .before .before .before .y-first .ensures)
-    (sym (c .before .before .enum-told3 .given .1) ∙ c .before .before .before .before .before .before .before .before .step .ensures ∙ ap (λ (i : Bool). stepOf i (c .before .before .before .before .before .before .before .before .before .before .before .before .args .self .x / 8) (c .before .before .before .before .before .before .before .before .before .before .before .before .args .window .«x_end» / 8)) (c .before .before .before .before .before .before .before .before .before .x-increments .ensures))
-    (sym (c .enum-told4 .given .1) ∙ c .before .before .before .before .before .before .step2 .ensures ∙ ap (λ (i : Bool). stepOf i (c .before .before .before .before .before .before .before .before .before .before .before .before .args .self .y) (c .before .before .before .before .before .before .before .before .before .before .before .before .args .window .«y_end»)) (c .before .before .before .before .before .before .before .y-increments .ensures))
+    let a = c .before .before .before .before .before .before .before .before .before .before .before .before .args in
+    x-moves (a .self) (a .window) (a .entry)
+    (c .before .before .before .before .before .before .before .before .before .x-increments .ensures)
+    (c .before .before .before .before .before .before .before .y-increments .ensures)
+    (c .before .before .before .before .before .y-first .ensures)
+    (sym (c .before .before .enum-told3 .given .1) ∙ c .before .before .before .before .before .before .before .before .step .ensures)
+    (sym (c .enum-told4 .given .1) ∙ c .before .before .before .before .before .before .step2 .ensures)
     (c .before .before .before .before .if1 .left)
 
 pub advanced-spec : {M : Type 1} → statement M
