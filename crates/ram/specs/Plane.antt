@@ -1,0 +1,94 @@
+-- A plane of RAM as the list of its bytes, 680 rows of 120 (datasheet §6.5).
+use mathlib.Core.Bool.{Bool, false, _&&_}
+use mathlib.Core.List.{List, [], _∷_, _++_}
+use Prim.Native.Nat.{ℕ, _+_, _-_, _*_, _/_, _%_}
+use lib.Dec.{ltb, eqb}
+use lib.ListN.{length, getD, set, drop}
+use Rattle.numbers.specs.Choice.{pick, bitOf}
+use Rattle.numbers.specs.Lists.{tab}
+use Rattle.ram.specs.declared.Counter.{Counter}
+use Rattle.ram.specs.declared.Plane.{Plane}
+use Rattle.ram.specs.declared.Plane.the-variants.{BlackWhite, Red}
+use Rattle.ram.specs.declared.Place.{Place}
+use Rattle.ram.specs.declared.Place.the-variants.{At, Outside}
+use Rattle.ram.specs.declared.Byte.{Byte}
+use Rattle.ram.specs.declared.Byte.the-variants as byte
+use Rattle.ram.specs.declared.Pixel.{Pixel}
+use Rattle.ram.specs.declared.Pixel.the-variants as pixel
+
+-- one of the two planes (§6.5)
+abbrev pub planeOf : List ℕ → List ℕ → Plane → List ℕ
+planeOf blackWhite red BlackWhite = blackWhite
+planeOf blackWhite red Red = red
+
+-- the byte of column x / 8 and row y, 120 columns to a row and 680 rows; outside there is none (§6.5)
+unfoldable pub indexOf : Counter → Place
+indexOf c = pick (ltb (c .x / 8) 120 && ltb (c .y) 680) (At (c .y * 120 + c .x / 8)) Outside
+
+-- the byte at a place; past the end of a list that is too short there is none (document 01: a read outside gives none)
+abbrev pub byteAt : List ℕ → Place → Byte
+byteAt p (At i) = pick (ltb i (length p)) (byte.Is (getD p i 0)) byte.Nothing
+byteAt p Outside = byte.Nothing
+
+-- what a read at the counter finds: the byte that the index names, or none (document 01)
+unfoldable pub readAt : List ℕ → Counter → Byte
+readAt p c = byteAt p (indexOf c)
+
+-- a place is within the list
+abbrev pub isThere : List ℕ → Place → Bool
+isThere p (At i) = ltb i (length p)
+isThere p Outside = false
+
+-- whether a write at the counter finds its byte (ram.rs, `write`)
+unfoldable pub wroteAt : List ℕ → Counter → Bool
+wroteAt p c = isThere p (indexOf c)
+
+-- a byte put at a place; `set` past the end changes nothing, as a write outside does (document 01)
+abbrev pub putAt : List ℕ → Place → ℕ → List ℕ
+putAt p (At i) b = set p i b
+putAt p Outside b = p
+
+-- the plane after a write at the counter: that byte is b and every other is as it was (ram.rs, `write`)
+unfoldable pub writtenAt : List ℕ → Counter → ℕ → List ℕ
+writtenAt p c b = putAt p (indexOf c) b
+
+-- the bit of a byte's pixel, the most significant at the lowest x (§6.5)
+abbrev pub bitIn : Byte → ℕ → Pixel
+bitIn (byte.Is b) x = pixel.Is (bitOf b (7 - x % 8))
+bitIn byte.Nothing x = pixel.Nothing
+
+-- the bit of the pixel at x in a row (ram.rs, `bit`)
+unfoldable pub bitAt : List ℕ → ℕ → ℕ → Pixel
+bitAt p x row = bitIn (readAt p (record { x = x; y = row })) x
+
+-- the heights of an auto write's steps in rows, by bits 6 to 4 of its parameter (Table 7-1)
+abbrev pub heights : List ℕ
+heights = 8 ∷ 16 ∷ 32 ∷ 64 ∷ 128 ∷ 256 ∷ 512 ∷ 680 ∷ []
+
+-- the widths of its steps in pixels, by bits 2 to 0 (Table 7-1)
+abbrev pub widths : List ℕ
+widths = 8 ∷ 16 ∷ 32 ∷ 64 ∷ 128 ∷ 256 ∷ 512 ∷ 960 ∷ []
+
+-- the height of a step in rows, for a parameter (Table 7-1)
+unfoldable pub heightOf : ℕ → ℕ
+heightOf parameter = getD heights (parameter / 16 % 8) 0
+
+-- the width of a step in bytes of eight pixels, for a parameter (Table 7-1)
+unfoldable pub widthOf : ℕ → ℕ
+widthOf parameter = getD widths (parameter % 8) 0 / 8
+
+-- the byte of a step, by how many steps it is from the first: they alternate between the first value and the other (Table 7-1)
+unfoldable pub stepByte : Bool → ℕ → ℕ
+stepByte first steps = pick (eqb (steps % 2) 0) (pick first 255 0) (pick first 0 255)
+
+-- what an auto write puts at a place, of row i / 120 and column i % 120; bit 7 is the first value (Table 7-1)
+unfoldable pub autoByte : ℕ → ℕ → ℕ
+autoByte parameter i = stepByte (bitOf parameter 7) (i / 120 / heightOf parameter + i % 120 / widthOf parameter)
+
+-- how many bytes the whole rows of a list have, 120 to a row: of a plane all 81,600 (§6.5)
+abbrev pub wholeRows : List ℕ → ℕ
+wholeRows p = length p / 120 * 120
+
+-- the plane after an auto write: every whole row by place, and what is left of a row that is not whole as it was (ram.rs, `auto_write`)
+unfoldable pub autoWritten : ℕ → List ℕ → List ℕ
+autoWritten parameter p = tab (wholeRows p) (autoByte parameter) ++ drop (wholeRows p) p
