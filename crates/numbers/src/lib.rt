@@ -4,6 +4,10 @@ ghost use Prim.Native.Nat.{_+_, _-_, _*_, min, max};
 ghost use lib.IntN.{pos, _+ℤ_, _*ℤ_, negℤ, natAbs};
 ghost use Rattle.numbers.specs.Saturation.{largest, clampZ, satZ};
 
+const LARGEST: u64 = 18446744073709551615;
+
+const LARGEST_I64: u64 = 9223372036854775807;
+
 // A byte, wider.
 pub fn wide(byte: u8) -> u64
     ensures { λ r. ⌜ r ≡ byte ⌝ }
@@ -32,11 +36,7 @@ pub fn saturating_add_u16(a: u16, b: u16) -> u16
 pub fn saturating_add_u64(a: u64, b: u64) -> u64
     ensures { λ r. ⌜ r ≡ min (a + b) (largest 64) ⌝ }
 {
-    if b <= 18446744073709551615 - a {
-        a + b
-    } else {
-        18446744073709551615
-    }
+    if b <= LARGEST - a { a + b } else { LARGEST }
 }
 
 // ℕ's difference stops at 0 too.
@@ -58,41 +58,30 @@ pub fn saturating_mul_u64(a: u64, b: u64) -> u64
     if b == 0 {
         return 0;
     }
-    if 18446744073709551615 / b < a {
-        18446744073709551615
-    } else {
-        a * b
-    }
+    if LARGEST / b < a { LARGEST } else { a * b }
 }
 
 pub fn clamp_i64(x: i64, lo: i64, hi: i64) -> i64
     ensures { λ r. ⌜ r ≡ clampZ x lo hi ⌝ }
 {
     if x < lo {
-        lo
-    } else if hi < x {
-        hi
-    } else {
-        x
+        return lo;
     }
+    if hi < x { hi } else { x }
 }
 
 // `i64::try_from(n).unwrap_or(i64::MAX)`.
 pub fn to_i64(n: u64) -> i64
     ensures { λ r. ⌜ r ≡ satZ (pos n) ⌝ }
 {
-    if 9223372036854775807 < n {
-        i64::MAX
-    } else {
-        n as i64
-    }
+    if LARGEST_I64 < n { i64::MAX } else { n as i64 }
 }
 
 // −n, stopping at the least number.
 pub fn negative_i64(n: u64) -> i64
     ensures { λ r. ⌜ r ≡ satZ (negℤ (pos n)) ⌝ }
 {
-    if 9223372036854775807 < n {
+    if LARGEST_I64 < n {
         i64::MIN
     } else {
         -(n as i64)
@@ -113,13 +102,13 @@ pub fn magnitude_i64(a: i64) -> u64
 pub fn saturating_add_i64(a: i64, b: i64) -> i64
     ensures { λ r. ⌜ r ≡ satZ (a +ℤ b) ⌝ }
 {
-    if 0 <= b {
-        if i64::MAX - b < a { i64::MAX } else { a + b }
-    } else if a < i64::MIN - b {
-        i64::MIN
-    } else {
-        a + b
+    if b < 0 {
+        if a < i64::MIN - b {
+            return i64::MIN;
+        }
+        return a + b;
     }
+    if i64::MAX - b < a { i64::MAX } else { a + b }
 }
 
 pub fn saturating_neg_i64(a: i64) -> i64

@@ -1,9 +1,8 @@
+-- `numbers::clamp_i64` meets its contract: each test of the code is the test of the definition, read back.
 use Rattle.numbers.specs.Saturation.{clampZ}
 use Rattle.numbers.proofs.Lin.{back}
 use Rattle.numbers.proofs.clamp_i64.Statement.{statement}
 use Rattle.numbers.proofs.clamp_i64.Tie as tie
-use Rattle.numbers.proofs.clamp_i64.Reads as reads
-use Rattle.numbers.proofs.clamp_i64.Lts as lts
 
 returns : tie.Need-returns
 unfolding clampZ

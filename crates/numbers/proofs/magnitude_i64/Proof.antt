@@ -1,3 +1,4 @@
+-- `numbers::magnitude_i64` meets its contract: the magnitude of a negative a is one more than that of −(a + 1), which fits.
 use borrow.Author.Needs.{needs}
 use mathlib.Core.Path.{_≡_}
 use Prim.Native.Nat.{_+_}

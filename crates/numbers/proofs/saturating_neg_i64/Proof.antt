@@ -1,3 +1,4 @@
+-- `numbers::saturating_neg_i64` meets its contract: only −2^63 has no negation.
 use mathlib.Core.Path.{sym, ap, _∙_}
 use lib.Dec.{lit<}
 use lib.IntN.{pos, negℤ, +ℤ-idl}
@@ -7,8 +8,6 @@ use Rattle.numbers.proofs.Lin.{whole, rd, ranged, back, neg-out, sub-ou
 use Rattle.numbers.proofs.Hold.{clamp-high, held}
 use Rattle.numbers.proofs.saturating_neg_i64.Statement.{statement}
 use Rattle.numbers.proofs.saturating_neg_i64.Tie as tie
-use Rattle.numbers.proofs.saturating_neg_i64.Reads as reads
-use Rattle.numbers.proofs.saturating_neg_i64.Lts as lts
 
 sub-result : tie.Need-sub-result
 sub-result c =

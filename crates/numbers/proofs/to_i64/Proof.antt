@@ -1,4 +1,4 @@
--- `wave::to_i64` meets its contract.
+-- `numbers::to_i64` meets its contract: what passes the end stops there.
 use borrow.Author.Needs.{needs}
 use mathlib.Core.Path.{refl, sym}
 use native.Mathlib.Omega.{arith}

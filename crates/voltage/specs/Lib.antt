@@ -1,0 +1,2 @@
+-- The root of voltage's specs.
+pub mod Codes

@@ -1,0 +1,58 @@
+// The voltage codes of commands 0x03, 0x04 and 0x2C (waveform.rs).
+ghost use mathlib.Core.Path.{_≡_};
+ghost use Rattle.voltage.specs.Codes.{sourceVoltage, vslVoltage, vcomVoltage, gateListed};
+
+// What a code stands for, or that the datasheet does not list it.
+pub enum Millivolts {
+    Listed(i64),
+    Unlisted,
+}
+
+// VSH1 or VSH2 (0x04, bytes A and B).
+pub fn source_millivolts(code: u8) -> Millivolts
+    ensures { λ r. ⌜ r ≡ sourceVoltage code ⌝ }
+{
+    match code {
+        0x23..=0x4B => Millivolts::Listed((9000 + (code - 0x23) as u64 * 200) as i64),
+        0x8E..=0xCE => Millivolts::Listed((2400 + (code - 0x8E) as u64 * 100) as i64),
+        _ => Millivolts::Unlisted,
+    }
+}
+
+// VSL (0x04, byte C).
+pub fn vsl_millivolts(code: u8) -> Millivolts
+    ensures { λ r. ⌜ r ≡ vslVoltage code ⌝ }
+{
+    if code % 2 == 1 {
+        return Millivolts::Unlisted;
+    }
+    match code {
+        0x1A..=0x3A => Millivolts::Listed(-((9000 + (code - 0x1A) as u64 / 2 * 500) as i64)),
+        _ => Millivolts::Unlisted,
+    }
+}
+
+// DCVCOM (0x2C).
+pub fn vcom_millivolts(code: u8) -> Millivolts
+    ensures { λ r. ⌜ r ≡ vcomVoltage code ⌝ }
+{
+    if code % 4 != 0 {
+        return Millivolts::Unlisted;
+    }
+    match code {
+        0x00 => Millivolts::Listed(0),
+        0x08..=0xA0 => Millivolts::Listed(-((200 + (code - 0x08) as u64 / 4 * 100) as i64)),
+        _ => Millivolts::Unlisted,
+    }
+}
+
+// VGH (0x03). The gate voltage moves no pixel of the model; the code is only checked.
+pub fn gate_code_is_listed(code: u8) -> bool
+    ensures { λ r. ⌜ r ≡ gateListed code ⌝ }
+{
+    match code {
+        0x00 => true,
+        0x07..=0x17 => true,
+        _ => false,
+    }
+}
