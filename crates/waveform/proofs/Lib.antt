@@ -1,0 +1,2 @@
+-- Laws of waveform that belong to no one function.
+pub mod Decoded

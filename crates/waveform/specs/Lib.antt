@@ -1,0 +1,3 @@
+-- The root of waveform's specs.
+pub mod Voltages
+pub mod Setting

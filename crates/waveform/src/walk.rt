@@ -1,0 +1,1 @@
+// What a waveform does to a pixel.
