@@ -1,2 +1,6 @@
 -- Laws of waveform that belong to no one function.
 pub mod Decoded
+pub mod Joined
+pub mod Products
+pub mod Range
+pub mod Steps

@@ -1,8 +1,11 @@
 // The waveform of the LUT register and what it does to a pixel (datasheet §6.6–6.7; waveform.rs).
 // A phase holds one source level and one VCOM level for some frames; the pixel sees their difference, and its optical state
 // moves in proportion to that voltage and to the time, stopping at black or white.
+use glass::Transfer;
 use voltage::Millivolts;
 
+pub mod duration;
+pub mod phases;
 pub mod setting;
 pub mod walk;
 
@@ -107,4 +110,20 @@ pub enum Until {
     Whole,
     // The frames that end within so many nanoseconds.
     Cut(u64),
+}
+
+// What stays the same while a waveform drives a pixel.
+pub struct Driving {
+    pub levels: Levels,
+    pub drive: Drive,
+    pub swing: i64,
+    pub positive_drives_black: bool,
+}
+
+// How far a walk up to a cut has come.
+pub struct Progress {
+    pub transfer: Transfer,
+    pub elapsed: u64,
+    // The cut fell into a phase: nothing after it counts.
+    pub stopped: bool,
 }
