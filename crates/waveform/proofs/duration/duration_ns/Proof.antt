@@ -54,7 +54,7 @@ loop-again c = let m = c .before .before .before .before in
     )
 
 returns : tie.Need-returns Inv-loop μ-loop
-returns c = 
+returns c =
     let e : c .before .loop .k ≡ 10 = omega arith in
     c .before .loop .inv .1 ∙ ap (λ (n : ℕ). min (groupsNs (c .before .before .args .t1 .groups) n) (largest 64)) e
 

@@ -39,7 +39,7 @@ vcom-swing-requires : tie.Need-vcom-swing-requires
 vcom-swing-requires c κs = search needs
 
 sub-millivolts : tie.Need-sub-millivolts
-sub-millivolts c = 
+sub-millivolts c =
     let h = start c .pre .1 .listable in
     let a = subst Listable (sym (source-is c)) (source-listable _ _ h) in
     let b = subst Listable (sym (vcom-is c)) (vcom-listable _ _ h) in

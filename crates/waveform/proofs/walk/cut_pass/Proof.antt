@@ -34,7 +34,7 @@ loop-less : tie.Need-loop-less Inv-loop μ-loop
 loop-less c = search needs
 
 loop-again : tie.Need-loop-again Inv-loop μ-loop
-loop-again c = 
+loop-again c =
     let m = c .before .before .before in
     let s = m .before .args in (
       omega arith,
@@ -43,7 +43,7 @@ loop-again c =
     )
 
 returns : tie.Need-returns Inv-loop μ-loop
-returns c = 
+returns c =
     let s = c .before .before .args in
     let e : c .before .loop .k ≡ 4 = omega arith in
     c .before .loop .inv .1 ∙ ap (λ (k : ℕ). foldl (cutStep (s .driving) (s .until)) (s .progress) (joined k (λ j. driven (phaseIn (s .driving) (s .group) j)))) e

@@ -39,7 +39,7 @@ run-on-requires : tie.Need-run-on-requires
 run-on-requires c κs = search needs
 
 returns-3 : tie.Need-returns-3
-returns-3 c = 
+returns-3 c =
     let s = c .before .before .before .before .before .before .before .before .before .args in
     let a = c .before .before .before in
     c .cut-short .ensures
@@ -48,7 +48,7 @@ returns-3 c =
     ∙ ap (foldl (cutStep (s .driving) (s .until)) (s .progress)) (sym (driven-some (s .phase) (c .before .before .before .before .before .before .if2 .left)))
 
 returns-4 : tie.Need-returns-4
-returns-4 c = 
+returns-4 c =
     let s = c .before .before .before .before .before .before .before .before .args in
     let a = c .before .before in
     c .run-on .ensures

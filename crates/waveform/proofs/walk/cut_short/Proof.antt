@@ -13,7 +13,7 @@ push-requires : tie.Need-push-requires
 push-requires c κs = search needs
 
 returns : tie.Need-returns
-returns c = 
+returns c =
     let s = c .before .before .before .args in
     λ i. record { transfer = c .before .push .ensures i; elapsed = s .end; stopped = ltb (s .left / s .phase .«frame_ns») (s .phase .frames) }
 
