@@ -91,15 +91,16 @@ module _ (S : ℕ) (room : S ≤ 9223372036854775807) where
   pub moves-start : Moves S (identityT (pos S)) (λ x. x)
   moves-start x h = record { sane = shift-sane (pos 0); is = shift-apply (pos 0) x ∙ ap pos (drive-pos S 0 x ∙ omega arith); within = h }
 
-  pub moves-then : {t u : Transfer} {f g : ℕ → ℕ} → Moves S t f → Moves S u g → Moves S (thenT t u) (λ x. g (f x))
-  moves-then {t} {u} {f} {g} a b x h =
-      let p = a x h in
-      let q = b (f x) (p .within) in
+  pub at-then : {t u : Transfer} {x y z : ℕ} → x ≤ S → At S t x y → At S u y z → At S (thenT t u) x z
+  at-then {t} {u} {x} h p q =
       record {
         sane = then-sane t u (pos S) (pos x) (omega whole) (p .sane) (q .sane) (omega whole) (omega whole);
         is = then-apply t u (pos S) (pos x) (omega whole) (p .sane) (q .sane) (omega whole) (omega whole) ∙ ap (applyT u) (p .is) ∙ q .is;
         within = q .within;
       }
+
+  pub moves-then : {t u : Transfer} {f g : ℕ → ℕ} → Moves S t f → Moves S u g → Moves S (thenT t u) (λ x. g (f x))
+  moves-then {t} {u} {f} a b x h = at-then h (a x h) (b (f x) (a x h .within))
 
   pub moves-as : {t : Transfer} {f g : ℕ → ℕ} → ((x : ℕ) → x ≤ S → f x ≡ g x) → Moves S t f → Moves S t g
   moves-as {t} e a x h = subst (λ (n : ℕ). At S t x n) (e x h) (a x h)

@@ -4,3 +4,6 @@ pub mod Joined
 pub mod Products
 pub mod Range
 pub mod Steps
+pub mod Exactly
+pub mod Monotone
+pub mod Figures

@@ -5,7 +5,10 @@ use Prim.Native.Nat.{ℕ, _-_, _*_, _/_}
 use lib.IntN.{ℤ, pos, negℤ, _*ℤ_}
 use lib.Dec.{leb}
 use Rattle.numbers.specs.Choice.{pick}
+use Rattle.waveform.specs.declared.Drive.{Drive}
 use Rattle.waveform.specs.declared.Phase.{Phase}
+use Rattle.waveform.specs.Setting.{waveformOf}
+use Rattle.waveform.specs.Phases.{phasesOf}
 
 -- millivolts against VCOM × frames × period, negated if positive drives black
 abbrev pub exactDrive : Bool → ℤ → ℕ → ℕ → ℤ
@@ -33,3 +36,7 @@ cutDrives black t (p ∷ ps) =
     pick (leb (lasts p) t)
     (framesDrive black p (p .frames) ∷ cutDrives black (t - lasts p) ps)
     (framesDrive black p (t / p .«frame_ns») ∷ [])
+
+-- the phases of a setting: its 112 bytes, and the period of each frame-rate code
+abbrev pub settingPhases : List ℕ → List ℕ → Drive → List Phase
+settingPhases s p drive = phasesOf (waveformOf s p) drive
