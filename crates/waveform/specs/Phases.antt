@@ -13,7 +13,7 @@ use Rattle.waveform.specs.declared.Drive.{Drive}
 use Rattle.waveform.specs.declared.Drive.the-variants.{Lut, Fixed}
 use Rattle.waveform.specs.Voltages.{sourceLevel, vcomSwing}
 
--- the source's code in phase k of a group: that of the LUT, LUT 4's too, or the fixed one
+-- the source's code in phase k of a group: that of the LUT, or the fixed one; LUT 4's is read as a source level too, so 3 is VSH2 there
 abbrev pub codeFor : Drive → Group → ℕ → ℕ
 codeFor (Lut lut) g k = getD (g .codes) (4 * lut + k) 0
 codeFor (Fixed code) g k = code

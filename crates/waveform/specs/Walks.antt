@@ -35,16 +35,19 @@ pub record Walkable (w : Waveform) (drive : Drive) : Type 0 where
   pub listable : AllListable (w .levels)
   pub takes : Takes drive
 
--- the phases, by what drives
+-- phase k of a group, by what drives
 abbrev pub phaseIn : Driving → Group → ℕ → Phase
 phaseIn d = phaseOf (d .levels) (d .drive)
 
+-- its four phases
 abbrev pub fourIn : Driving → Group → List Phase
 fourIn d = fourPhases (d .levels) (d .drive)
 
+-- all its repeats
 abbrev pub groupIn : Driving → Group → List Phase
 groupIn d = groupPhases (d .levels) (d .drive)
 
+-- those of ten groups
 abbrev pub groupsIn : Driving → Waveform → List Phase
 groupsIn d w = phasesOf (record { groups = w .groups; levels = d .levels }) (d .drive)
 
@@ -107,9 +110,10 @@ abbrev pub transferOf : Waveform → Drive → ℤ → Bool → Until → Transf
 transferOf w drive swing black Whole = wholeOf w drive swing black
 transferOf w drive swing black (Cut until) = cutOf w drive swing black until
 
--- both from a setting's 112 bytes and the 16 frame periods on
+-- the whole display of a setting: its 112 bytes, and the period of each frame-rate code
 unfoldable pub wholeTransfer : List ℕ → List ℕ → Drive → ℤ → Bool → Transfer
 wholeTransfer s p drive swing black = wholeOf (waveformOf s p) drive swing black
 
+-- that setting's display up to a cut
 unfoldable pub cutTransfer : List ℕ → List ℕ → Drive → ℤ → Bool → ℕ → Transfer
 cutTransfer s p drive swing black until = cutOf (waveformOf s p) drive swing black until

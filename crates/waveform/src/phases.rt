@@ -54,7 +54,7 @@ fn drive_of(positive_drives_black: bool, millivolts: i64, run: u64, frame_ns: u6
 }
 
 // A transfer, then `run` frames of a phase.
-pub fn push(driving: Driving, phase: Phase, run: u64, transfer: Transfer) -> Transfer
+pub(crate) fn push(driving: Driving, phase: Phase, run: u64, transfer: Transfer) -> Transfer
     ensures { λ r. ⌜ r ≡ pushed driving phase run transfer ⌝ }
 {
     let black = driving.positive_drives_black;

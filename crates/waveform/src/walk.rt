@@ -144,6 +144,9 @@ fn cut_pass(driving: Driving, until: u64, group: Group, progress: Progress) -> P
     requires { ⌜ (0 < group .«frame_ns») × Drivable driving ⌝ }
     ensures { λ r. ⌜ r ≡ foldl (cutStep driving until) progress (fourIn driving group) ⌝ }
 {
+    if progress.stopped {
+        return progress;
+    }
     let mut moved = progress;
     let mut k: usize = 0;
     while k < 4 {
