@@ -1,2 +1,5 @@
 -- The root of glass's specs.
 pub mod Optics
+pub mod Transfers
+pub mod Greys
+pub mod Exact

@@ -1,7 +1,12 @@
 // The glass of an e-paper panel, whatever controller drives it: its optics, the image published after a refresh, and the
 // arithmetic that moves a pixel's optical state (glass.rs).
 ghost use mathlib.Core.Path.{_≡_};
+ghost use Prim.Native.Nat.{_+_, _*_, _/_, _%_, _<_, _≤_};
+ghost use lib.IntN.{pos};
+ghost use lib.Signed.{_≤ℤ_};
 ghost use Rattle.glass.specs.Optics.{defaultOptics};
+ghost use Rattle.glass.specs.Transfers.{identityT, shiftT, thenT, applyT};
+ghost use Rattle.glass.specs.Greys.{levelZ, grayZ, shadeOf};
 
 // Where a set of parameters comes from, for an interface to say whether it shows a measured panel.
 pub enum Provenance {
@@ -60,4 +65,141 @@ pub struct PanelImage {
     pub started: u64,
     // When the display ended or was cut.
     pub at: u64,
+}
+
+// `x ↦ min(max(x + add, lo), hi)`, with `lo ≤ hi`: what a run of phases does to an optical state.
+pub struct Transfer {
+    pub add: i64,
+    pub lo: i64,
+    pub hi: i64,
+}
+
+impl Transfer {
+    // Leaves every state from 0 to `swing` where it is.
+    pub fn identity(swing: i64) -> Transfer
+        ensures { λ r. ⌜ r ≡ identityT swing ⌝ }
+    {
+        Transfer {
+            add: 0,
+            lo: 0,
+            hi: swing,
+        }
+    }
+
+    // `self`, then `next`: holding a held number keeps the form, since its bounds are held too.
+    pub fn then(self, next: Transfer) -> Transfer
+        ensures { λ r. ⌜ r ≡ thenT self next ⌝ }
+    {
+        let lo = numbers::saturating_add_i64(self.lo, next.add);
+        let hi = numbers::saturating_add_i64(self.hi, next.add);
+        Transfer {
+            add: numbers::saturating_add_i64(self.add, next.add),
+            lo: numbers::clamp_i64(lo, next.lo, next.hi),
+            hi: numbers::clamp_i64(hi, next.lo, next.hi),
+        }
+    }
+
+    // Moves every state by `delta`, stopping at 0 and `swing`.
+    pub fn shift(delta: i64, swing: i64) -> Transfer
+        ensures { λ r. ⌜ r ≡ shiftT delta swing ⌝ }
+    {
+        Transfer {
+            add: delta,
+            lo: 0,
+            hi: swing,
+        }
+    }
+
+    pub fn apply(self, state: i64) -> i64
+        ensures { λ r. ⌜ r ≡ applyT self state ⌝ }
+    {
+        let moved = numbers::saturating_add_i64(state, self.add);
+        numbers::clamp_i64(moved, self.lo, self.hi)
+    }
+}
+
+// swing × gray / 255 in 64 bits: 255 is divided out of the swing first.
+fn share(gray: u64, swing: u64) -> u64
+    requires { ⌜ gray ≤ 255 ⌝ }
+    ensures { λ r. ⌜ r ≡ swing * gray / 255 ⌝ }
+{
+    let whole = swing / 255;
+    let rest = swing % 255;
+    whole * gray + rest * gray / 255
+}
+
+// The optical state of grey level `gray`.
+pub fn level(gray: u8, swing: i64) -> i64
+    requires { ⌜ pos 1 ≤ℤ swing ⌝ }
+    ensures { λ r. ⌜ r ≡ levelZ gray swing ⌝ }
+{
+    share(numbers::wide(gray), swing as u64) as i64
+}
+
+// A swing with what its greys divide by, worked out once for all pixels: the swing is 510 × step + rest.
+pub struct Shade {
+    pub swing: i64,
+    pub step: u64,
+    pub rest: u64,
+}
+
+pub fn shade_of(swing: i64) -> Shade
+    requires { ⌜ pos 1 ≤ℤ swing ⌝ }
+    ensures { λ r. ⌜ r ≡ shadeOf swing ⌝ }
+{
+    let size = swing as u64;
+    Shade {
+        swing,
+        step: size / 510,
+        rest: size % 510,
+    }
+}
+
+// 510 × state / swing for a large swing, with one division: state / step is that or one more.
+fn half_steps(state: u64, swing: u64, step: u64, rest: u64) -> u64
+    requires { ⌜ (state < swing) × (1048576 ≤ swing) × (swing < 9223372036854775808) × (step ≡ swing / 510) × (rest ≡ swing % 510) ⌝ }
+    ensures { λ r. ⌜ r ≡ 510 * state / swing ⌝ }
+{
+    let steps = state / step;
+    let left = state % step;
+    if steps * rest <= 510 * left {
+        steps
+    } else {
+        steps - 1
+    }
+}
+
+// (510 × state + swing) / (2 × swing), rounded down.
+fn nearest(state: u64, swing: u64, step: u64, rest: u64) -> u64
+    requires { ⌜ (state < swing) × (swing < 9223372036854775808) × (step ≡ swing / 510) × (rest ≡ swing % 510) ⌝ }
+    ensures { λ r. ⌜ r ≡ (510 * state + swing) / (2 * swing) ⌝ }
+{
+    if swing < 1048576 {
+        (510 * state + swing) / (2 * swing)
+    } else {
+        (half_steps(state, swing, step, rest) + 1) / 2
+    }
+}
+
+// The grey level of `state`, as `gray` gives it, by a shade that `shade_of` made.
+pub fn gray_by(shade: Shade, state: i64) -> u8
+    requires { ⌜ (pos 1 ≤ℤ shade .swing) × (shade ≡ shadeOf (shade .swing)) ⌝ }
+    ensures { λ r. ⌜ r ≡ grayZ state (shade .swing) ⌝ }
+{
+    let swing = shade.swing;
+    if state <= 0 {
+        return 0;
+    }
+    if swing <= state {
+        return 255;
+    }
+    nearest(state as u64, swing as u64, shade.step, shade.rest) as u8
+}
+
+// The grey level of optical state `state`, rounded to the nearest (half up).
+pub fn gray(state: i64, swing: i64) -> u8
+    requires { ⌜ pos 1 ≤ℤ swing ⌝ }
+    ensures { λ r. ⌜ r ≡ grayZ state swing ⌝ }
+{
+    gray_by(shade_of(swing), state)
 }

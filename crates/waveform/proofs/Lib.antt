@@ -1,0 +1,9 @@
+-- Laws of waveform that belong to no one function.
+pub mod Decoded
+pub mod Joined
+pub mod Products
+pub mod Range
+pub mod Steps
+pub mod Exactly
+pub mod Monotone
+pub mod Figures

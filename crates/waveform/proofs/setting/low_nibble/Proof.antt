@@ -1,0 +1,10 @@
+-- `waveform::setting::low_nibble` meets its contract. Assumes nothing.
+use lib.Bits.{and-mask}
+use Rattle.waveform.proofs.setting.low_nibble.Statement.{statement}
+use Rattle.waveform.proofs.setting.low_nibble.Tie as tie
+
+returns : tie.Need-returns
+returns c = and-mask _ 4
+
+pub low-nibble-spec : {M : Type 1} → statement M
+low-nibble-spec = tie.close (tie.spec returns)

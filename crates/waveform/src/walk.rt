@@ -1,0 +1,230 @@
+// What a waveform does to a pixel: every group, each repeated, each of four phases, whole or up to a cut.
+use crate::Drive;
+use crate::Driving;
+use crate::Group;
+use crate::Phase;
+use crate::Progress;
+use crate::Until;
+use crate::Waveform;
+use crate::phases;
+use glass::Transfer;
+ghost use mathlib.Core.Path.{_≡_};
+ghost use mathlib.Core.List.{foldl};
+ghost use Prim.Native.Nat.{_<_};
+ghost use Rattle.waveform.specs.Phases.{Timed, driven};
+ghost use Rattle.waveform.specs.Walks.{Drivable, Walkable, fourIn, groupIn, groupsIn, wholeStep, cutStep, runOn, cutShort, wholeOf, cutOf, transferOf};
+
+// ---- the whole display
+
+fn whole_phase(driving: Driving, phase: Phase, transfer: Transfer) -> Transfer
+    ensures { λ r. ⌜ r ≡ foldl (wholeStep driving) transfer (driven phase) ⌝ }
+{
+    if phase.frames == 0 {
+        return transfer;
+    }
+    phases::push(driving, phase, phase.frames, transfer)
+}
+
+// The four phases of a group, once.
+fn whole_pass(driving: Driving, group: Group, transfer: Transfer) -> Transfer
+    requires { ⌜ Drivable driving ⌝ }
+    ensures { λ r. ⌜ r ≡ foldl (wholeStep driving) transfer (fourIn driving group) ⌝ }
+{
+    let mut moved = transfer;
+    let mut k: usize = 0;
+    while k < 4 {
+        let phase = phases::phase_of(driving, group, k);
+        moved = whole_phase(driving, phase, moved);
+        k += 1;
+    }
+    moved
+}
+
+// `transfer`, then one group with all its repeats.
+fn group_transfer(driving: Driving, group: Group, transfer: Transfer) -> Transfer
+    requires { ⌜ Drivable driving ⌝ }
+    ensures { λ r. ⌜ r ≡ foldl (wholeStep driving) transfer (groupIn driving group) ⌝ }
+{
+    let repeats = group.repeats;
+    let mut moved = transfer;
+    let mut k: u16 = 0;
+    while k < repeats {
+        moved = whole_pass(driving, group, moved);
+        k += 1;
+    }
+    moved
+}
+
+fn whole_groups(driving: Driving, waveform: Waveform, transfer: Transfer) -> Transfer
+    requires { ⌜ Drivable driving ⌝ }
+    ensures { λ r. ⌜ r ≡ foldl (wholeStep driving) transfer (groupsIn driving waveform) ⌝ }
+{
+    let mut moved = transfer;
+    let mut k: usize = 0;
+    while k < 10 {
+        let group = waveform.groups[k];
+        moved = group_transfer(driving, group, moved);
+        k += 1;
+    }
+    moved
+}
+
+// What the whole display does to a state from 0 to the swing.
+pub fn transfer_whole(
+    waveform: Waveform,
+    drive: Drive,
+    swing: i64,
+    positive_drives_black: bool,
+) -> Transfer
+    requires { ⌜ Walkable waveform drive ⌝ }
+    ensures { λ r. ⌜ r ≡ wholeOf waveform drive swing «positive_drives_black» ⌝ }
+{
+    let levels = waveform.levels;
+    let driving = Driving {
+        levels,
+        drive,
+        swing,
+        positive_drives_black,
+    };
+    whole_groups(driving, waveform, Transfer::identity(swing))
+}
+
+// ---- up to a cut
+
+// A phase that ends by the cut.
+fn run_on(driving: Driving, phase: Phase, end: u64, transfer: Transfer) -> Progress
+    ensures { λ r. ⌜ r ≡ runOn driving phase end transfer ⌝ }
+{
+    let transfer = phases::push(driving, phase, phase.frames, transfer);
+    Progress {
+        transfer,
+        elapsed: end,
+        stopped: false,
+    }
+}
+
+// A phase that the cut falls into, `left` nanoseconds after its start: its finished frames.
+fn cut_short(driving: Driving, phase: Phase, left: u64, end: u64, transfer: Transfer) -> Progress
+    requires { ⌜ 0 < phase .«frame_ns» ⌝ }
+    ensures { λ r. ⌜ r ≡ cutShort driving phase left end transfer ⌝ }
+{
+    let run = left / phase.frame_ns;
+    let transfer = phases::push(driving, phase, run, transfer);
+    Progress {
+        transfer,
+        elapsed: end,
+        stopped: run < phase.frames,
+    }
+}
+
+fn cut_phase(driving: Driving, until: u64, phase: Phase, progress: Progress) -> Progress
+    requires { ⌜ 0 < phase .«frame_ns» ⌝ }
+    ensures { λ r. ⌜ r ≡ foldl (cutStep driving until) progress (driven phase) ⌝ }
+{
+    if progress.stopped {
+        return progress;
+    }
+    if phase.frames == 0 {
+        return progress;
+    }
+    let elapsed = progress.elapsed;
+    let transfer = progress.transfer;
+    let length = numbers::saturating_mul_u64(phase.frames, phase.frame_ns);
+    let end = numbers::saturating_add_u64(elapsed, length);
+    if until < end {
+        let left = numbers::saturating_sub_u64(until, elapsed);
+        cut_short(driving, phase, left, end, transfer)
+    } else {
+        run_on(driving, phase, end, transfer)
+    }
+}
+
+// The four phases of a group, once.
+fn cut_pass(driving: Driving, until: u64, group: Group, progress: Progress) -> Progress
+    requires { ⌜ (0 < group .«frame_ns») × Drivable driving ⌝ }
+    ensures { λ r. ⌜ r ≡ foldl (cutStep driving until) progress (fourIn driving group) ⌝ }
+{
+    if progress.stopped {
+        return progress;
+    }
+    let mut moved = progress;
+    let mut k: usize = 0;
+    while k < 4 {
+        let phase = phases::phase_of(driving, group, k);
+        moved = cut_phase(driving, until, phase, moved);
+        k += 1;
+    }
+    moved
+}
+
+fn cut_group(driving: Driving, until: u64, group: Group, progress: Progress) -> Progress
+    requires { ⌜ (0 < group .«frame_ns») × Drivable driving ⌝ }
+    ensures { λ r. ⌜ r ≡ foldl (cutStep driving until) progress (groupIn driving group) ⌝ }
+{
+    let repeats = group.repeats;
+    let mut moved = progress;
+    let mut k: u16 = 0;
+    while k < repeats {
+        moved = cut_pass(driving, until, group, moved);
+        k += 1;
+    }
+    moved
+}
+
+fn cut_groups(driving: Driving, until: u64, waveform: Waveform, progress: Progress) -> Progress
+    requires { ⌜ Timed waveform × Drivable driving ⌝ }
+    ensures { λ r. ⌜ r ≡ foldl (cutStep driving until) progress (groupsIn driving waveform) ⌝ }
+{
+    let mut moved = progress;
+    let mut k: usize = 0;
+    while k < 10 {
+        let group = waveform.groups[k];
+        moved = cut_group(driving, until, group, moved);
+        k += 1;
+    }
+    moved
+}
+
+// What the frames that end within `until` nanoseconds do to a state from 0 to the swing.
+pub fn transfer_cut(
+    waveform: Waveform,
+    drive: Drive,
+    swing: i64,
+    positive_drives_black: bool,
+    until: u64,
+) -> Transfer
+    requires { ⌜ Walkable waveform drive ⌝ }
+    ensures { λ r. ⌜ r ≡ cutOf waveform drive swing «positive_drives_black» until ⌝ }
+{
+    let levels = waveform.levels;
+    let driving = Driving {
+        levels,
+        drive,
+        swing,
+        positive_drives_black,
+    };
+    let start = Progress {
+        transfer: Transfer::identity(swing),
+        elapsed: 0,
+        stopped: false,
+    };
+    let end = cut_groups(driving, until, waveform, start);
+    end.transfer
+}
+
+// What the display does to a state from 0 to the swing: whole frames only, a frame cut short does nothing.
+pub fn transfer(
+    waveform: Waveform,
+    drive: Drive,
+    swing: i64,
+    positive_drives_black: bool,
+    until: Until,
+) -> Transfer
+    requires { ⌜ Walkable waveform drive ⌝ }
+    ensures { λ r. ⌜ r ≡ transferOf waveform drive swing «positive_drives_black» until ⌝ }
+{
+    match until {
+        Until::Whole => transfer_whole(waveform, drive, swing, positive_drives_black),
+        Until::Cut(cut) => transfer_cut(waveform, drive, swing, positive_drives_black, cut),
+    }
+}
