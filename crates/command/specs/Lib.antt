@@ -1,0 +1,2 @@
+-- The root of command's specs.
+pub mod Table

@@ -1,0 +1,2 @@
+-- The root of device's specs.
+pub mod Parts
