@@ -79,3 +79,14 @@ module _ (p : ℕ → Bool) where
       by : (t : Bool) → p n ≡ t → pick t (At n) (lastOf p n) ≡ Nothing → (lastOf p n ≡ Nothing → (i : ℕ) → i < n → p i ≡ false) → p j ≡ false
       by true h f more = never n (sym f)
       by false h f more = ⊎-elim (λ (q : j ≡ n). ap p q ∙ h) (λ (d : j < n). more f j d) (eq-or-lt-of-le (le-of-suc-le-suc l))
+
+-- two tests that agree find the same; a test that nothing passes finds nothing
+pub last-same : (p q : ℕ → Bool) → ((k : ℕ) → p k ≡ q k) → (n : ℕ) → lastOf p n ≡ lastOf q n
+unfolding lastOf
+last-same p q h zero = refl
+last-same p q h (suc n) = rw (h n, last-same p q h n)
+
+pub last-never : (p : ℕ → Bool) → ((k : ℕ) → p k ≡ false) → (n : ℕ) → lastOf p n ≡ Nothing
+unfolding lastOf
+last-never p h zero = refl
+last-never p h (suc n) = rw (h n, last-never p h n)
