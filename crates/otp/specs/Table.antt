@@ -54,7 +54,7 @@ unfoldable pub badEntry : List ℕ → ℕ → Bool
 badEntry otp entry =
     ltb 1 (modeAt otp entry) || ltb 1 (provenanceAt otp entry) || ltb 4095 (lowerAt otp entry) || ltb 4095 (upperAt otp entry)
 
--- the length is not a multiple of 118, or there are over 16 entries, or one is bad
+-- the length is not a multiple of an entry's bytes, or there are more entries than a table holds, or one is bad
 unfoldable pub badTable : List ℕ → Bool
 badTable otp = not (eqb (length otp % entryBytes) 0) || ltb mostEntries (entriesOf otp) || anyOf (badEntry otp) (entriesOf otp)
 
