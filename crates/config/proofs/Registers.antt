@@ -2,12 +2,11 @@
 use mathlib.Core.Path.{_≡_, refl, sym, ap, _∙_}
 use mathlib.Core.Bool.{Bool, true, false}
 use Prim.Native.Nat.{ℕ, _+_, _-_, _%_, _≤_, _<_}
-use native.Mathlib.Nat.{mod-eq-of-lt, mod-mod}
 use native.Mathlib.Omega.{arith}
 use lib.Dec.{ltb}
 use lib.IntN.{ℤ, pos, negsuc, natAbs, _-ℤ_}
 use borrow.Author.Tests.{ltb-true, ltb-false, lt-ltb, le-ltb}
-use Rattle.numbers.proofs.Lin.{up, down, Le, whole, sub-out, eq-in}
+use Rattle.numbers.proofs.Lin.{up, down, Lt, whole, sub-out, eq-in}
 use Rattle.config.specs.Temperature.{sixteenthsOf, registerOf}
 
 pub low-half : (r : ℕ) → r % 4096 < 2048 → pos (r % 4096) ≡ sixteenthsOf r
@@ -72,3 +71,13 @@ sixteenths-of-register (pos n) h k =
 sixteenths-of-register (negsuc n) h k =
     let e : 4095 - (4095 - n % 4096) % 4096 ≡ n = omega arith in
     sym (high-below (4095 - n % 4096) (omega arith)) ∙ ap negsuc e
+
+-- every register but 800h stands for a temperature above the coldest
+pub above-coldest : (r : ℕ) → (r % 4096 ≡ 0x800 → ⊥) → Lt (negsuc 2047) (sixteenthsOf r)
+above-coldest r h = by (ltb (r % 4096) 2048) refl
+  where
+    by : (t : Bool) → ltb (r % 4096) 2048 ≡ t → Lt (negsuc 2047) (sixteenthsOf r)
+    by true e = omega (arith, ap down (low-half r (ltb-true (r % 4096) 2048 e)), ap up (low-half r (ltb-true (r % 4096) 2048 e)))
+    by false e =
+        let k = ltb-false (r % 4096) 2048 e in
+        omega (arith, h, ap down (high-below r k), ap up (high-below r k))

@@ -1,0 +1,2 @@
+-- The laws of reference that belong to no one function.
+pub mod Ranges
