@@ -1,0 +1,3 @@
+-- The laws of scan.
+pub mod Rows
+pub mod Pixels

@@ -1,0 +1,30 @@
+-- Laws of the LUT of a pixel that the functions' proofs cite: a bit that lies in the RAM, and the pixel of a row and a column.
+-- Assumes nothing.
+use mathlib.Core.Path.{_≡_}
+use mathlib.Core.List.{List}
+use Prim.Native.Nat.{ℕ, _+_, _-_, _*_, _/_, _%_, _<_}
+use native.Mathlib.Omega.{arith}
+use lib.Arith.{digits-mod, digits-div}
+use lib.Dec.{ltb}
+use lib.ListN.{length, getD}
+use borrow.Author.Tests.{lt-ltb}
+use Rattle.numbers.specs.Choice.{bitOf}
+use Rattle.config.specs.declared.PanelGeometry.{PanelGeometry}
+use Rattle.ram.specs.declared.Pixel.the-variants as pixel
+use Rattle.ram.specs.Plane.{indexOf, readAt, bitAt}
+use Rattle.scan.specs.declared.Scan.{Scan}
+use Rattle.scan.specs.Gates.{rowOfGate}
+use Rattle.scan.specs.Luts.{sourceOf, lutInRow, lutOf}
+
+pub bit-there : (plane : List ℕ) (x row : ℕ) → length plane ≡ 81600 → x < 960 → row < 680
+    → bitAt plane x row ≡ pixel.Is (bitOf (getD plane (row * 120 + x / 8) 0) (7 - x % 8))
+unfolding bitAt readAt indexOf
+bit-there plane x row whole there in-ram =
+    rw (lt-ltb (x / 8) 120 (omega arith), lt-ltb row 680 in-ram, lt-ltb (row * 120 + x / 8) (length plane) (omega arith))
+
+-- pixel y * width + x is the one in column x and row y
+pub lut-grid : (gates red blackWhite : List ℕ) (g : PanelGeometry) (s : Scan) (x y : ℕ) → x < g .width
+    → lutOf gates red blackWhite g s (y * g .width + x)
+    ≡ lutInRow (rowOfGate (getD gates y 0) (s .order) (s .lines)) red blackWhite s (sourceOf g x)
+unfolding lutOf
+lut-grid gates red blackWhite g s x y l = rw (digits-mod y l, digits-div y l)
