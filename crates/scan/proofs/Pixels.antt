@@ -1,14 +1,15 @@
 -- Laws of the LUT of a pixel that the functions' proofs cite: a bit that lies in the RAM, and the pixel of a row and a column.
 -- Assumes nothing.
 use mathlib.Core.Path.{_≡_}
+use mathlib.Core.Bool.{Bool, true, false}
 use mathlib.Core.List.{List}
-use Prim.Native.Nat.{ℕ, _+_, _-_, _*_, _/_, _%_, _<_}
+use Prim.Native.Nat.{ℕ, _+_, _-_, _*_, _/_, _%_, _<_, _≤_}
 use native.Mathlib.Omega.{arith}
 use lib.Arith.{digits-mod, digits-div}
 use lib.Dec.{ltb}
 use lib.ListN.{length, getD}
 use borrow.Author.Tests.{lt-ltb}
-use Rattle.numbers.specs.Choice.{bitOf}
+use Rattle.numbers.specs.Choice.{pick, bitOf}
 use Rattle.config.specs.declared.PanelGeometry.{PanelGeometry}
 use Rattle.ram.specs.declared.Pixel.the-variants as pixel
 use Rattle.ram.specs.Plane.{indexOf, readAt, bitAt}
@@ -28,3 +29,12 @@ pub lut-grid : (gates red blackWhite : List ℕ) (g : PanelGeometry) (s : Scan) 
     ≡ lutInRow (rowOfGate (getD gates y 0) (s .order) (s .lines)) red blackWhite s (sourceOf g x)
 unfolding lutOf
 lut-grid gates red blackWhite g s x y l = rw (digits-mod y l, digits-div y l)
+
+-- the source of a column is one of the controller's 960
+pub source-lt : (g : PanelGeometry) (x : ℕ) → x < g .width → g .«first_source» + g .width ≤ 960 → sourceOf g x < 960
+unfolding sourceOf
+source-lt g x l driven = by (g .«columns_reversed»)
+  where
+    by : (b : Bool) → g .«first_source» + pick b (g .width - 1 - x) x < 960
+    by true = omega arith
+    by false = omega arith

@@ -1,47 +1,47 @@
+-- `scan::lut_in_row` meets its contract: the calls' answers, put into the definition.
+use mathlib.Core.Path.{_≡_, subst}
+use Prim.Native.Nat.{_<_}
 use borrow.Author.Needs.{needs}
+use Rattle.scan.specs.Gates.{rowOr}
+use Rattle.scan.specs.Luts.{lutInRow, lutOfPixels}
 use Rattle.scan.proofs.lut_in_row.Statement.{statement}
 use Rattle.scan.proofs.lut_in_row.Tie as tie
-use Rattle.scan.proofs.lut_in_row.Reads as reads
-use Rattle.scan.proofs.lut_in_row.Lts as lts
-use Rattle.scan.proofs.PlaneOption.apply.Reads as apply-reads
-use Rattle.scan.proofs.bit_in_row.Reads as bit-in-row-reads
-use Rattle.scan.proofs.lut_of_bits.Reads as lut-of-bits-reads
 
--- src/lib.rt:168:17
 enum-known-row : tie.Need-enum-known-row
 enum-known-row c = search needs
 
--- src/lib.rt:169:9
 enum-told : tie.Need-enum-told
 enum-told c = search needs
 
--- src/lib.rt:169:9
 returns : tie.Need-returns
-returns c = ?
+unfolding lutInRow
+returns c = rw (c .enum-told .given .1)
 
--- src/lib.rt:173:33
 bit-in-row-requires : tie.Need-bit-in-row-requires
-bit-in-row-requires c κs = ?
+bit-in-row-requires c κs =
+    let s = c .before .before .before .before .before in
+    (s .pre .0, (subst (λ r. rowOr r 0 < 680) (c .before .row .given .1) (s .pre .1 .1 .0), s .pre .1 .1 .1))
 
--- src/lib.rt:173:9
 apply-requires : tie.Need-apply-requires
 apply-requires c κs = search needs
 
--- src/lib.rt:174:40
 bit-in-row-requires-2 : tie.Need-bit-in-row-requires-2
-bit-in-row-requires-2 c κs = ?
+bit-in-row-requires-2 c κs =
+    let s = c .before .before .before .before .before .before .before in
+    (s .pre .1 .0, (subst (λ r. rowOr r 0 < 680) (c .before .before .before .row .given .1) (s .pre .1 .1 .0), s .pre .1 .1 .1))
 
--- src/lib.rt:174:9
 apply-requires-2 : tie.Need-apply-requires-2
 apply-requires-2 c κs = search needs
 
--- src/lib.rt:175:5
 lut-of-bits-requires : tie.Need-lut-of-bits-requires
 lut-of-bits-requires c κs = search needs
 
--- src/lib.rt:161:1
 returns-2 : tie.Need-returns-2
-returns-2 c = ?
+unfolding lutInRow lutOfPixels
+returns-2 c =
+    let b = c .before .before .before .before in
+    rw (b .before .before .row .given .1, ← b .bit-in-row .ensures, ← c .before .before .bit-in-row2 .ensures, ← c .before .before .before .apply .ensures, ← c .before .apply2 .ensures)
+    (c .lut-of-bits .ensures)
 
 pub lut-in-row-spec : {M : Type 1} → statement M
 lut-in-row-spec =
