@@ -180,6 +180,15 @@ module _ (g : PanelGeometry) (small : g .height ≤ 680) (even : g .«native_sca
       by true = rw (twice (rowOf (scan .sm) (scan .gd) gate h) (paired .row-lt gate l)) (paired .gate-again gate l)
       by false = paired .gate-again gate l
 
+  -- under the native scan the RAM's rows lie on the glass in sequence, from the top or from the bottom
+  pub in-sequence : (y : ℕ) → y < h → rowOfGate (gateOfRow g y) scan h ≡ Is (pick (g .«rows_reversed») (h - 1 - y) y)
+  unfolding gateOfRow
+  in-sequence y l = by (g .«rows_reversed»)
+    where
+      by : (b : Bool) → rowOfGate (gateOf (scan .sm) (scan .gd) (pick b (h - 1 - y) y) h) scan h ≡ Is (pick b (h - 1 - y) y)
+      by true = paired .has-gate (h - 1 - y) (flipped y l)
+      by false = paired .has-gate y l
+
   -- what `gate_of_row` leaves in a list as long as the glass is high
   pub gates-table : (rows : List ℕ) → length rows ≡ h → gatesStored g h rows ≡ tab h (gateOfRow g)
   gates-table rows len =

@@ -1,5 +1,5 @@
 -- `scan::start` meets its contract: after y rows and x columns the first y * width + x LUTs are the definition's.
-use mathlib.Core.Path.{_≡_, sym, subst, _∙_}
+use mathlib.Core.Path.{_≡_, sym, subst}
 use Prim.Native.Nat.{ℕ, _≤_, _<_, _-_, _*_, _+_}
 use native.Mathlib.Nat.{add-mul, add-zero, zero-mul, add-assoc, mul-le-mul-right}
 use native.Mathlib.Omega.{arith}
@@ -7,9 +7,9 @@ use borrow.Author.Needs.{needs}
 use lib.Arith.{digits-lt}
 use Rattle.numbers.proofs.Painted.{Painted, painted-none, painted-more, painted-all, painted-again, painted-on, painted-at}
 use Rattle.scan.specs.Gates.{rowOr}
-use Rattle.scan.specs.Luts.{lutInRow, lutOf}
+use Rattle.scan.specs.Luts.{lutOf}
 use Rattle.scan.proofs.Rows.{in-ram}
-use Rattle.scan.proofs.Pixels.{lut-grid, source-lt}
+use Rattle.scan.proofs.Pixels.{pixel-is, source-lt}
 use Rattle.scan.proofs.start.Statement.{statement}
 use Rattle.scan.proofs.start.Tie as tie
 
@@ -82,12 +82,11 @@ loop2-again c =
     let s = c .before .before .before .before .before .before .before .before .before .before .before .before .before .before .before in
     let y = c .before .before .before .before .before .before .before .loop .y in
     let x = c .before .before .before .loop2 .x in
-    let row = c .before .before .before .before .ram-row-of-gate .ensures in
-    let source = c .before .source-of .ensures in (
+    let right = c .before .before .loop2-test .taken in (
       painted-at
           (painted-more (c .before .before .before .loop2 .inv .0)
-          (omega (arith, within y x (s .pre .0) (c .before .before .before .before .before .before .loop-test .taken) (c .before .before .loop2-test .taken)))
-          (c .lut-in-row .ensures ∙ (λ i. lutInRow (row i) (s .args .red .now) (s .args .black-white .now) (s .args .scan) (source i)) ∙ sym (lut-grid _ _ _ _ _ x y (c .before .before .loop2-test .taken))))
+          (omega (arith, within y x (s .pre .0) (c .before .before .before .before .before .before .loop-test .taken) right))
+          (pixel-is _ _ _ _ _ x y right (c .before .before .before .before .ram-row-of-gate .ensures) (c .before .source-of .ensures) (c .lut-in-row .ensures)))
           (add-assoc _ _ 1),
       omega arith,
     )
