@@ -1,0 +1,5 @@
+-- The laws of scan.
+pub mod Rows
+pub mod Pixels
+pub mod OneToOne
+pub mod Figures

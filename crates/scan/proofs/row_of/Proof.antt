@@ -1,0 +1,42 @@
+-- `scan::row_of` meets its contract: each branch is a row of the table.
+use borrow.Author.Needs.{needs}
+use Rattle.scan.specs.Gates.{rowOf}
+use Rattle.scan.proofs.Rows.{half-up, exchanged}
+use Rattle.scan.proofs.row_of.Statement.{statement}
+use Rattle.scan.proofs.row_of.Tie as tie
+
+add-half : tie.Need-add-half
+add-half c = search needs
+
+add-result : tie.Need-add-result
+add-result c = search needs
+
+returns : tie.Need-returns
+unfolding rowOf
+returns c = rw (c .before .before .if1 .taken, c .before .if2 .taken, c .if3 .taken, half-up (c .before .before .before .args .lines))
+
+returns-2 : tie.Need-returns-2
+unfolding rowOf
+returns-2 c = rw (c .before .before .if1 .taken, c .before .if2 .taken, c .if3 .left)
+
+returns-3 : tie.Need-returns-3
+unfolding rowOf
+returns-3 c = rw (c .before .before .if1 .taken, c .before .if2 .left, c .if4 .taken)
+
+add-result-2 : tie.Need-add-result-2
+add-result-2 c = search needs
+
+returns-4 : tie.Need-returns-4
+unfolding rowOf
+returns-4 c = rw (c .before .before .if1 .taken, c .before .if2 .left, c .if4 .left, half-up (c .before .before .before .args .lines))
+
+returns-5 : tie.Need-returns-5
+unfolding rowOf
+returns-5 c = rw (c .before .if1 .left, c .if5 .taken) (exchanged (c .before .before .args .gate))
+
+returns-6 : tie.Need-returns-6
+unfolding rowOf
+returns-6 c = rw (c .before .if1 .left, c .if5 .left)
+
+pub row-of-spec : {M : Type 1} → statement M
+row-of-spec = tie.close (tie.spec add-half add-result returns returns-2 returns-3 add-result-2 returns-4 returns-5 returns-6)

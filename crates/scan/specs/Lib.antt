@@ -1,0 +1,3 @@
+-- The root of scan's specs.
+pub mod Gates
+pub mod Luts
