@@ -2,18 +2,28 @@
 
 mod bench;
 mod configuration;
+mod configurations;
 mod dump;
+mod figures;
 mod hash;
 mod inside;
+mod leaf;
 mod line;
+mod listing;
+mod random;
 mod record;
 mod replay;
+mod settings;
 
 use std::io::{self, Read, Write};
 
 use super::Ssd1677;
 
-const USAGE: &str = "usage: oracle replay < events";
+const USAGE: &str = "usage: oracle replay < events
+       oracle leaf < questions
+       oracle leaf-generate NAME|all SEED COUNT
+       oracle listing < setting
+       oracle figures";
 
 impl crate::Judge for Ssd1677 {
     fn run(arguments: &[String]) -> bool {
@@ -21,14 +31,23 @@ impl crate::Judge for Ssd1677 {
         let mut out = io::BufWriter::with_capacity(1 << 16, io::stdout().lock());
         let done = match words.as_slice() {
             ["replay"] => replay::run(&input(), &mut out),
-            _ => {
-                eprintln!("{USAGE}");
-                return false;
-            }
+            ["leaf"] => leaf::run(&input(), &mut out),
+            ["leaf-generate", name, seed, count] => match (seed.parse(), count.parse()) {
+                (Ok(seed), Ok(count)) => leaf::generate(name, seed, count, &mut out),
+                _ => return usage(),
+            },
+            ["listing"] => write!(out, "{}", listing::listing(&input())).map(|()| true),
+            ["figures"] => figures::run(&mut out),
+            _ => return usage(),
         };
         done.and_then(|agreed| out.flush().map(|()| agreed))
             .unwrap_or(false)
     }
+}
+
+fn usage() -> bool {
+    eprintln!("{USAGE}");
+    false
 }
 
 /// All of standard input.
