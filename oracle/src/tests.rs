@@ -5,6 +5,7 @@ mod configuration;
 mod configurations;
 mod dump;
 mod figures;
+mod generate;
 mod hash;
 mod inside;
 mod leaf;
@@ -14,12 +15,15 @@ mod random;
 mod record;
 mod replay;
 mod settings;
+mod tally;
 
 use std::io::{self, Read, Write};
 
 use super::Ssd1677;
 
 const USAGE: &str = "usage: oracle replay < events
+       oracle tally < events
+       oracle generate SEED COUNT [FAMILY]
        oracle leaf < questions
        oracle leaf-generate NAME|all SEED COUNT
        oracle listing < setting
@@ -31,6 +35,14 @@ impl crate::Judge for Ssd1677 {
         let mut out = io::BufWriter::with_capacity(1 << 16, io::stdout().lock());
         let done = match words.as_slice() {
             ["replay"] => replay::run(&input(), &mut out),
+            ["generate", seed, count, family @ ..] if family.len() <= 1 => {
+                let family = family.first().copied();
+                match (seed.parse(), count.parse()) {
+                    (Ok(seed), Ok(count)) => generate::run(seed, count, family, &mut out),
+                    _ => return usage(),
+                }
+            }
+            ["tally"] => tally::run(&input(), &mut out),
             ["leaf"] => leaf::run(&input(), &mut out),
             ["leaf-generate", name, seed, count] => match (seed.parse(), count.parse()) {
                 (Ok(seed), Ok(count)) => leaf::generate(name, seed, count, &mut out),

@@ -168,7 +168,7 @@ pub(super) fn refused(random: &mut Random) -> Configuration {
 fn spoil(configuration: &mut Configuration, random: &mut Random) {
     let otp_end = configuration.otp.len();
     let fields = &mut configuration.fields;
-    match random.below(10) {
+    match random.below(13) {
         0 => fields[usize::from(random.truth())] = 0,
         1 => {
             fields[0] = random.pick(&[959, 960, 961, 65_535]);

@@ -1,0 +1,66 @@
+//! Seeded sequences of events in the replay format, in families (oracle/README.md).
+
+mod bus;
+mod driving;
+mod firmware;
+mod memory;
+mod script;
+mod starts;
+
+use std::io::{self, Write};
+
+use script::Script;
+
+use super::random::Random;
+
+/// A family of sequences.
+type Family = (&'static str, fn(&mut Script));
+
+const FAMILIES: [Family; 18] = [
+    ("firmware", firmware::session),
+    ("reset", driving::reset_timing),
+    ("cut", driving::cut_edges),
+    ("ends", driving::two_ends),
+    ("sleep", bus::sleep),
+    ("parameters", bus::parameters),
+    ("reads", bus::reads),
+    ("busy", bus::busy),
+    ("counters", memory::counters),
+    ("options", memory::options),
+    ("clocks", driving::clocks),
+    ("extremes", driving::extremes),
+    ("geometry", memory::geometry),
+    ("logs", bus::logs),
+    ("streams", memory::streams),
+    ("starts", starts::starts),
+    ("supplies", starts::supplies),
+    ("chaos", bus::chaos),
+];
+
+/// Writes `count` sequences, the families in turn, or those of one family alone. Each begins with a
+/// new case and ends with a dump; a sequence depends on the seed and on its own number alone.
+pub(super) fn run(
+    seed: u64,
+    count: u64,
+    family: Option<&str>,
+    out: &mut impl Write,
+) -> io::Result<bool> {
+    let chosen: Vec<Family> = FAMILIES
+        .into_iter()
+        .filter(|(name, _)| family.is_none_or(|family| family == *name))
+        .collect();
+    if chosen.is_empty() {
+        let names: Vec<&str> = FAMILIES.iter().map(|(name, _)| *name).collect();
+        eprintln!("the families are: {}", names.join(" "));
+        return Ok(false);
+    }
+    let families = chosen.len() as u64;
+    for case in 0..count {
+        let (_, write) = chosen[usize::try_from(case % families).expect("a family")];
+        let random = Random::of_place(seed, case);
+        let mut script = Script::new(case, case / families, random);
+        write(&mut script);
+        out.write_all(script.finish().as_bytes())?;
+    }
+    Ok(true)
+}

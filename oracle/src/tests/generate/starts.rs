@@ -1,0 +1,116 @@
+//! Starts that are refused, that come twice, and what stands before them; supplies and sensors.
+
+use super::bus::{ready, value};
+use super::firmware::activate;
+use super::script::Script;
+use crate::ssd1677::tests::configurations;
+
+/// Events before a start do nothing, a refused start starts nothing, a second start begins anew.
+pub(super) fn starts(script: &mut Script) {
+    if script.random.truth() {
+        script.command(0x12);
+        script.data(0x01);
+        script.query();
+        script.dump();
+        script.take_diagnostics();
+        script.set_ambient(0x0190);
+        // A count that waits beyond the start.
+        script.line(3, 8, 0);
+    }
+    let configuration = if script.random.one_in(4) {
+        configurations::any(&mut script.random)
+    } else {
+        configurations::refused(&mut script.random)
+    };
+    // A panel of any size is seldom refused and costs its pixels: it is left out here.
+    let pixels = configuration.fields[0] * configuration.fields[1];
+    let configuration = if pixels > 20_000 && configuration.start().is_ok() {
+        configurations::small(&mut script.random)
+    } else {
+        configuration
+    };
+    script.start(&configuration);
+    script.dump();
+    script.write(0x24, &[1, 2, 3]);
+    activate(script, 0xF7);
+    script.wait();
+    script.advance();
+    script.dump_one_in(2);
+    if script.random.truth() {
+        second_start(script, configuration);
+    }
+}
+
+fn second_start(
+    script: &mut Script,
+    mut configuration: crate::ssd1677::tests::configuration::Configuration,
+) {
+    let field = script.random.pick(&[0usize, 1, 8, 10, 22, 38]);
+    let number = script
+        .random
+        .pick(&[0, 1, 1, 2])
+        .min(if field == 38 { 1 } else { 2 });
+    configuration.fields[field] = number;
+    script.line(number, 11, field as u64);
+    script.data(0x77);
+    script.start_again(&configuration);
+    script.now = script.random.pick(&[0, script.now]);
+    script.read();
+    script.write(0x24, &[4, 5]);
+}
+
+/// The stages of `0x22` in turn, detections with and without supplies, sensors, temperatures at the
+/// bounds of the OTP's ranges.
+pub(super) fn supplies(script: &mut Script) {
+    let mut configuration = configurations::small(&mut script.random);
+    for _ in 0..script.random.below(3) {
+        configurations::entry(&mut configuration, &mut script.random);
+    }
+    script.start(&configuration);
+    for turn in 0..script.random.between(4, 8) {
+        ready(script);
+        match script.random.below(8) {
+            0 => {
+                let command = script.random.pick(&[0x14, 0x15]);
+                let byte = value(script);
+                script.write(command, &[byte]);
+                script.wait();
+                script.command(0x2F);
+                script.read();
+            }
+            1 => {
+                let byte = value(script);
+                script.write(0x29, &[byte]);
+                script.command(0x28);
+            }
+            2 => {
+                let byte = script.random.pick(&[0x80, 0x48, 0x00, 0xFF]);
+                script.write(0x18, &[byte]);
+            }
+            3 => {
+                let edges = [0x7F, 0x80, 0xFF, 0x00, 0x19, 0x32, 0x31];
+                let high = script.random.pick(&edges);
+                let low = value(script);
+                script.write(0x1A, &[high, low]);
+            }
+            4 => {
+                let edges = [0x800, 0x801, 0xFFF, 0, 1, 400, 800, 801, 0x7FF, 0x1800];
+                let register = script.random.pick(&edges);
+                script.set_ambient(register);
+            }
+            5 => {
+                // Byte F of 0x37 holds the ping-pong bit.
+                let byte = script.random.pick(&[0x40, 0x00, 0xFF]);
+                script.write(0x37, &[0, 1, 2, 3, 4, byte, 6, 7, 8, 9]);
+            }
+            _ => {
+                let stages = (script.place * 8 + turn) % 256;
+                let any = script.random.byte();
+                let stages = script.random.pick(&[stages.to_le_bytes()[0], any]);
+                activate(script, stages);
+                script.query();
+                script.dump_one_in(3);
+            }
+        }
+    }
+}
