@@ -22,6 +22,7 @@ use std::io::{self, Read, Write};
 use super::Ssd1677;
 
 const USAGE: &str = "usage: oracle replay < events
+       oracle broken WAY
        oracle tally < events
        oracle generate SEED COUNT [FAMILY]
        oracle leaf < questions
@@ -42,6 +43,10 @@ impl crate::Judge for Ssd1677 {
                     _ => return usage(),
                 }
             }
+            ["broken", way] => match way.parse() {
+                Ok(way) => generate::broken(way, &mut out),
+                Err(_) => return usage(),
+            },
             ["tally"] => tally::run(&input(), &mut out),
             ["leaf"] => leaf::run(&input(), &mut out),
             ["leaf-generate", name, seed, count] => match (seed.parse(), count.parse()) {

@@ -127,8 +127,8 @@ fn glass(device: &Ssd1677, luts: u64, out: &mut impl Write) -> io::Result<()> {
     writeln!(out, " {interrupted} {started} {at}")?;
     let glass = inside::glass(&device.panel);
     writeln!(out, "glass {} {}", glass.swing, glass.border)?;
-    let black_white = hash::of_bytes(device.ram(Plane::BlackWhite));
-    let red = hash::of_bytes(device.ram(Plane::Red));
+    let planes = (device.ram(Plane::BlackWhite), device.ram(Plane::Red));
+    let (black_white, red) = hash::of_two(planes.0, planes.1);
     let states = hash::of_states(&glass.states);
     let pixels = hash::of_bytes(&image.pixels);
     let gates = hash::of_words(&glass.gate_of_row);

@@ -1,5 +1,6 @@
 //! Seeded sequences of events in the replay format, in families (oracle/README.md).
 
+mod broken;
 mod bus;
 mod driving;
 mod firmware;
@@ -63,4 +64,12 @@ pub(super) fn run(
         out.write_all(script.finish().as_bytes())?;
     }
     Ok(true)
+}
+
+/// Writes the run that ends at bad line number `way`; whether there is one.
+pub(super) fn broken(way: usize, out: &mut impl Write) -> io::Result<bool> {
+    match broken::run(way) {
+        Some(text) => write!(out, "{text}").map(|()| true),
+        None => Ok(false),
+    }
 }

@@ -30,6 +30,17 @@ pub(super) fn of_bytes(bytes: &[u8]) -> u64 {
     Hash::default().bytes(bytes).value()
 }
 
+/// Two lists of one length, in one walk: each waits for its own byte before, not for the other's.
+pub(super) fn of_two(one: &[u8], other: &[u8]) -> (u64, u64) {
+    assert_eq!(one.len(), other.len(), "lists of one length");
+    let mut hashes = (Hash::default(), Hash::default());
+    for (&a, &b) in one.iter().zip(other) {
+        hashes.0.byte(a);
+        hashes.1.byte(b);
+    }
+    (hashes.0.value(), hashes.1.value())
+}
+
 /// 16-bit numbers as two bytes each, the low byte first.
 pub(super) fn of_words(words: &[u16]) -> u64 {
     let hash = |hash: Hash, word: &u16| hash.bytes(&word.to_le_bytes());
