@@ -1,8 +1,9 @@
 //! Starts that are refused, that come twice, and what stands before them; supplies and sensors.
 
 use super::bus::{ready, value};
-use super::firmware::activate;
+use super::firmware::{activate, power_on};
 use super::script::Script;
+use crate::ssd1677::tests::configuration::Configuration;
 use crate::ssd1677::tests::configurations;
 
 /// Events before a start do nothing, a refused start starts nothing, a second start begins anew.
@@ -41,10 +42,7 @@ pub(super) fn starts(script: &mut Script) {
     }
 }
 
-fn second_start(
-    script: &mut Script,
-    mut configuration: crate::ssd1677::tests::configuration::Configuration,
-) {
+fn second_start(script: &mut Script, mut configuration: Configuration) {
     let field = script.random.pick(&[0usize, 1, 8, 10, 22, 38]);
     let number = script
         .random
@@ -67,50 +65,54 @@ pub(super) fn supplies(script: &mut Script) {
         configurations::entry(&mut configuration, &mut script.random);
     }
     script.start(&configuration);
-    for turn in 0..script.random.between(4, 8) {
+    for turn in 0..4 {
         ready(script);
-        match script.random.below(8) {
-            0 => {
-                let command = script.random.pick(&[0x14, 0x15]);
-                let byte = value(script);
-                script.write(command, &[byte]);
-                script.wait();
-                script.command(0x2F);
-                script.read();
-            }
-            1 => {
-                let byte = value(script);
-                script.write(0x29, &[byte]);
-                script.command(0x28);
-            }
-            2 => {
-                let byte = script.random.pick(&[0x80, 0x48, 0x00, 0xFF]);
-                script.write(0x18, &[byte]);
-            }
-            3 => {
-                let edges = [0x7F, 0x80, 0xFF, 0x00, 0x19, 0x32, 0x31];
-                let high = script.random.pick(&edges);
-                let low = value(script);
-                script.write(0x1A, &[high, low]);
-            }
-            4 => {
-                let edges = [0x800, 0x801, 0xFFF, 0, 1, 400, 800, 801, 0x7FF, 0x1800];
-                let register = script.random.pick(&edges);
-                script.set_ambient(register);
-            }
-            5 => {
-                // Byte F of 0x37 holds the ping-pong bit.
-                let byte = script.random.pick(&[0x40, 0x00, 0xFF]);
-                script.write(0x37, &[0, 1, 2, 3, 4, byte, 6, 7, 8, 9]);
-            }
-            _ => {
-                let stages = (script.place * 8 + turn) % 256;
-                let any = script.random.byte();
-                let stages = script.random.pick(&[stages.to_le_bytes()[0], any]);
-                activate(script, stages);
-                script.query();
-                script.dump_one_in(3);
-            }
+        prepare(script);
+        ready(script);
+        let stages = (script.place * 4 + turn) % 256;
+        activate(script, stages.to_le_bytes()[0]);
+        script.query();
+        script.dump_one_in(3);
+    }
+}
+
+/// Something that an activation finds changed.
+fn prepare(script: &mut Script) {
+    match script.random.below(7) {
+        0 => {
+            let command = script.random.pick(&[0x14, 0x15]);
+            let byte = value(script);
+            script.write(command, &[byte]);
+            script.wait();
+            script.command(0x2F);
+            script.read();
         }
+        1 => {
+            let byte = value(script);
+            script.write(0x29, &[byte]);
+            script.command(0x28);
+        }
+        2 => {
+            let byte = script.random.pick(&[0x80, 0x48, 0x00, 0xFF]);
+            script.write(0x18, &[byte]);
+        }
+        3 => {
+            let high = script
+                .random
+                .pick(&[0x7F, 0x80, 0xFF, 0x00, 0x19, 0x32, 0x31]);
+            let low = value(script);
+            script.write(0x1A, &[high, low]);
+        }
+        4 => {
+            let edges = [0x800, 0x801, 0xFFF, 0, 1, 400, 800, 801, 0x7FF, 0x1800];
+            let register = script.random.pick(&edges);
+            script.set_ambient(register);
+        }
+        5 => {
+            // The sixth byte holds the ping-pong bit.
+            let byte = script.random.pick(&[0x40, 0x00, 0xFF]);
+            script.write(0x37, &[0, 1, 2, 3, 4, byte, 6, 7, 8, 9]);
+        }
+        _ => power_on(script),
     }
 }
