@@ -3,6 +3,7 @@
 mod broken;
 mod bus;
 mod driving;
+mod exhaustive;
 mod firmware;
 mod memory;
 mod script;
@@ -17,7 +18,7 @@ use super::random::Random;
 /// A family of sequences.
 type Family = (&'static str, fn(&mut Script));
 
-const FAMILIES: [Family; 18] = [
+const FAMILIES: [Family; 19] = [
     ("firmware", firmware::session),
     ("reset", driving::reset_timing),
     ("cut", driving::cut_edges),
@@ -35,8 +36,12 @@ const FAMILIES: [Family; 18] = [
     ("streams", memory::streams),
     ("starts", starts::starts),
     ("supplies", starts::supplies),
+    ("waveforms", starts::waveforms),
     ("chaos", bus::chaos),
 ];
+
+/// Those that are long and written only by name.
+const BY_NAME: [Family; 2] = [("pairs", exhaustive::pairs), ("values", exhaustive::values)];
 
 /// Writes `count` sequences, the families in turn, or those of one family alone. Each begins with a
 /// new case and ends with a dump; a sequence depends on the seed and on its own number alone.
@@ -46,12 +51,17 @@ pub(super) fn run(
     family: Option<&str>,
     out: &mut impl Write,
 ) -> io::Result<bool> {
-    let chosen: Vec<Family> = FAMILIES
-        .into_iter()
-        .filter(|(name, _)| family.is_none_or(|family| family == *name))
-        .collect();
+    let mut all = FAMILIES.iter().chain(&BY_NAME);
+    let chosen: Vec<Family> = match family {
+        None => FAMILIES.to_vec(),
+        Some(name) => all
+            .clone()
+            .filter(|(known, _)| *known == name)
+            .copied()
+            .collect(),
+    };
     if chosen.is_empty() {
-        let names: Vec<&str> = FAMILIES.iter().map(|(name, _)| *name).collect();
+        let names: Vec<&str> = all.by_ref().map(|(name, _)| *name).collect();
         eprintln!("the families are: {}", names.join(" "));
         return Ok(false);
     }

@@ -1,10 +1,11 @@
 //! Diagnostics as records of 16 bytes (document 01, "Forms that cannot stay"): time 0–7, number 8,
 //! field a 9, b 10–11, c 12–13, low byte first, then zeros.
 
-use crate::ssd1677::{Diagnostic, DiagnosticKind, DisplayMode, MAX_DIAGNOSTICS, Stage};
+use crate::ssd1677::{Diagnostic, DiagnosticKind, DisplayMode, Stage};
 
 pub(super) const RECORD_BYTES: usize = 16;
-pub(super) const LOG_BYTES: usize = MAX_DIAGNOSTICS * RECORD_BYTES;
+/// The log that the port is lent: 1,024 records.
+pub(super) const LOG_BYTES: usize = 1024 * RECORD_BYTES;
 
 fn stage_number(stage: Stage) -> u8 {
     match stage {

@@ -4,7 +4,8 @@ use super::bus::{ready, value};
 use super::firmware::{activate, power_on};
 use super::script::Script;
 use crate::ssd1677::tests::configuration::Configuration;
-use crate::ssd1677::tests::configurations;
+use crate::ssd1677::tests::configurations::{self, Geometry};
+use crate::ssd1677::tests::settings;
 
 /// Events before a start do nothing, a refused start starts nothing, a second start begins anew.
 pub(super) fn starts(script: &mut Script) {
@@ -114,5 +115,36 @@ fn prepare(script: &mut Script) {
             script.write(0x37, &[0, 1, 2, 3, 4, byte, 6, 7, 8, 9]);
         }
         _ => power_on(script),
+    }
+}
+
+/// Tables of up to sixteen entries whose ranges overlap, asked for temperatures at their bounds.
+pub(super) fn waveforms(script: &mut Script) {
+    let panel = Geometry::small(&mut script.random);
+    let mut configuration = configurations::reference(panel);
+    configuration.otp.clear();
+    let entries = script.random.pick(&[1, 2, 2, 3, 3, 4, 5, 16]);
+    for place in 0..entries {
+        let mut setting = settings::setting(&mut script.random);
+        settings::make_listed(&mut setting, &mut script.random);
+        // A byte that nothing reads tells the entries apart.
+        setting[111] = place;
+        let lower = script.random.pick(&[0x800, 0x800, 0xF00, 0, 400]);
+        let upper = script.random.pick(&[0x7FF, 0x7FF, 800, 400, 0]);
+        let mode = script.random.pick(&[0, 1]);
+        configuration.push_entry(mode, [lower, upper], &setting);
+    }
+    script.start(&configuration);
+    for _ in 0..script.random.between(3, 6) {
+        let edges = [
+            0x800, 0x801, 0xEFF, 0xF00, 0xF01, 0xFFF, 0, 1, 399, 400, 401, 800, 801,
+        ];
+        let register: u16 = script.random.pick(&edges);
+        let [high, low] = (register << 4).to_be_bytes();
+        script.write(0x1A, &[high, low]);
+        let stages = script.random.pick(&[0x90, 0x98, 0x91, 0x99, 0xD4, 0xDC]);
+        activate(script, stages);
+        script.dump();
+        script.wait();
     }
 }
