@@ -3,10 +3,6 @@
 pub(super) struct Random(u64);
 
 impl Random {
-    pub(super) fn new(seed: u64) -> Random {
-        Random(seed)
-    }
-
     /// The numbers of the sequence `place` under `seed`, which need none of those before it.
     pub(super) fn of_place(seed: u64, place: u64) -> Random {
         let mut random = Random(seed);

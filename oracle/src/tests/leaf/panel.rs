@@ -6,7 +6,7 @@ use super::glass::push_waveform;
 use super::{Arguments, Leaf, option, ram};
 use crate::ssd1677::panel::{Panel, PlaneOption, RefreshKind, Scan, ram_row_of_gate};
 use crate::ssd1677::tests::configuration::Configuration;
-use crate::ssd1677::tests::configurations::{self, Geometry};
+use crate::ssd1677::tests::configurations::Geometry;
 use crate::ssd1677::tests::random::Random;
 use crate::ssd1677::tests::{hash, inside, settings};
 use crate::ssd1677::waveform::{Drive, Waveform};
