@@ -1,0 +1,76 @@
+//! The oracle's programs (oracle/README.md). The reference names this module `tests`.
+
+mod bench;
+mod configuration;
+mod configurations;
+mod dump;
+mod figures;
+mod generate;
+mod hash;
+mod inside;
+mod leaf;
+mod line;
+mod listing;
+mod random;
+mod record;
+mod replay;
+mod settings;
+mod tally;
+
+use std::io::{self, Read, Write};
+
+use super::Ssd1677;
+
+const USAGE: &str = "usage: oracle replay < events
+       oracle broken WAY
+       oracle tally < events
+       oracle generate SEED COUNT [FAMILY]
+       oracle leaf < questions
+       oracle leaf-generate NAME|all SEED COUNT
+       oracle listing < setting
+       oracle figures";
+
+impl crate::Judge for Ssd1677 {
+    fn run(arguments: &[String]) -> bool {
+        let words: Vec<&str> = arguments.iter().map(String::as_str).collect();
+        let mut out = io::BufWriter::with_capacity(1 << 16, io::stdout().lock());
+        let done = match words.as_slice() {
+            ["replay"] => replay::run(&input(), &mut out),
+            ["generate", seed, count, family @ ..] if family.len() <= 1 => {
+                let family = family.first().copied();
+                match (seed.parse(), count.parse()) {
+                    (Ok(seed), Ok(count)) => generate::run(seed, count, family, &mut out),
+                    _ => return usage(),
+                }
+            }
+            ["broken", way] => match way.parse() {
+                Ok(way) => generate::broken(way, &mut out),
+                Err(_) => return usage(),
+            },
+            ["tally"] => tally::run(&input(), &mut out),
+            ["leaf"] => leaf::run(&input(), &mut out),
+            ["leaf-generate", name, seed, count] => match (seed.parse(), count.parse()) {
+                (Ok(seed), Ok(count)) => leaf::generate(name, seed, count, &mut out),
+                _ => return usage(),
+            },
+            ["listing"] => write!(out, "{}", listing::listing(&input())).map(|()| true),
+            ["figures"] => figures::run(&mut out),
+            _ => return usage(),
+        };
+        done.and_then(|agreed| out.flush().map(|()| agreed))
+            .unwrap_or(false)
+    }
+}
+
+fn usage() -> bool {
+    eprintln!("{USAGE}");
+    false
+}
+
+/// All of standard input.
+fn input() -> Vec<u8> {
+    let mut bytes = Vec::new();
+    // A closed input is an empty one.
+    let _ = io::stdin().lock().read_to_end(&mut bytes);
+    bytes
+}

@@ -1,0 +1,130 @@
+//! The device under replay: the reference, and beside it what the port lends or keeps and the
+//! reference does not (the log's bytes, the LUT buffer, the border byte of a refresh).
+
+use emu_core::Cycles;
+
+use super::{hash, inside, record};
+use crate::ssd1677::config::Temperature;
+use crate::ssd1677::panel::{PlaneOption, RefreshKind, Scan};
+use crate::ssd1677::waveform::Waveform;
+use crate::ssd1677::{Power, Ssd1677};
+
+/// `0x20`, the command that starts a refresh.
+const ACTIVATE: u8 = 0x20;
+
+pub(super) struct Bench {
+    pub(super) device: Ssd1677,
+    log: Vec<u8>,
+    /// The diagnostics of `device` that stand in `log`.
+    logged: usize,
+    /// The hash of the LUT buffer.
+    pub(super) luts: u64,
+    /// The border register when the last refresh began.
+    pub(super) border: u8,
+}
+
+impl Bench {
+    pub(super) fn new(device: Ssd1677) -> Bench {
+        let pixels = device.panel_image().pixels.len();
+        Bench {
+            device,
+            log: vec![0; record::LOG_BYTES],
+            logged: 0,
+            luts: hash::of_bytes(&vec![255; pixels]),
+            border: 0,
+        }
+    }
+
+    pub(super) fn command(&mut self, time: u64, command: u8) {
+        if command == ACTIVATE {
+            self.activate(time);
+        } else {
+            self.device.write_command(Cycles(time), command);
+        }
+    }
+
+    /// `0x20`, and what the LUT buffer and the border byte become.
+    ///
+    /// An accepted activation has begun a refresh when one is running after it, or, when the
+    /// refresh also ended within the call, when an image was published. None can be running
+    /// before: BUSY lasts at least as long as the refresh. The advance before is the one that
+    /// `write_command` itself begins with; made twice, it does no more than once.
+    fn activate(&mut self, time: u64) {
+        let device = &mut self.device;
+        device.advance(Cycles(time));
+        let accepted = device.power == Power::Running && !device.is_busy(device.now);
+        let generation = device.panel_image().generation;
+        assert!(!accepted || device.display.is_none(), "two refreshes");
+        device.write_command(Cycles(time), ACTIVATE);
+        if !accepted {
+            return;
+        }
+        if let Some(display) = &device.display {
+            self.luts = hash::of_bytes(&inside::luts(display));
+        } else if device.panel_image().generation != generation {
+            self.luts = self.choice_again();
+        } else {
+            return;
+        }
+        self.border = self.device.regs.border;
+    }
+
+    /// The hash of the LUTs of a refresh that is already over. The reference dropped them, so its
+    /// `Panel::start` is asked once more: an activation changes neither the RAM nor the registers
+    /// of the scan, and a finished refresh leaves the wiring of the glass alone, so its answer is
+    /// the same. The waveform, the border and the times take no part in the choice.
+    fn choice_again(&self) -> u64 {
+        let regs = &self.device.regs;
+        let scan = Scan {
+            lines: regs.mux + 1,
+            order: regs.gate_scan,
+            red: PlaneOption::from_nibble(regs.update_control_1[0] >> 4),
+            black_white: PlaneOption::from_nibble(regs.update_control_1[0]),
+        };
+        let waveform = Waveform::from_setting(&regs.lut, &self.device.config.timing.frame_period);
+        let times = (Cycles::ZERO, Cycles::ZERO);
+        let panel = &self.device.panel;
+        let kind = RefreshKind::Full;
+        let display = panel.start(&self.device.ram, scan, waveform, None, kind, times);
+        hash::of_bytes(&inside::luts(&display))
+    }
+
+    pub(super) fn data(&mut self, time: u64, data: u8) {
+        self.device.write_data(Cycles(time), data);
+    }
+
+    pub(super) fn read(&mut self, time: u64) -> Option<u8> {
+        self.device.read_data(Cycles(time))
+    }
+
+    pub(super) fn reset(&mut self, time: u64, asserted: bool) {
+        self.device.set_reset(Cycles(time), asserted);
+    }
+
+    pub(super) fn advance(&mut self, time: u64) {
+        self.device.advance(Cycles(time));
+    }
+
+    pub(super) fn set_ambient(&mut self, register: u16) {
+        let ambient = Temperature::from_register(register);
+        self.device.set_ambient(ambient);
+    }
+
+    /// The log's bytes and its count of records.
+    pub(super) fn log(&mut self) -> (&[u8], usize) {
+        let diagnostics = &self.device.diagnostics;
+        for (place, diagnostic) in diagnostics.iter().enumerate().skip(self.logged) {
+            let at = place * record::RECORD_BYTES;
+            self.log[at..at + record::RECORD_BYTES].copy_from_slice(&record::record(diagnostic));
+        }
+        self.logged = diagnostics.len();
+        (&self.log, self.logged)
+    }
+
+    /// Takes the diagnostics: their bytes stay, and the next record is written at the log's start.
+    pub(super) fn take_diagnostics(&mut self) -> usize {
+        self.log();
+        self.logged = 0;
+        self.device.take_diagnostics().len()
+    }
+}

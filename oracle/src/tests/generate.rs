@@ -1,0 +1,85 @@
+//! Seeded sequences of events in the replay format, in families (oracle/README.md).
+
+mod broken;
+mod bus;
+mod driving;
+mod exhaustive;
+mod firmware;
+mod memory;
+mod script;
+mod starts;
+
+use std::io::{self, Write};
+
+use script::Script;
+
+use super::random::Random;
+
+/// A family of sequences.
+type Family = (&'static str, fn(&mut Script));
+
+const FAMILIES: [Family; 19] = [
+    ("firmware", firmware::session),
+    ("reset", driving::reset_timing),
+    ("cut", driving::cut_edges),
+    ("ends", driving::two_ends),
+    ("sleep", bus::sleep),
+    ("parameters", bus::parameters),
+    ("reads", bus::reads),
+    ("busy", bus::busy),
+    ("counters", memory::counters),
+    ("options", memory::options),
+    ("clocks", driving::clocks),
+    ("extremes", driving::extremes),
+    ("geometry", memory::geometry),
+    ("logs", bus::logs),
+    ("streams", memory::streams),
+    ("starts", starts::starts),
+    ("supplies", starts::supplies),
+    ("waveforms", starts::waveforms),
+    ("chaos", bus::chaos),
+];
+
+/// Those that are long and written only by name.
+const BY_NAME: [Family; 2] = [("pairs", exhaustive::pairs), ("values", exhaustive::values)];
+
+/// Writes `count` sequences, the families in turn, or those of one family alone. Each begins with a
+/// new case and ends with a dump; a sequence depends on the seed and on its own number alone.
+pub(super) fn run(
+    seed: u64,
+    count: u64,
+    family: Option<&str>,
+    out: &mut impl Write,
+) -> io::Result<bool> {
+    let mut all = FAMILIES.iter().chain(&BY_NAME);
+    let chosen: Vec<Family> = match family {
+        None => FAMILIES.to_vec(),
+        Some(name) => all
+            .clone()
+            .filter(|(known, _)| *known == name)
+            .copied()
+            .collect(),
+    };
+    if chosen.is_empty() {
+        let names: Vec<&str> = all.by_ref().map(|(name, _)| *name).collect();
+        eprintln!("the families are: {}", names.join(" "));
+        return Ok(false);
+    }
+    let families = chosen.len() as u64;
+    for case in 0..count {
+        let (_, write) = chosen[usize::try_from(case % families).expect("a family")];
+        let random = Random::of_place(seed, case);
+        let mut script = Script::new(case, case / families, random);
+        write(&mut script);
+        out.write_all(script.finish().as_bytes())?;
+    }
+    Ok(true)
+}
+
+/// Writes the run that ends at bad line number `way`; whether there is one.
+pub(super) fn broken(way: usize, out: &mut impl Write) -> io::Result<bool> {
+    match broken::run(way) {
+        Some(text) => write!(out, "{text}").map(|()| true),
+        None => Ok(false),
+    }
+}

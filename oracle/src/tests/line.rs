@@ -1,0 +1,71 @@
+//! The input lines of docs/replay-format.md.
+
+use std::fmt;
+
+use super::configuration::{FIELDS, largest};
+
+/// NUMBER, KIND and VALUE, then LF.
+pub(super) const LINE_BYTES: usize = 27;
+
+/// Decimal digits right-justified in `column`, blanks in front, no leading zeros.
+fn column(column: &[u8]) -> Option<u64> {
+    let digits = column.trim_ascii_start();
+    // `trim_ascii_start` takes other blanks than the space too.
+    let blanks = &column[..column.len() - digits.len()];
+    let plain = digits.iter().all(u8::is_ascii_digit) && blanks.iter().all(|&b| b == b' ');
+    let leading_zero = digits.len() > 1 && digits[0] == b'0';
+    if !plain || leading_zero {
+        return None;
+    }
+    // An empty column and a number from 2^64 on fail here.
+    std::str::from_utf8(digits).ok()?.parse().ok()
+}
+
+/// One line of input.
+#[derive(Clone, Copy, Debug, PartialEq, Eq)]
+pub(super) struct Line {
+    pub(super) number: u64,
+    pub(super) kind: u8,
+    pub(super) value: u16,
+}
+
+impl Line {
+    /// The line of `bytes`; `None` when it is none of the format's.
+    pub(super) fn parse(bytes: &[u8]) -> Option<Line> {
+        if bytes.len() != LINE_BYTES || bytes[LINE_BYTES - 1] != b'\n' {
+            return None;
+        }
+        let line = Line {
+            number: column(&bytes[0..20])?,
+            kind: u8::try_from(column(&bytes[20..22])?).ok()?,
+            value: u16::try_from(column(&bytes[22..26])?).ok()?,
+        };
+        line.is_listed().then_some(line)
+    }
+
+    /// Whether the columns shown as 0 are 0 and every number fits its field.
+    fn is_listed(self) -> bool {
+        let Line {
+            number,
+            kind,
+            value,
+        } = self;
+        match kind {
+            1 | 2 => value <= 255,
+            4 => value <= 1,
+            3 | 5 | 6 | 8 => value == 0,
+            7 | 13 | 14 => number == 0 && value == 0,
+            9 => number <= u64::from(u16::MAX) && value == 0,
+            10 => number == 0,
+            11 => usize::from(value) < FIELDS && number <= largest(usize::from(value)),
+            12 => number <= 255,
+            _ => false,
+        }
+    }
+}
+
+impl fmt::Display for Line {
+    fn fmt(&self, f: &mut fmt::Formatter<'_>) -> fmt::Result {
+        writeln!(f, "{:20}{:2}{:4}", self.number, self.kind, self.value)
+    }
+}
