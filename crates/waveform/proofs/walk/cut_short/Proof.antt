@@ -1,5 +1,5 @@
 -- `waveform::walk::cut_short` meets its contract. Assumes nothing.
-use mathlib.Core.Path.{_≡_, ap, _∙_}
+use mathlib.Core.Path.{ap, _∙_}
 use Prim.Native.Nat.{ℕ}
 use lib.Dec.{ltb}
 use Rattle.waveform.specs.Walks.{pushed}
