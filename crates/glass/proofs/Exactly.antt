@@ -8,7 +8,7 @@ use native.Mathlib.Omega.{arith}
 use native.Mathlib.Decide.{decLt}
 use lib.IntN.{ℤ, pos, negsuc, negℤ, _+ℤ_}
 use lib.Dec.{ltb}
-use borrow.Author.Tests.{ltb-true, ltb-false}
+use borrow.Author.Tests.{ltb-true}
 use Rattle.numbers.specs.Saturation.{clampZ}
 use Rattle.numbers.proofs.Lin.{whole}
 use Rattle.numbers.proofs.Hold.{clamp-low, clamp-high, clamp-mid}

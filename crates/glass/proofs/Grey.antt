@@ -7,7 +7,6 @@ use native.Mathlib.Omega.{arith}
 use native.Mathlib.Nat.{div-eq-of-lt, le-div-iff-mul-le, zero-div}
 use lib.IntN.{ℤ, pos, negsuc, natAbs, _+ℤ_, _*ℤ_}
 use lib.Signed.{leZ, quotZ, _≤ℤ_}
-use Rattle.numbers.specs.Saturation.{clampZ}
 use Rattle.glass.specs.Greys.{levelZ, grayZ}
 use Rattle.numbers.proofs.Lin.{Le, up, down, whole, add-out, scale-up, scale-down, quot-up, quot-down, up-le, down-le}
 use Rattle.numbers.proofs.Hold.{clamp-low', clamp-high', clamp-mid}

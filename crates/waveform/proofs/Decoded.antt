@@ -1,11 +1,11 @@
 -- A decoded waveform is one that the walks take: its voltages lie from −17,000 to 17,000, and its groups have a frame period.
 -- Assumes nothing.
-use mathlib.Core.Path.{_≡_, refl, sym, subst}
+use mathlib.Core.Path.{_≡_, refl, sym, ap, subst, _∙_}
 use mathlib.Core.Bool.{Bool, true, false, _&&_}
 use mathlib.Core.List.{List, [], _∷_}
-use Prim.Native.Nat.{ℕ, _+_, _-_, _*_, _/_, _%_, _≤_, _<_}
+use Prim.Native.Nat.{ℕ, _+_, _-_, _/_, _%_, _≤_, _<_}
 use native.Mathlib.Omega.{arith}
-use lib.IntN.{ℤ, pos, negℤ}
+use lib.IntN.{ℤ, pos}
 use lib.Dec.{leb, eqb}
 use lib.ListN.{getD}
 use borrow.Author.Tests.{leb-true}
@@ -13,14 +13,16 @@ use Rattle.numbers.specs.Choice.{pick}
 use Rattle.numbers.proofs.Cases.{left, right}
 use Rattle.numbers.proofs.Lin.{whole, le-in, neg-out}
 use Rattle.numbers.proofs.Painted.{getD-tab}
+use Rattle.glass.specs.declared.Transfer.{Transfer}
 use Rattle.voltage.specs.declared.Millivolts.the-variants.{Listed}
 use Rattle.voltage.specs.Codes.{Line, voltage, has, at, sourceHigh, sourceLow, sourceVoltage, vslLine, vslVoltage, below}
 use Rattle.waveform.specs.declared.Drive.{Drive}
 use Rattle.waveform.specs.declared.Group.{Group}
+use Rattle.waveform.specs.declared.Waveform.{Waveform}
 use Rattle.waveform.specs.Voltages.{orZero, levelsOf, Listable, AllListable}
 use Rattle.waveform.specs.Setting.{frameRateOf, groupCodesOf, timed, waveformOf}
 use Rattle.waveform.specs.Phases.{noGroup, Takes, Timed}
-use Rattle.waveform.specs.Walks.{Walkable}
+use Rattle.waveform.specs.Walks.{Walkable, wholeOf, cutOf, wholeTransfer, cutTransfer}
 use Rattle.waveform.proofs.Range.{no-volts}
 
 -- a line whose millivolts are listable, before lines whose are
@@ -73,3 +75,16 @@ all-timed s p h k l =
 pub walkable : (s p : List ℕ) (drive : Drive) → ((k : ℕ) → k < 16 → 0 < getD p k 0) → Takes drive → Walkable (waveformOf s p) drive
 unfolding waveformOf
 walkable s p drive h t = record { timed = all-timed s p h; listable = levels-listable s; takes = t }
+
+-- ---- for a caller that has decoded w
+module _ (s p : List ℕ) (drive : Drive) {w : Waveform} (decoded : w ≡ waveformOf s p) where
+  pub decoded-walkable : ((k : ℕ) → k < 16 → 0 < getD p k 0) → Takes drive → Walkable w drive
+  decoded-walkable h t = subst (λ (v : Waveform). Walkable v drive) (sym decoded) (walkable s p drive h t)
+
+  pub decoded-whole : (swing : ℤ) (black : Bool) {t : Transfer} → t ≡ wholeOf w drive swing black → t ≡ wholeTransfer s p drive swing black
+  unfolding wholeTransfer
+  decoded-whole swing black e = e ∙ ap (λ (v : Waveform). wholeOf v drive swing black) decoded
+
+  pub decoded-cut : (swing : ℤ) (black : Bool) (until : ℕ) {t : Transfer} → t ≡ cutOf w drive swing black until → t ≡ cutTransfer s p drive swing black until
+  unfolding cutTransfer
+  decoded-cut swing black until e = e ∙ ap (λ (v : Waveform). cutOf v drive swing black until) decoded

@@ -1,6 +1,6 @@
 -- The theorems of the waveform, from a setting's bytes on: for every state from 0 to S the transfer of the whole display, and of the
 -- display up to a cut of at most 2^64 − 2 ns, moves the state as the exact drives do, added in order and each sum held. Assumes nothing.
-use mathlib.Core.Path.{_≡_, refl, sym, ap, subst, _∙_}
+use mathlib.Core.Path.{_≡_, refl, sym, ap, subst}
 use mathlib.Core.Bool.{Bool, true, false}
 use mathlib.Core.List.{List, [], _∷_, foldl}
 use Prim.Native.Nat.{ℕ, zero, suc, _+_, _*_, _-_, _/_, _≤_, _<_}
@@ -19,9 +19,8 @@ use Rattle.waveform.specs.declared.Drive.{Drive}
 use Rattle.waveform.specs.declared.Driving.{Driving}
 use Rattle.waveform.specs.declared.Phase.{Phase}
 use Rattle.waveform.specs.declared.Progress.{Progress}
-use Rattle.waveform.specs.declared.Waveform.{Waveform}
 use Rattle.waveform.specs.Setting.{waveformOf}
-use Rattle.waveform.specs.Walks.{saturatedDrive, pushed, wholeStep, cutStep, endOf, started, drivingOf, wholeOf, cutOf, wholeTransfer, cutTransfer}
+use Rattle.waveform.specs.Walks.{saturatedDrive, pushed, wholeStep, cutStep, started, drivingOf, wholeTransfer, cutTransfer}
 use Rattle.waveform.specs.Exact.{framesDrive, lasts, allDrives, cutDrives, settingPhases}
 use Rattle.waveform.proofs.Products.{drive-like}
 use Rattle.waveform.proofs.Steps.{step-on, step-short, stopped-stays}

@@ -8,7 +8,6 @@ use lib.Signed.{_≤ℤ_}
 use Rattle.numbers.specs.Saturation.{largest}
 use Rattle.numbers.proofs.Lin.{le-in, whole}
 use Rattle.glass.specs.Transfers.{applyT}
-use Rattle.glass.specs.Exact.{drives}
 use Rattle.glass.proofs.Exactly.{drives-mono}
 use Rattle.waveform.specs.declared.Drive.{Drive}
 use Rattle.waveform.specs.Walks.{wholeTransfer, cutTransfer}

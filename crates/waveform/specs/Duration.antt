@@ -1,5 +1,5 @@
 -- How long a display runs, in nanoseconds.
-use mathlib.Core.List.{List, []}
+use mathlib.Core.List.{List}
 use Prim.Native.Nat.{ℕ, zero, suc, _+_, _*_, min}
 use lib.ListN.{getD}
 use Rattle.numbers.specs.Saturation.{largest}

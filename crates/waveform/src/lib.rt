@@ -58,9 +58,9 @@ impl Levels {
         ensures { λ r. ⌜ r ≡ vcomSwing self code ⌝ }
     {
         match code & 3 {
-            1 => self.vsh1,
-            2 => self.vsl,
-            _ => 0,
+            1 => self.vsh1, // VSH1 + DCVCOM
+            2 => self.vsl, // VSL + DCVCOM
+            _ => 0, // DCVCOM
         }
     }
 }

@@ -6,7 +6,7 @@ use crate::Phase;
 use glass::Transfer;
 ghost use mathlib.Core.Path.{_≡_};
 ghost use Prim.Native.Nat.{_<_};
-ghost use Rattle.waveform.specs.Phases.{Takes, codeFor, phaseOf};
+ghost use Rattle.waveform.specs.Phases.{Takes, codeFor};
 ghost use Rattle.waveform.specs.Walks.{Drivable, phaseIn, saturatedDrive, pushed};
 
 // The source's code in a phase.

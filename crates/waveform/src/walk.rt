@@ -10,7 +10,7 @@ use crate::phases;
 use glass::Transfer;
 ghost use mathlib.Core.Path.{_≡_};
 ghost use mathlib.Core.List.{foldl};
-ghost use Prim.Native.Nat.{_<_};
+ghost use Prim.Native.Nat.{_/_, _<_};
 ghost use Rattle.waveform.specs.Phases.{Timed, driven};
 ghost use Rattle.waveform.specs.Walks.{Drivable, Walkable, fourIn, groupIn, groupsIn, wholeStep, cutStep, runOn, cutShort, wholeOf, cutOf, transferOf};
 
@@ -103,12 +103,20 @@ fn run_on(driving: Driving, phase: Phase, end: u64, transfer: Transfer) -> Progr
     }
 }
 
-// A phase that the cut falls into, `left` nanoseconds after its start: its finished frames.
+// The frames that end within so many nanoseconds of a phase's start.
+fn frames_within(ns: u64, frame_ns: u64) -> u64
+    requires { ⌜ 0 < «frame_ns» ⌝ }
+    ensures { λ r. ⌜ r ≡ ns / «frame_ns» ⌝ }
+{
+    ns / frame_ns
+}
+
+// A phase that the cut falls into, `left` nanoseconds after its start.
 fn cut_short(driving: Driving, phase: Phase, left: u64, end: u64, transfer: Transfer) -> Progress
     requires { ⌜ 0 < phase .«frame_ns» ⌝ }
     ensures { λ r. ⌜ r ≡ cutShort driving phase left end transfer ⌝ }
 {
-    let run = left / phase.frame_ns;
+    let run = frames_within(left, phase.frame_ns);
     let transfer = phases::push(driving, phase, run, transfer);
     Progress {
         transfer,

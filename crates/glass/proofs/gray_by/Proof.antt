@@ -1,6 +1,6 @@
 -- `glass::gray_by` meets its contract. Assumes nothing.
 use mathlib.Core.Path.{_≡_, sym, ap, _∙_}
-use Prim.Native.Nat.{ℕ, _+_, _*_, _/_, _%_, _<_}
+use Prim.Native.Nat.{ℕ, _/_, _%_, _<_}
 use native.Mathlib.Omega.{arith}
 use lib.IntN.{ℤ, pos, natAbs}
 use lib.Signed.{leZ, pos-natAbs}
@@ -8,7 +8,7 @@ use mir.Syntax.{w64}
 use mir.Val.{SFits}
 use Rattle.glass.specs.declared.Shade.{Shade}
 use Rattle.glass.specs.Greys.{grayZ}
-use Rattle.numbers.proofs.Lin.{whole, rd, ranged, back, field-back, unsigned, abs-pos, abs-back}
+use Rattle.numbers.proofs.Lin.{whole, rd, ranged, back, unsigned, abs-pos, abs-back}
 use Rattle.numbers.proofs.Quot.{gray-lt}
 use Rattle.glass.proofs.Grey.{gray-low, gray-high, gray-mid}
 use Rattle.glass.proofs.gray_by.Statement.{statement}

@@ -1,6 +1,6 @@
 -- `glass::half_steps` meets its contract. Assumes nothing.
-use mathlib.Core.Path.{_≡_, sym, ap, subst, _∙_}
-use Prim.Native.Nat.{ℕ, _+_, _*_, _/_, _%_, _-_, _≤_, _<_}
+use mathlib.Core.Path.{_≡_, ap, _∙_}
+use Prim.Native.Nat.{ℕ, _*_, _/_, _%_, _-_}
 use native.Mathlib.Omega.{arith}
 use Rattle.numbers.proofs.Quot.{cross-le, rem-small, steps-yes, steps-no, steps-pos}
 use borrow.Author.Needs.{needs}

@@ -1,7 +1,6 @@
 -- `glass::level` meets its contract. Assumes nothing.
-use mathlib.Core.Path.{_≡_, sym, ap, subst, _∙_}
-use Prim.Native.Nat.{ℕ, _*_, _/_, _≤_}
-use lib.IntN.{ℤ, pos, natAbs}
+use mathlib.Core.Path.{ap, _∙_}
+use lib.IntN.{pos, natAbs}
 use lib.Signed.{pos-natAbs}
 use Rattle.glass.specs.Greys.{levelZ}
 use Rattle.numbers.proofs.Lin.{whole, rd, ranged, back, unsigned, abs-pos, abs-back}

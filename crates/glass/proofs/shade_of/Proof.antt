@@ -1,6 +1,5 @@
 -- `glass::shade_of` meets its contract. Assumes nothing.
-use mathlib.Core.Path.{_≡_, ap}
-use lib.IntN.{ℤ}
+use mathlib.Core.Path.{ap}
 use Rattle.glass.specs.Greys.{shadeOf}
 use Rattle.numbers.proofs.Lin.{whole, back, unsigned}
 use Rattle.glass.proofs.shade_of.Statement.{statement}

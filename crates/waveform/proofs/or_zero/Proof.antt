@@ -1,5 +1,5 @@
 -- `waveform::or_zero` meets its contract. Assumes nothing.
-use mathlib.Core.Path.{_≡_, sym, ap, _∙_}
+use mathlib.Core.Path.{sym, ap, _∙_}
 use Rattle.waveform.specs.Voltages.{orZero}
 use Rattle.numbers.proofs.Lin.{field-back}
 use borrow.Author.Needs.{needs}

@@ -1,5 +1,5 @@
 -- `waveform::Levels::from_setting` meets its contract. Assumes nothing.
-use mathlib.Core.Path.{_≡_, ap, _∙_}
+use mathlib.Core.Path.{ap, _∙_}
 use Rattle.numbers.proofs.Lin.{got}
 use Rattle.waveform.specs.Voltages.{orZero, levelsOf}
 use borrow.Author.Needs.{needs}

@@ -1,5 +1,5 @@
 -- `waveform::duration::group_ns` meets its contract. Assumes nothing.
-use mathlib.Core.Path.{_≡_, ap, _∙_}
+use mathlib.Core.Path.{ap, _∙_}
 use Prim.Native.Nat.{ℕ, _*_, min}
 use Rattle.numbers.specs.Saturation.{largest}
 use Rattle.waveform.specs.Duration.{framesOf, groupNs}

@@ -1,7 +1,7 @@
 -- `waveform::phases::code_for` meets its contract. Assumes nothing.
 use Prim.Native.Nat.{_<_}
 use native.Mathlib.Omega.{arith}
-use mathlib.Core.Path.{_≡_, ap, sym, subst}
+use mathlib.Core.Path.{ap, sym, subst}
 use Rattle.waveform.specs.declared.Drive.{Drive}
 use Rattle.waveform.specs.Phases.{codeFor, Takes}
 use borrow.Author.Needs.{needs}

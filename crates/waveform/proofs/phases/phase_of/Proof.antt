@@ -1,11 +1,9 @@
 -- `waveform::phases::phase_of` meets its contract. Assumes nothing.
 use mathlib.Core.Path.{_≡_, ap, sym, subst, _∙_}
-use Prim.Native.Nat.{ℕ, _+_}
-use lib.IntN.{ℤ, _-ℤ_}
+use Prim.Native.Nat.{_+_}
+use lib.IntN.{_-ℤ_}
 use lib.ListN.{getD}
 use Rattle.numbers.proofs.Lin.{whole, rd, back, got, sub-out, fits-is}
-use Rattle.waveform.specs.declared.Group.{Group}
-use Rattle.waveform.specs.declared.Phase.{Phase}
 use Rattle.waveform.specs.Voltages.{sourceLevel, vcomSwing, Listable}
 use Rattle.waveform.specs.Phases.{codeFor, phaseOf}
 use Rattle.waveform.proofs.Range.{source-listable, vcom-listable}

@@ -1,5 +1,5 @@
 -- `waveform::phases::push` meets its contract. Assumes nothing.
-use mathlib.Core.Path.{_≡_, ap, _∙_}
+use mathlib.Core.Path.{ap, _∙_}
 use lib.IntN.{ℤ}
 use Rattle.glass.specs.Transfers.{thenT, shiftT}
 use Rattle.numbers.proofs.Lin.{got, field-back}

@@ -1,5 +1,5 @@
 -- `waveform::setting::group_of` meets its contract. Assumes nothing.
-use mathlib.Core.Path.{_≡_, sym, ap, subst, _∙_}
+use mathlib.Core.Path.{sym, ap, subst, _∙_}
 use Prim.Native.Nat.{_<_}
 use Rattle.waveform.specs.declared.GroupCodes.{GroupCodes}
 use Rattle.waveform.specs.Setting.{groupCodesOf, timed}

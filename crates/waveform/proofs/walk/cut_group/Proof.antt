@@ -2,7 +2,7 @@
 use mathlib.Core.Path.{_≡_, refl, ap, _∙_}
 use native.Mathlib.Omega.{arith}
 use Prim.Native.Nat.{ℕ, _≤_, _-_}
-use mathlib.Core.List.{List, foldl}
+use mathlib.Core.List.{foldl}
 use Rattle.waveform.specs.Phases.{joined}
 use Rattle.waveform.specs.Walks.{fourIn, cutStep}
 use Rattle.waveform.proofs.Joined.{fold-none, fold-more}

@@ -2,7 +2,7 @@
 use mathlib.Core.Path.{_≡_, ap, _∙_}
 use native.Mathlib.Omega.{arith}
 use Prim.Native.Nat.{ℕ, _≤_, _-_}
-use mathlib.Core.List.{List, foldl}
+use mathlib.Core.List.{foldl}
 use lib.ListN.{getD}
 use Rattle.waveform.specs.Phases.{noGroup, joined}
 use Rattle.waveform.specs.Walks.{groupIn, cutStep}

@@ -2,7 +2,7 @@
 use mathlib.Core.Path.{_≡_, ap, sym, subst, _∙_}
 use native.Mathlib.Omega.{arith}
 use Prim.Native.Nat.{ℕ, _<_, _≤_, _-_}
-use mathlib.Core.List.{List, foldl}
+use mathlib.Core.List.{foldl}
 use Rattle.waveform.specs.declared.Phase.{Phase}
 use Rattle.waveform.specs.Phases.{phaseOf, driven, joined}
 use Rattle.waveform.specs.Walks.{phaseIn, fourIn, cutStep}

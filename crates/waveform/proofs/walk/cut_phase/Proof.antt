@@ -2,9 +2,8 @@
 use mathlib.Core.Path.{_≡_, sym, ap, _∙_}
 use Prim.Native.Nat.{ℕ, _+_, min}
 use native.Mathlib.Omega.{arith}
-use mathlib.Core.List.{List, foldl}
+use mathlib.Core.List.{foldl}
 use Rattle.numbers.specs.Saturation.{largest}
-use Rattle.waveform.specs.declared.Phase.{Phase}
 use Rattle.waveform.specs.Phases.{driven}
 use Rattle.waveform.specs.Walks.{cutStep, cutShort, runOn, endOf}
 use Rattle.waveform.proofs.Joined.{driven-none, driven-some}

@@ -1,13 +1,14 @@
 -- `waveform::walk::cut_short` meets its contract. Assumes nothing.
-use mathlib.Core.Path.{_≡_}
-use Prim.Native.Nat.{_/_}
+use mathlib.Core.Path.{ap, _∙_}
+use Prim.Native.Nat.{ℕ}
 use lib.Dec.{ltb}
+use Rattle.waveform.specs.Walks.{pushed}
 use borrow.Author.Needs.{needs}
 use Rattle.waveform.proofs.walk.cut_short.Statement.{statement}
 use Rattle.waveform.proofs.walk.cut_short.Tie as tie
 
-div-run : tie.Need-div-run
-div-run c = search needs
+frames-within-requires : tie.Need-frames-within-requires
+frames-within-requires c κs = search needs
 
 push-requires : tie.Need-push-requires
 push-requires c κs = search needs
@@ -15,7 +16,12 @@ push-requires c κs = search needs
 returns : tie.Need-returns
 returns c =
     let s = c .before .before .before .args in
-    λ i. record { transfer = c .before .push .ensures i; elapsed = s .end; stopped = ltb (s .left / s .phase .«frame_ns») (s .phase .frames) }
+    let run = c .before .before .frames-within .ensures in
+    λ i. record {
+      transfer = (c .before .push .ensures ∙ ap (λ (n : ℕ). pushed (s .driving) (s .phase) n (s .transfer)) run) i;
+      elapsed = s .end;
+      stopped = ltb (run i) (s .phase .frames);
+    }
 
 pub cut-short-spec : {M : Type 1} → statement M
-cut-short-spec = tie.close (tie.spec div-run push-requires returns)
+cut-short-spec = tie.close (tie.spec frames-within-requires push-requires returns)

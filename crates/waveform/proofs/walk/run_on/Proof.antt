@@ -1,5 +1,4 @@
 -- `waveform::walk::run_on` meets its contract. Assumes nothing.
-use mathlib.Core.Path.{_≡_}
 use mathlib.Core.Bool.{false}
 use borrow.Author.Needs.{needs}
 use Rattle.waveform.proofs.walk.run_on.Statement.{statement}

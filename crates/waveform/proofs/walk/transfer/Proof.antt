@@ -1,8 +1,7 @@
 -- `waveform::walk::transfer` meets its contract. Assumes nothing.
-use mathlib.Core.Path.{_≡_, sym, ap, _∙_}
+use mathlib.Core.Path.{sym, ap, _∙_}
 use lib.IntN.{ℤ}
 use Rattle.numbers.proofs.Lin.{back}
-use Rattle.waveform.specs.declared.Until.{Until}
 use Rattle.waveform.specs.Walks.{wholeOf, cutOf, transferOf}
 use borrow.Author.Needs.{needs}
 use Rattle.waveform.proofs.walk.transfer.Statement.{statement}

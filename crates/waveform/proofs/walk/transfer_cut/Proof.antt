@@ -1,7 +1,7 @@
 -- `waveform::walk::transfer_cut` meets its contract. Assumes nothing.
-use mathlib.Core.Path.{_≡_, ap, _∙_}
+use mathlib.Core.Path.{ap, _∙_}
 use mathlib.Core.Bool.{false}
-use mathlib.Core.List.{List, foldl}
+use mathlib.Core.List.{foldl}
 use Rattle.glass.specs.Transfers.{identityT}
 use Rattle.numbers.proofs.Lin.{back}
 use Rattle.waveform.specs.declared.Progress.{Progress}

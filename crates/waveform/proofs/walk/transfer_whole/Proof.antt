@@ -1,6 +1,6 @@
 -- `waveform::walk::transfer_whole` meets its contract. Assumes nothing.
-use mathlib.Core.Path.{_≡_, ap, _∙_}
-use mathlib.Core.List.{List, foldl}
+use mathlib.Core.Path.{ap, _∙_}
+use mathlib.Core.List.{foldl}
 use Rattle.glass.specs.Transfers.{identityT}
 use Rattle.numbers.proofs.Lin.{back}
 use Rattle.waveform.specs.Phases.{phasesOf}

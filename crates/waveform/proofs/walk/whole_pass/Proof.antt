@@ -1,10 +1,10 @@
 -- `waveform::walk::whole_pass` meets its contract. Assumes nothing.
-use mathlib.Core.Path.{_≡_, ap, sym, subst, _∙_}
+use mathlib.Core.Path.{_≡_, ap, _∙_}
 use native.Mathlib.Omega.{arith}
-use Prim.Native.Nat.{ℕ, _<_, _≤_, _-_}
-use mathlib.Core.List.{List, foldl}
+use Prim.Native.Nat.{ℕ, _≤_, _-_}
+use mathlib.Core.List.{foldl}
 use Rattle.waveform.specs.declared.Phase.{Phase}
-use Rattle.waveform.specs.Phases.{phaseOf, driven, joined}
+use Rattle.waveform.specs.Phases.{driven, joined}
 use Rattle.waveform.specs.Walks.{phaseIn, wholeStep}
 use Rattle.waveform.proofs.Joined.{fold-none, fold-more}
 use borrow.Author.Needs.{needs}

@@ -1,7 +1,6 @@
 -- `waveform::walk::whole_phase` meets its contract. Assumes nothing.
-use mathlib.Core.Path.{_≡_, sym, ap, _∙_}
-use mathlib.Core.List.{List, foldl}
-use Rattle.waveform.specs.declared.Phase.{Phase}
+use mathlib.Core.Path.{sym, ap, _∙_}
+use mathlib.Core.List.{foldl}
 use Rattle.waveform.specs.Walks.{wholeStep}
 use Rattle.waveform.proofs.Joined.{driven-none, driven-some}
 use borrow.Author.Needs.{needs}
