@@ -2,3 +2,4 @@
 pub mod Start
 pub mod Drives
 pub mod Steps
+pub mod Exactly

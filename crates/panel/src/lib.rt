@@ -7,6 +7,7 @@ use waveform::Drive;
 use waveform::Until;
 
 pub mod refresh;
+
 ghost use mathlib.Core.Path.{_≡_};
 ghost use Prim.Native.Nat.{_≤_};
 ghost use lib.IntN.{pos};

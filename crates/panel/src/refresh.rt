@@ -85,13 +85,7 @@ fn moved(transfers: [Transfer; 4], lut: u8, state: i64) -> i64
 }
 
 // One pass: each driven state moved, and every pixel the grey of its state.
-fn paint(
-    transfers: [Transfer; 4],
-    shade: Shade,
-    luts: &[u8],
-    states: &mut [i64],
-    pixels: &mut [u8],
-)
+fn paint(transfers: [Transfer; 4], shade: Shade, luts: &[u8], states: &mut [i64], pixels: &mut [u8])
     requires { ⌜ Paintable shade (now luts) (now states) (now pixels) ⌝ }
     ensures { λ _. ⌜ now (states .exit) ≡ tab (length (now (states .entry))) (λ i. movedBy transfers (getD (now (luts .entry)) i 0) (getD (now (states .entry)) i (pos 0))) ⌝ }
     ensures { λ _. ⌜ now (pixels .exit) ≡ tab (length (now (states .entry))) (λ i. grayZ (movedBy transfers (getD (now (luts .entry)) i 0) (getD (now (states .entry)) i (pos 0))) (shade .swing)) ⌝ }

@@ -34,8 +34,8 @@ returns c =
     let a = call .before .args in
     let p = a .panel in
     let border =
-        got (c .apply .ok) (c .apply .ensures ∙ (λ i. applyT (c .before .before .transfer .ensures i) (field-back (p .border) (c .before .struct-told .given .1 .0 .1) i)))
-        ∙ ap (λ (b : Border). borderIn (a .refresh) b (p .border)) (sym (told .drives .given .1) ∙ call .border-drive .ensures) in
+    got (c .apply .ok) (c .apply .ensures ∙ (λ i. applyT (c .before .before .transfer .ensures i) (field-back (p .border) (c .before .struct-told .given .1 .0 .1) i)))
+    ∙ ap (λ (b : Border). borderIn (a .refresh) b (p .border)) (sym (told .drives .given .1) ∙ call .border-drive .ensures) in
     λ i. record { swing = p .swing; border = border i; image = p .image }
 
 returns-2 : tie.Need-returns-2

@@ -59,9 +59,9 @@ loop-again c =
     let a = m .before .before .before .args in
     let i = m .loop .i in
     let is : rd (c .before .moved .result) ≡ movedBy (a .transfers) (getD (a .luts .now) i 0) (getD (a .states .now) i (pos 0)) =
-        got (c .before .moved .ok)
-        (c .before .moved .ensures
-        ∙ ap (movedBy _ _) (field-back _ (c .before .before .moved-arg .given) ∙ painted-next (pos 0) (m .loop .inv .0) (omega arith))) in (
+    got (c .before .moved .ok)
+    (c .before .moved .ensures
+    ∙ ap (movedBy _ _) (field-back _ (c .before .before .moved-arg .given) ∙ painted-next (pos 0) (m .loop .inv .0) (omega arith))) in (
       painted-more (m .loop .inv .0) (omega arith) is,
       painted-more (m .loop .inv .1) (omega arith) (c .gray-by .ensures ∙ ap (λ (z : ℤ). grayZ z (a .shade .swing)) is),
     )
