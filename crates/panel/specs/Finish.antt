@@ -1,0 +1,115 @@
+-- What the end of a display, whole or cut, leaves of the glass (panel.rs, `Panel::finish`).
+use mathlib.Core.Path.{_≡_}
+use mathlib.Core.Bool.{Bool, true, false}
+use mathlib.Core.List.{List}
+use Prim.Native.Nat.{ℕ, _+_, _<_, min}
+use lib.Dec.{ltb}
+use lib.IntN.{ℤ, pos}
+use lib.Signed.{_≤ℤ_}
+use lib.ListN.{length, getD}
+use Rattle.numbers.specs.Choice.{pick}
+use Rattle.numbers.specs.Lists.{tab}
+use Rattle.numbers.specs.Saturation.{largest}
+use Rattle.glass.specs.declared.PanelImage.{PanelImage}
+use Rattle.glass.specs.declared.Transfer.{Transfer}
+use Rattle.glass.specs.Greys.{grayZ}
+use Rattle.glass.specs.Transfers.{applyT}
+use Rattle.waveform.specs.declared.Drive.{Drive}
+use Rattle.waveform.specs.declared.Drive.the-variants.{Lut}
+use Rattle.waveform.specs.declared.Until.{Until}
+use Rattle.waveform.specs.declared.Until.the-variants.{Whole, Cut}
+use Rattle.waveform.specs.Walks.{wholeTransfer, cutTransfer}
+use Rattle.panel.specs.declared.Border.{Border}
+use Rattle.panel.specs.declared.Border.the-variants.{Driven, Left}
+use Rattle.panel.specs.declared.Display.{Display}
+use Rattle.panel.specs.declared.Panel.{Panel}
+use Rattle.panel.specs.Border.{borderDrive}
+
+-- the panel with the lent states and pixels
+pub record Glass : Type 0 where
+  pub panel : Panel
+  pub states : List ℤ
+  pub pixels : List ℕ
+
+abbrev pub glass : Panel → List ℤ → List ℕ → Glass
+glass p s x = record { panel = p; states = s; pixels = x }
+
+-- the end of a display: whether positive drives black, the period of each frame-rate code, when, and how much of the display counts
+pub record Ending : Type 0 where
+  pub display : Display
+  pub black : Bool
+  pub periods : List ℕ
+  pub at : ℕ
+  pub until : Until
+
+abbrev pub ending : Display → Bool → List ℕ → ℕ → Until → Ending
+ending d black periods at until = record { display = d; black = black; periods = periods; at = at; until = until }
+
+-- what a callers of `finish` has: buffers of one length, a swing from 1 on, and frames that last
+pub record Finishable (periods : List ℕ) (swing : ℤ) (states : List ℤ) (luts pixels : List ℕ) : Type 0 where
+  pub luts-long : length luts ≡ length states
+  pub pixels-long : length pixels ≡ length states
+  pub some : pos 1 ≤ℤ swing
+  pub lasting : (code : ℕ) → code < 16 → 0 < getD periods code 0
+
+-- the transfer of a setting's display, whole or up to the cut
+abbrev pub settingTransfer : List ℕ → List ℕ → Drive → ℤ → Bool → Until → Transfer
+settingTransfer s p drive swing black Whole = wholeTransfer s p drive swing black
+settingTransfer s p drive swing black (Cut until) = cutTransfer s p drive swing black until
+
+-- that of the 112 bytes which the running refresh kept
+unfoldable pub transferBy : Ending → ℤ → Drive → Transfer
+transferBy e swing drive = settingTransfer (e .display .setting) (e .periods) drive swing (e .black) (e .until)
+
+-- a pixel's state: LUTs 0 to 3 move it, any other byte leaves it
+unfoldable pub stateAfter : Ending → ℤ → ℕ → ℤ → ℤ
+stateAfter e swing lut state = pick (ltb lut 4) (applyT (transferBy e swing (Lut lut)) state) state
+
+-- the states by pixel
+unfoldable pub statesAfter : Ending → ℤ → List ℕ → List ℤ → List ℤ
+statesAfter e swing luts states = tab (length states) (λ i. stateAfter e swing (getD luts i 0) (getD states i (pos 0)))
+
+-- every pixel shows the grey of its state
+unfoldable pub grays : ℤ → List ℤ → List ℕ
+grays swing states = tab (length states) (λ i. grayZ (getD states i (pos 0)) swing)
+
+-- the border's state, by what drives it
+abbrev pub borderBy : Ending → ℤ → Border → ℤ → ℤ
+borderBy e swing (Driven drive) state = applyT (transferBy e swing drive) state
+borderBy e swing Left state = state
+
+-- a display that a reset cut short
+abbrev pub wasCut : Until → Bool
+wasCut Whole = false
+wasCut (Cut until) = true
+
+-- the header of the image published: one generation more, stopping at 2^64 − 1 (document 01)
+unfoldable pub published : Display → ℕ → Until → Panel → Panel
+published d at until p =
+    record {
+      swing = p .swing;
+      border = p .border;
+      image = record {
+        width = p .image .width;
+        height = p .image .height;
+        border = grayZ (p .border) (p .swing);
+        generation = min (p .image .generation + 1) (largest 64);
+        kind = d .kind;
+        interrupted = wasCut until;
+        started = d .started;
+        at = at;
+      };
+    }
+
+-- the panel with the border's state moved
+abbrev pub withBorder : Panel → ℤ → Panel
+withBorder p state = record { swing = p .swing; border = state; image = p .image }
+
+-- all of it: the driven states moved, all pixels refilled, the border driven or left, the image published
+unfoldable pub finished : Ending → List ℕ → Glass → Glass
+finished e luts g =
+    let p = g .panel in
+    let states = statesAfter e (p .swing) luts (g .states) in
+    glass (published (e .display) (e .at) (e .until) (withBorder p (borderBy e (p .swing) (borderDrive (e .display .border)) (p .border))))
+    states
+    (grays (p .swing) states)

@@ -1,0 +1,5 @@
+-- The root of panel's specs.
+pub mod Border
+pub mod Start
+pub mod Finish
+pub mod Refresh

@@ -1,0 +1,127 @@
+// The parts of a display's end, whole or cut: its transfers, made once, and what they move.
+use crate::Border;
+use crate::Display;
+use crate::Panel;
+use glass::Shade;
+use glass::Transfer;
+use waveform::Drive;
+use waveform::Until;
+use waveform::Waveform;
+ghost use mathlib.Core.Path.{_≡_};
+ghost use lib.IntN.{pos};
+ghost use lib.Signed.{_≤ℤ_};
+ghost use lib.ListN.{length, getD};
+ghost use Rattle.numbers.specs.Lists.{tab};
+ghost use Rattle.glass.specs.Greys.{grayZ, shadeOf};
+ghost use Rattle.waveform.specs.Walks.{Walkable};
+ghost use Rattle.waveform.specs.Setting.{waveformOf};
+ghost use Rattle.panel.specs.Border.{borderDrive};
+ghost use Rattle.panel.specs.Finish.{grays, withBorder};
+ghost use Rattle.panel.specs.Refresh.{Drives, Repaintable, Paintable, refreshOf, transferIn, fourTransfers, movedBy, statesIn, borderIn};
+
+// What the transfers of a display are made from.
+pub struct Refresh {
+    pub waveform: Waveform,
+    pub swing: i64,
+    pub positive_drives_black: bool,
+    pub until: Until,
+}
+
+// The display's 112 setting bytes decoded, with the frame period of each frame-rate code.
+pub(crate) fn refresh_of(
+    panel: Panel,
+    display: Display,
+    positive_drives_black: bool,
+    frame_period: [u64; 16],
+    until: Until,
+) -> Refresh
+    ensures { λ r. ⌜ r ≡ refreshOf (waveformOf (display .setting) «frame_period») (panel .swing) «positive_drives_black» until ⌝ }
+{
+    let setting = display.setting;
+    let waveform = waveform::setting::from_setting(&setting, &frame_period);
+    Refresh {
+        waveform,
+        swing: panel.swing,
+        positive_drives_black,
+        until,
+    }
+}
+
+fn transfer(refresh: Refresh, drive: Drive) -> Transfer
+    requires { ⌜ Walkable (refresh .waveform) drive ⌝ }
+    ensures { λ r. ⌜ r ≡ transferIn refresh drive ⌝ }
+{
+    let waveform = refresh.waveform;
+    let until = refresh.until;
+    waveform::walk::transfer(
+        waveform,
+        drive,
+        refresh.swing,
+        refresh.positive_drives_black,
+        until,
+    )
+}
+
+// Those of LUTs 0 to 3.
+fn transfers(refresh: Refresh) -> [Transfer; 4]
+    requires { ⌜ Drives (refresh .waveform) ⌝ }
+    ensures { λ r. ⌜ r ≡ fourTransfers refresh ⌝ }
+{
+    let lut0 = transfer(refresh, Drive::Lut(0));
+    let lut1 = transfer(refresh, Drive::Lut(1));
+    let lut2 = transfer(refresh, Drive::Lut(2));
+    let lut3 = transfer(refresh, Drive::Lut(3));
+    [lut0, lut1, lut2, lut3]
+}
+
+fn moved(transfers: [Transfer; 4], lut: u8, state: i64) -> i64
+    ensures { λ r. ⌜ r ≡ movedBy transfers lut state ⌝ }
+{
+    if lut < 4 {
+        let transfer = transfers[lut as usize];
+        return transfer.apply(state);
+    }
+    state
+}
+
+// One pass: each driven state moved, and every pixel the grey of its state.
+fn paint(transfers: [Transfer; 4], shade: Shade, luts: &[u8], states: &mut [i64], pixels: &mut [u8])
+    requires { ⌜ Paintable shade (now luts) (now states) (now pixels) ⌝ }
+    ensures { λ _. ⌜ now (states .exit) ≡ tab (length (now (states .entry))) (λ i. movedBy transfers (getD (now (luts .entry)) i 0) (getD (now (states .entry)) i (pos 0))) ⌝ }
+    ensures { λ _. ⌜ now (pixels .exit) ≡ tab (length (now (states .entry))) (λ i. grayZ (movedBy transfers (getD (now (luts .entry)) i 0) (getD (now (states .entry)) i (pos 0))) (shade .swing)) ⌝ }
+{
+    for i in 0..states.len() {
+        let state = moved(transfers, luts[i], states[i]);
+        states[i] = state;
+        pixels[i] = glass::gray_by(shade, state);
+    }
+}
+
+// All pixels, by transfers and a shade made once.
+pub(crate) fn repaint(refresh: Refresh, luts: &[u8], states: &mut [i64], pixels: &mut [u8])
+    requires { ⌜ Repaintable refresh (now luts) (now states) (now pixels) ⌝ }
+    ensures { λ _. ⌜ now (states .exit) ≡ statesIn refresh (now (luts .entry)) (now (states .entry)) ⌝ }
+    ensures { λ _. ⌜ now (pixels .exit) ≡ grays (refresh .swing) (statesIn refresh (now (luts .entry)) (now (states .entry))) ⌝ }
+{
+    let transfers = transfers(refresh);
+    let shade = glass::shade_of(refresh.swing);
+    paint(transfers, shade, luts, &mut states[..], &mut pixels[..]);
+}
+
+// The border, driven or left.
+pub(crate) fn drive_border(refresh: Refresh, border: u8, panel: Panel) -> Panel
+    requires { ⌜ Drives (refresh .waveform) ⌝ }
+    ensures { λ r. ⌜ r ≡ withBorder panel (borderIn refresh (borderDrive border) (panel .border)) ⌝ }
+{
+    let drives = crate::border_drive(border);
+    match drives {
+        Border::Driven(drive) => {
+            let transfer = transfer(refresh, drive);
+            let state = transfer.apply(panel.border);
+            let mut moved = panel;
+            moved.border = state;
+            moved
+        }
+        Border::Left => panel,
+    }
+}
