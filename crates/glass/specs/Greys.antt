@@ -1,9 +1,8 @@
 -- Grey levels and optical states, over ℤ (document 01, glass.rs).
-use Prim.Native.Nat.{ℕ, _/_, _%_}
+use Prim.Native.Nat.{ℕ}
 use lib.IntN.{ℤ, pos, natAbs, _+ℤ_, _*ℤ_}
 use lib.Signed.{quotZ}
 use Rattle.numbers.specs.Saturation.{clampZ}
-use Rattle.glass.specs.declared.Shade.{Shade}
 
 -- the state of a grey: swing × gray / 255, rounded toward 0, which is down for a swing from 1 on
 unfoldable pub levelZ : ℕ → ℤ → ℤ
@@ -12,7 +11,3 @@ levelZ gray swing = quotZ (swing *ℤ pos gray) (pos 255)
 -- the grey of a state: (510 × state + swing) / (2 × swing), rounded toward 0 as the Rust's `/`, held between 0 and 255
 unfoldable pub grayZ : ℤ → ℤ → ℕ
 grayZ state swing = natAbs (clampZ (quotZ (pos 510 *ℤ state +ℤ swing) (pos 2 *ℤ swing)) (pos 0) (pos 255))
-
--- a swing with its quotient and remainder by 510, the half steps of grey from black to white
-abbrev pub shadeOf : ℤ → Shade
-shadeOf swing = record { swing = swing; step = natAbs swing / 510; rest = natAbs swing % 510 }

@@ -1,12 +1,12 @@
 // The glass of an e-paper panel, whatever controller drives it: its optics, the image published after a refresh, and the
 // arithmetic that moves a pixel's optical state (glass.rs).
 ghost use mathlib.Core.Path.{_≡_};
-ghost use Prim.Native.Nat.{_+_, _*_, _/_, _%_, _<_, _≤_};
+ghost use Prim.Native.Nat.{_+_, _*_, _/_, _<_, _≤_};
 ghost use lib.IntN.{pos};
 ghost use lib.Signed.{_≤ℤ_};
 ghost use Rattle.glass.specs.Optics.{defaultOptics};
 ghost use Rattle.glass.specs.Transfers.{identityT, shiftT, thenT, applyT};
-ghost use Rattle.glass.specs.Greys.{levelZ, grayZ, shadeOf};
+ghost use Rattle.glass.specs.Greys.{levelZ, grayZ};
 
 // Where a set of parameters comes from, for an interface to say whether it shows a measured panel.
 pub enum Provenance {
@@ -136,30 +136,14 @@ pub fn level(gray: u8, swing: i64) -> i64
     share(numbers::wide(gray), swing as u64) as i64
 }
 
-// A swing with what its greys divide by, worked out once for all pixels: the swing is 510 × step + rest.
-pub struct Shade {
-    pub swing: i64,
-    pub step: u64,
-    pub rest: u64,
-}
-
-pub fn shade_of(swing: i64) -> Shade
-    requires { ⌜ pos 1 ≤ℤ swing ⌝ }
-    ensures { λ r. ⌜ r ≡ shadeOf swing ⌝ }
-{
-    let size = swing as u64;
-    Shade {
-        swing,
-        step: size / 510,
-        rest: size % 510,
-    }
-}
-
-// 510 × state / swing for a large swing, with one division: state / step is that or one more.
-fn half_steps(state: u64, swing: u64, step: u64, rest: u64) -> u64
-    requires { ⌜ (state < swing) × (1048576 ≤ swing) × (swing < 9223372036854775808) × (step ≡ swing / 510) × (rest ≡ swing % 510) ⌝ }
+// 510 × state / swing for a large swing, with one division by a number that is not constant: the swing is 510 × step + rest, and
+// state / step is the answer or one more.
+fn half_steps(state: u64, swing: u64) -> u64
+    requires { ⌜ (state < swing) × (1048576 ≤ swing) × (swing < 9223372036854775808) ⌝ }
     ensures { λ r. ⌜ r ≡ 510 * state / swing ⌝ }
 {
+    let step = swing / 510;
+    let rest = swing % 510;
     let steps = state / step;
     let left = state % step;
     if steps * rest <= 510 * left {
@@ -170,30 +154,15 @@ fn half_steps(state: u64, swing: u64, step: u64, rest: u64) -> u64
 }
 
 // (510 × state + swing) / (2 × swing), rounded down.
-fn nearest(state: u64, swing: u64, step: u64, rest: u64) -> u64
-    requires { ⌜ (state < swing) × (swing < 9223372036854775808) × (step ≡ swing / 510) × (rest ≡ swing % 510) ⌝ }
+fn nearest(state: u64, swing: u64) -> u64
+    requires { ⌜ (state < swing) × (swing < 9223372036854775808) ⌝ }
     ensures { λ r. ⌜ r ≡ (510 * state + swing) / (2 * swing) ⌝ }
 {
     if swing < 1048576 {
         (510 * state + swing) / (2 * swing)
     } else {
-        (half_steps(state, swing, step, rest) + 1) / 2
+        (half_steps(state, swing) + 1) / 2
     }
-}
-
-// The grey level of `state`, as `gray` gives it, by a shade that `shade_of` made.
-pub fn gray_by(shade: Shade, state: i64) -> u8
-    requires { ⌜ (pos 1 ≤ℤ shade .swing) × (shade ≡ shadeOf (shade .swing)) ⌝ }
-    ensures { λ r. ⌜ r ≡ grayZ state (shade .swing) ⌝ }
-{
-    let swing = shade.swing;
-    if state <= 0 {
-        return 0;
-    }
-    if swing <= state {
-        return 255;
-    }
-    nearest(state as u64, swing as u64, shade.step, shade.rest) as u8
 }
 
 // The grey level of optical state `state`, rounded to the nearest (half up).
@@ -201,5 +170,11 @@ pub fn gray(state: i64, swing: i64) -> u8
     requires { ⌜ pos 1 ≤ℤ swing ⌝ }
     ensures { λ r. ⌜ r ≡ grayZ state swing ⌝ }
 {
-    gray_by(shade_of(swing), state)
+    if state <= 0 {
+        return 0;
+    }
+    if swing <= state {
+        return 255;
+    }
+    nearest(state as u64, swing as u64) as u8
 }

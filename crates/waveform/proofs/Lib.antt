@@ -6,4 +6,5 @@ pub mod Range
 pub mod Steps
 pub mod Exactly
 pub mod Monotone
+pub mod Lasting
 pub mod Figures
