@@ -28,6 +28,7 @@ const USAGE: &str = "usage: oracle replay < events
        oracle leaf < questions
        oracle leaf-generate NAME|all SEED COUNT
        oracle listing < setting
+       oracle setting SEED
        oracle figures";
 
 impl crate::Judge for Ssd1677 {
@@ -54,6 +55,13 @@ impl crate::Judge for Ssd1677 {
                 _ => return usage(),
             },
             ["listing"] => write!(out, "{}", listing::listing(&input())).map(|()| true),
+            ["setting", seed] => match seed.parse() {
+                Ok(seed) => {
+                    let mut random = random::Random::of_place(seed, 0);
+                    out.write_all(&settings::setting(&mut random)).map(|()| true)
+                }
+                Err(_) => return usage(),
+            },
             ["figures"] => figures::run(&mut out),
             _ => return usage(),
         };
