@@ -1,0 +1,4 @@
+-- The root of chip's specs.
+pub mod Moments
+pub mod Advance
+pub mod Close
