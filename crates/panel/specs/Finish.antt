@@ -3,14 +3,10 @@ use mathlib.Core.Path.{_≡_}
 use mathlib.Core.Bool.{Bool, true, false}
 use mathlib.Core.List.{List}
 use Prim.Native.Nat.{ℕ, _+_, _<_, min}
-use lib.Dec.{ltb}
 use lib.IntN.{ℤ, pos}
 use lib.Signed.{_≤ℤ_}
 use lib.ListN.{length, getD}
-use Rattle.numbers.specs.Choice.{pick}
-use Rattle.numbers.specs.Lists.{tab}
 use Rattle.numbers.specs.Saturation.{largest}
-use Rattle.glass.specs.declared.PanelImage.{PanelImage}
 use Rattle.glass.specs.declared.Transfer.{Transfer}
 use Rattle.glass.specs.Greys.{grayZ}
 use Rattle.glass.specs.Transfers.{applyT}
@@ -24,6 +20,7 @@ use Rattle.panel.specs.declared.Border.the-variants.{Driven, Left}
 use Rattle.panel.specs.declared.Display.{Display}
 use Rattle.panel.specs.declared.Panel.{Panel}
 use Rattle.panel.specs.Border.{borderDrive}
+use Rattle.panel.specs.Pixels.{statesBy, grays}
 
 -- the panel with the lent states and pixels
 pub record Glass : Type 0 where
@@ -45,7 +42,7 @@ pub record Ending : Type 0 where
 abbrev pub ending : Display → Bool → List ℕ → ℕ → Until → Ending
 ending d black periods at until = record { display = d; black = black; periods = periods; at = at; until = until }
 
--- what a callers of `finish` has: buffers of one length, a swing from 1 on, and frames that last
+-- what the callers of `finish` have: buffers of one length, a swing from 1 on, and frames that last
 pub record Finishable (periods : List ℕ) (swing : ℤ) (states : List ℤ) (luts pixels : List ℕ) : Type 0 where
   pub luts-long : length luts ≡ length states
   pub pixels-long : length pixels ≡ length states
@@ -61,22 +58,10 @@ settingTransfer s p drive swing black (Cut until) = cutTransfer s p drive swing 
 unfoldable pub transferBy : Ending → ℤ → Drive → Transfer
 transferBy e swing drive = settingTransfer (e .display .setting) (e .periods) drive swing (e .black) (e .until)
 
--- a pixel's state: LUTs 0 to 3 move it, any other byte leaves it
-unfoldable pub stateAfter : Ending → ℤ → ℕ → ℤ → ℤ
-stateAfter e swing lut state = pick (ltb lut 4) (applyT (transferBy e swing (Lut lut)) state) state
-
--- the states by pixel
-unfoldable pub statesAfter : Ending → ℤ → List ℕ → List ℤ → List ℤ
-statesAfter e swing luts states = tab (length states) (λ i. stateAfter e swing (getD luts i 0) (getD states i (pos 0)))
-
--- every pixel shows the grey of its state
-unfoldable pub grays : ℤ → List ℤ → List ℕ
-grays swing states = tab (length states) (λ i. grayZ (getD states i (pos 0)) swing)
-
 -- the border's state, by what drives it
-abbrev pub borderBy : Ending → ℤ → Border → ℤ → ℤ
-borderBy e swing (Driven drive) state = applyT (transferBy e swing drive) state
-borderBy e swing Left state = state
+abbrev pub borderBy : (Drive → Transfer) → Border → ℤ → ℤ
+borderBy transfer (Driven drive) state = applyT (transfer drive) state
+borderBy transfer Left state = state
 
 -- a display that a reset cut short
 abbrev pub wasCut : Until → Bool
@@ -109,7 +94,8 @@ withBorder p state = record { swing = p .swing; border = state; image = p .image
 unfoldable pub finished : Ending → List ℕ → Glass → Glass
 finished e luts g =
     let p = g .panel in
-    let states = statesAfter e (p .swing) luts (g .states) in
-    glass (published (e .display) (e .at) (e .until) (withBorder p (borderBy e (p .swing) (borderDrive (e .display .border)) (p .border))))
+    let transfer = transferBy e (p .swing) in
+    let states = statesBy (λ lut. transfer (Lut lut)) luts (g .states) in
+    glass (published (e .display) (e .at) (e .until) (withBorder p (borderBy transfer (borderDrive (e .display .border)) (p .border))))
     states
     (grays (p .swing) states)

@@ -3,29 +3,25 @@ use mathlib.Core.Path.{_≡_}
 use mathlib.Core.Bool.{Bool}
 use mathlib.Core.List.{List}
 use Prim.Native.Nat.{ℕ}
-use lib.Dec.{ltb}
 use lib.IntN.{ℤ, pos}
 use lib.Signed.{_≤ℤ_}
 use lib.ListN.{length, getD}
-use Rattle.numbers.specs.Choice.{pick}
 use Rattle.numbers.specs.Lists.{tab}
 use Rattle.glass.specs.declared.Shade.{Shade}
 use Rattle.glass.specs.declared.Transfer.{Transfer}
 use Rattle.glass.specs.Greys.{shadeOf}
-use Rattle.glass.specs.Transfers.{identityT, applyT}
+use Rattle.glass.specs.Transfers.{identityT}
 use Rattle.waveform.specs.declared.Drive.{Drive}
 use Rattle.waveform.specs.declared.Drive.the-variants.{Lut}
 use Rattle.waveform.specs.declared.Until.{Until}
 use Rattle.waveform.specs.declared.Waveform.{Waveform}
 use Rattle.waveform.specs.Phases.{Takes}
 use Rattle.waveform.specs.Walks.{Walkable, transferOf}
-use Rattle.panel.specs.declared.Border.{Border}
-use Rattle.panel.specs.declared.Border.the-variants.{Driven, Left}
 use Rattle.panel.specs.declared.refresh.Refresh.{Refresh}
 
 -- a waveform that any drive may walk
-abbrev pub Drives : Waveform → Type 0
-Drives w = (drive : Drive) → Takes drive → Walkable w drive
+abbrev pub AllWalkable : Waveform → Type 0
+AllWalkable w = (drive : Drive) → Takes drive → Walkable w drive
 
 abbrev pub refreshOf : Waveform → ℤ → Bool → Until → Refresh
 refreshOf w swing black until = record { waveform = w; swing = swing; «positive_drives_black» = black; until = until }
@@ -38,26 +34,13 @@ transferIn r drive = transferOf (r .waveform) drive (r .swing) (r .«positive_dr
 unfoldable pub fourTransfers : Refresh → List Transfer
 fourTransfers r = tab 4 (λ lut. transferIn r (Lut lut))
 
--- a state by its LUT's transfer, or as it was
-unfoldable pub movedBy : List Transfer → ℕ → ℤ → ℤ
-movedBy ts lut state = pick (ltb lut 4) (applyT (getD ts lut (identityT (pos 0))) state) state
-
--- a pixel's state: LUTs 0 to 3 move it, any other byte leaves it
-unfoldable pub stateIn : Refresh → ℕ → ℤ → ℤ
-stateIn r lut state = pick (ltb lut 4) (applyT (transferIn r (Lut lut)) state) state
-
--- the states by pixel
-unfoldable pub statesIn : Refresh → List ℕ → List ℤ → List ℤ
-statesIn r luts states = tab (length states) (λ i. stateIn r (getD luts i 0) (getD states i (pos 0)))
-
--- the border's state, by what drives it
-abbrev pub borderIn : Refresh → Border → ℤ → ℤ
-borderIn r (Driven drive) state = applyT (transferIn r drive) state
-borderIn r Left state = state
+-- the transfer that a table has for a LUT
+abbrev pub inTable : List Transfer → ℕ → Transfer
+inTable ts lut = getD ts lut (identityT (pos 0))
 
 -- what refilling the pixels asks
 pub record Repaintable (r : Refresh) (luts : List ℕ) (states : List ℤ) (pixels : List ℕ) : Type 0 where
-  pub drivable : Drives (r .waveform)
+  pub walkable : AllWalkable (r .waveform)
   pub some : pos 1 ≤ℤ r .swing
   pub luts-long : length luts ≡ length states
   pub pixels-long : length pixels ≡ length states

@@ -8,16 +8,12 @@ use waveform::Drive;
 use waveform::Until;
 use waveform::Waveform;
 ghost use mathlib.Core.Path.{_≡_};
-ghost use lib.IntN.{pos};
-ghost use lib.Signed.{_≤ℤ_};
-ghost use lib.ListN.{length, getD};
-ghost use Rattle.numbers.specs.Lists.{tab};
-ghost use Rattle.glass.specs.Greys.{grayZ, shadeOf};
 ghost use Rattle.waveform.specs.Walks.{Walkable};
 ghost use Rattle.waveform.specs.Setting.{waveformOf};
 ghost use Rattle.panel.specs.Border.{borderDrive};
-ghost use Rattle.panel.specs.Finish.{grays, withBorder};
-ghost use Rattle.panel.specs.Refresh.{Drives, Repaintable, Paintable, refreshOf, transferIn, fourTransfers, movedBy, statesIn, borderIn};
+ghost use Rattle.panel.specs.Pixels.{stateBy, statesBy, grays};
+ghost use Rattle.panel.specs.Finish.{borderBy, withBorder};
+ghost use Rattle.panel.specs.Refresh.{AllWalkable, Repaintable, Paintable, refreshOf, transferIn, fourTransfers, inTable};
 
 // What the transfers of a display are made from.
 pub struct Refresh {
@@ -64,7 +60,7 @@ fn transfer(refresh: Refresh, drive: Drive) -> Transfer
 
 // Those of LUTs 0 to 3.
 fn transfers(refresh: Refresh) -> [Transfer; 4]
-    requires { ⌜ Drives (refresh .waveform) ⌝ }
+    requires { ⌜ AllWalkable (refresh .waveform) ⌝ }
     ensures { λ r. ⌜ r ≡ fourTransfers refresh ⌝ }
 {
     let lut0 = transfer(refresh, Drive::Lut(0));
@@ -75,7 +71,7 @@ fn transfers(refresh: Refresh) -> [Transfer; 4]
 }
 
 fn moved(transfers: [Transfer; 4], lut: u8, state: i64) -> i64
-    ensures { λ r. ⌜ r ≡ movedBy transfers lut state ⌝ }
+    ensures { λ r. ⌜ r ≡ stateBy (inTable transfers) lut state ⌝ }
 {
     if lut < 4 {
         let transfer = transfers[lut as usize];
@@ -87,8 +83,8 @@ fn moved(transfers: [Transfer; 4], lut: u8, state: i64) -> i64
 // One pass: each driven state moved, and every pixel the grey of its state.
 fn paint(transfers: [Transfer; 4], shade: Shade, luts: &[u8], states: &mut [i64], pixels: &mut [u8])
     requires { ⌜ Paintable shade (now luts) (now states) (now pixels) ⌝ }
-    ensures { λ _. ⌜ now (states .exit) ≡ tab (length (now (states .entry))) (λ i. movedBy transfers (getD (now (luts .entry)) i 0) (getD (now (states .entry)) i (pos 0))) ⌝ }
-    ensures { λ _. ⌜ now (pixels .exit) ≡ tab (length (now (states .entry))) (λ i. grayZ (movedBy transfers (getD (now (luts .entry)) i 0) (getD (now (states .entry)) i (pos 0))) (shade .swing)) ⌝ }
+    ensures { λ _. ⌜ now (states .exit) ≡ statesBy (inTable transfers) (now (luts .entry)) (now (states .entry)) ⌝ }
+    ensures { λ _. ⌜ now (pixels .exit) ≡ grays (shade .swing) (statesBy (inTable transfers) (now (luts .entry)) (now (states .entry))) ⌝ }
 {
     for i in 0..states.len() {
         let state = moved(transfers, luts[i], states[i]);
@@ -100,8 +96,8 @@ fn paint(transfers: [Transfer; 4], shade: Shade, luts: &[u8], states: &mut [i64]
 // All pixels, by transfers and a shade made once.
 pub(crate) fn repaint(refresh: Refresh, luts: &[u8], states: &mut [i64], pixels: &mut [u8])
     requires { ⌜ Repaintable refresh (now luts) (now states) (now pixels) ⌝ }
-    ensures { λ _. ⌜ now (states .exit) ≡ statesIn refresh (now (luts .entry)) (now (states .entry)) ⌝ }
-    ensures { λ _. ⌜ now (pixels .exit) ≡ grays (refresh .swing) (statesIn refresh (now (luts .entry)) (now (states .entry))) ⌝ }
+    ensures { λ _. ⌜ now (states .exit) ≡ statesBy (λ lut. transferIn refresh (Drive.Lut lut)) (now (luts .entry)) (now (states .entry)) ⌝ }
+    ensures { λ _. ⌜ now (pixels .exit) ≡ grays (refresh .swing) (statesBy (λ lut. transferIn refresh (Drive.Lut lut)) (now (luts .entry)) (now (states .entry))) ⌝ }
 {
     let transfers = transfers(refresh);
     let shade = glass::shade_of(refresh.swing);
@@ -110,8 +106,8 @@ pub(crate) fn repaint(refresh: Refresh, luts: &[u8], states: &mut [i64], pixels:
 
 // The border, driven or left.
 pub(crate) fn drive_border(refresh: Refresh, border: u8, panel: Panel) -> Panel
-    requires { ⌜ Drives (refresh .waveform) ⌝ }
-    ensures { λ r. ⌜ r ≡ withBorder panel (borderIn refresh (borderDrive border) (panel .border)) ⌝ }
+    requires { ⌜ AllWalkable (refresh .waveform) ⌝ }
+    ensures { λ r. ⌜ r ≡ withBorder panel (borderBy (transferIn refresh) (borderDrive border) (panel .border)) ⌝ }
 {
     let drives = crate::border_drive(border);
     match drives {

@@ -1,20 +1,19 @@
 -- `panel::finish` meets its contract. Assumes nothing.
-use mathlib.Core.Path.{_≡_, sym, ap, subst}
+use mathlib.Core.Path.{sym, subst}
 use lib.IntN.{pos}
 use lib.Signed.{_≤ℤ_}
-use Rattle.waveform.specs.Walks.{Walkable}
 use Rattle.waveform.proofs.Decoded.{walkable}
 use Rattle.panel.specs.declared.Panel.{Panel}
 use Rattle.panel.specs.declared.refresh.Refresh.{Refresh}
-use Rattle.panel.specs.Refresh.{Drives}
+use Rattle.panel.specs.Refresh.{AllWalkable}
 use Rattle.panel.proofs.Steps.{finishes}
 use borrow.Author.Needs.{needs}
 use Rattle.panel.proofs.finish.Statement.{statement}
 use Rattle.panel.proofs.finish.Tie as tie
 
-drivable : (c : tie.After-refresh-of) → Drives (c .refresh-of .result .waveform)
+drivable : (c : tie.After-refresh-of) → AllWalkable (c .refresh-of .result .waveform)
 drivable c =
-    subst (λ (r : Refresh). Drives (r .waveform)) (sym (c .refresh-of .ensures))
+    subst (λ (r : Refresh). AllWalkable (r .waveform)) (sym (c .refresh-of .ensures))
     (λ drive takes. walkable _ _ drive (c .before .before .before .pre .lasting) takes)
 
 refresh-of-requires : tie.Need-refresh-of-requires
@@ -25,7 +24,7 @@ repaint-requires c κs =
     let call = c .before .before in
     let pre = call .before .before .before .pre in
     record {
-      drivable = drivable call;
+      walkable = drivable call;
       some = subst (λ (r : Refresh). pos 1 ≤ℤ r .swing) (sym (call .refresh-of .ensures)) (pre .some);
       luts-long = pre .luts-long;
       pixels-long = pre .pixels-long;

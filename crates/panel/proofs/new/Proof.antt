@@ -1,5 +1,5 @@
 -- `panel::new` meets its contract. Assumes nothing.
-use mathlib.Core.Path.{_≡_, sym, ap, subst, _∙_}
+use mathlib.Core.Path.{sym, ap, subst, _∙_}
 use lib.IntN.{ℤ, pos}
 use lib.Signed.{_≤ℤ_}
 use Rattle.numbers.proofs.Lin.{rd, field-back}

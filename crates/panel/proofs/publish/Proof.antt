@@ -1,5 +1,5 @@
 -- `panel::publish` meets its contract. Assumes nothing.
-use mathlib.Core.Path.{_≡_, _∙_}
+use mathlib.Core.Path.{_∙_}
 use Rattle.numbers.proofs.Lin.{field-back}
 use Rattle.glass.specs.Greys.{grayZ}
 use Rattle.panel.specs.Finish.{published}

@@ -1,10 +1,10 @@
 -- `panel::refresh::drive_border` meets its contract. Assumes nothing.
-use mathlib.Core.Path.{_≡_, sym, ap, _∙_}
+use mathlib.Core.Path.{sym, ap, _∙_}
 use Rattle.numbers.proofs.Lin.{got, field-back}
 use Rattle.glass.specs.Transfers.{applyT}
 use Rattle.panel.specs.declared.Border.{Border}
-use Rattle.panel.specs.Finish.{withBorder}
-use Rattle.panel.specs.Refresh.{borderIn}
+use Rattle.panel.specs.Finish.{borderBy, withBorder}
+use Rattle.panel.specs.Refresh.{transferIn}
 use Rattle.panel.proofs.Drives.{border-takes}
 use borrow.Author.Needs.{needs}
 use Rattle.panel.proofs.refresh.drive_border.Statement.{statement}
@@ -35,14 +35,14 @@ returns c =
     let p = a .panel in
     let border =
     got (c .apply .ok) (c .apply .ensures ∙ (λ i. applyT (c .before .before .transfer .ensures i) (field-back (p .border) (c .before .struct-told .given .1 .0 .1) i)))
-    ∙ ap (λ (b : Border). borderIn (a .refresh) b (p .border)) (sym (told .drives .given .1) ∙ call .border-drive .ensures) in
+    ∙ ap (λ (b : Border). borderBy (transferIn (a .refresh)) b (p .border)) (sym (told .drives .given .1) ∙ call .border-drive .ensures) in
     λ i. record { swing = p .swing; border = border i; image = p .image }
 
 returns-2 : tie.Need-returns-2
 returns-2 c =
     let call = c .before .before in
     let a = call .before .args in
-    ap (λ (b : Border). withBorder (a .panel) (borderIn (a .refresh) b (a .panel .border))) (sym (c .enum-told .given .1) ∙ call .border-drive .ensures)
+    ap (λ (b : Border). withBorder (a .panel) (borderBy (transferIn (a .refresh)) b (a .panel .border))) (sym (c .enum-told .given .1) ∙ call .border-drive .ensures)
 
 pub drive-border-spec : {M : Type 1} → statement M
 drive-border-spec =

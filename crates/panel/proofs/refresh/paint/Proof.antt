@@ -1,21 +1,23 @@
 -- `panel::refresh::paint` meets its contract: after i turns the first i states are moved and the first i pixels refilled. Assumes nothing.
-use mathlib.Core.Path.{_≡_, refl, sym, ap, _∙_}
-use Prim.Native.Nat.{ℕ, _-_}
+use mathlib.Core.Path.{_≡_, ap, _∙_}
+use Prim.Native.Nat.{_-_}
 use native.Mathlib.Omega.{arith}
 use lib.IntN.{ℤ, pos}
 use lib.ListN.{length, getD}
 use Rattle.glass.specs.Greys.{grayZ}
 use Rattle.numbers.proofs.Lin.{rd, got, field-back}
 use Rattle.numbers.proofs.Painted.{Painted, painted-none, painted-more, painted-all, painted-next}
-use Rattle.panel.specs.Refresh.{movedBy}
+use Rattle.panel.specs.Pixels.{stateBy, statesBy}
+use Rattle.panel.specs.Refresh.{inTable}
+use Rattle.panel.proofs.Steps.{grays-tab}
 use borrow.Author.Needs.{needs}
 use Rattle.panel.proofs.refresh.paint.Statement.{statement}
 use Rattle.panel.proofs.refresh.paint.Tie as tie
 
 abbrev Inv-loop : tie.InvT-loop
 Inv-loop transfers shade luts states₀ pixels₀ i₀ i-end states pixels i =
-    Painted i (λ k. movedBy transfers (getD luts k 0) (getD states₀ k (pos 0))) states₀ states
-    × Painted i (λ k. grayZ (movedBy transfers (getD luts k 0) (getD states₀ k (pos 0))) (shade .swing)) pixels₀ pixels
+    Painted i (λ k. stateBy (inTable transfers) (getD luts k 0) (getD states₀ k (pos 0))) states₀ states
+    × Painted i (λ k. grayZ (stateBy (inTable transfers) (getD luts k 0) (getD states₀ k (pos 0))) (shade .swing)) pixels₀ pixels
 
 abbrev μ-loop : tie.MeasureT-loop
 μ-loop transfers shade luts states₀ pixels₀ i₀ i-end states pixels i = i-end - i
@@ -58,10 +60,10 @@ loop-again c =
     let m = c .before .before .before .before .before in
     let a = m .before .before .before .args in
     let i = m .loop .i in
-    let is : rd (c .before .moved .result) ≡ movedBy (a .transfers) (getD (a .luts .now) i 0) (getD (a .states .now) i (pos 0)) =
+    let is : rd (c .before .moved .result) ≡ stateBy (inTable (a .transfers)) (getD (a .luts .now) i 0) (getD (a .states .now) i (pos 0)) =
     got (c .before .moved .ok)
     (c .before .moved .ensures
-    ∙ ap (movedBy _ _) (field-back _ (c .before .before .moved-arg .given) ∙ painted-next (pos 0) (m .loop .inv .0) (omega arith))) in (
+    ∙ ap (stateBy _ _) (field-back _ (c .before .before .moved-arg .given) ∙ painted-next (pos 0) (m .loop .inv .0) (omega arith))) in (
       painted-more (m .loop .inv .0) (omega arith) is,
       painted-more (m .loop .inv .1) (omega arith) (c .gray-by .ensures ∙ ap (λ (z : ℤ). grayZ z (a .shade .swing)) is),
     )
@@ -73,10 +75,13 @@ same-length-2 : tie.Need-same-length-2 Inv-loop μ-loop
 same-length-2 c = c .before .loop .inv .1 .long
 
 returns : tie.Need-returns Inv-loop μ-loop
+unfolding statesBy
 returns c =
-    let s = c .before .before .before .before in (
+    let s = c .before .before .before .before in
+    let a = s .args in (
       painted-all (c .before .loop .inv .0) (omega arith),
-      rw (s .pre .pixels-long) at (painted-all (c .before .loop .inv .1) (omega arith)),
+      rw (s .pre .pixels-long) at (painted-all (c .before .loop .inv .1) (omega arith))
+          ∙ grays-tab (a .shade .swing) (length (a .states .now)) (λ i. stateBy (inTable (a .transfers)) (getD (a .luts .now) i 0) (getD (a .states .now) i (pos 0))),
     )
 
 pub paint-spec : {M : Type 1} → statement M

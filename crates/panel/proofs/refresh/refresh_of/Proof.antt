@@ -1,5 +1,4 @@
 -- `panel::refresh::refresh_of` meets its contract. Assumes nothing.
-use mathlib.Core.Path.{_≡_}
 use Rattle.numbers.proofs.Lin.{field-back}
 use borrow.Author.Needs.{needs}
 use Rattle.panel.proofs.refresh.refresh_of.Statement.{statement}

@@ -5,7 +5,8 @@ use lib.Signed.{_≤ℤ_}
 use Rattle.numbers.proofs.Lin.{field-back}
 use Rattle.glass.specs.declared.Shade.{Shade}
 use Rattle.glass.specs.Greys.{shadeOf}
-use Rattle.panel.proofs.Steps.{states-painted, pixels-painted}
+use Rattle.panel.specs.Pixels.{grays}
+use Rattle.panel.proofs.Steps.{table-is}
 use borrow.Author.Needs.{needs}
 use Rattle.panel.proofs.refresh.repaint.Statement.{statement}
 use Rattle.panel.proofs.refresh.repaint.Tie as tie
@@ -41,9 +42,10 @@ returns c =
     let call = c .before .before .before in
     let shade = call .before .before .before in
     let ts = shade .before .before in
-    let a = ts .before .before .before .args in (
-      call .paint .ensures .0 ∙ states-painted (a .refresh) (a .luts .now) (a .states .now) (ts .transfers .result) (ts .transfers .ensures),
-      call .paint .ensures .1 ∙ pixels-painted (a .refresh) (a .luts .now) (a .states .now) (ts .transfers .result) (ts .transfers .ensures) (shade .shade-of .result) (made shade),
+    let a = ts .before .before .before .args in
+    let states = table-is (a .refresh) (a .luts .now) (a .states .now) (ts .transfers .result) (ts .transfers .ensures) in (
+      call .paint .ensures .0 ∙ states,
+      call .paint .ensures .1 ∙ (λ i. grays (made shade i .swing) (states i)),
     )
 
 pub repaint-spec : {M : Type 1} → statement M

@@ -1,5 +1,5 @@
 -- `panel::refresh::transfer` meets its contract. Assumes nothing.
-use mathlib.Core.Path.{_≡_, ap, _∙_}
+use mathlib.Core.Path.{ap, _∙_}
 use lib.IntN.{ℤ}
 use Rattle.numbers.proofs.Lin.{field-back}
 use Rattle.waveform.specs.Walks.{transferOf}

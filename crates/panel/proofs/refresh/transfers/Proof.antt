@@ -1,5 +1,4 @@
 -- `panel::refresh::transfers` meets its contract. Assumes nothing.
-use mathlib.Core.Path.{_≡_}
 use mathlib.Core.List.{[], _∷_}
 use native.Mathlib.Omega.{arith}
 use Rattle.numbers.specs.Lists.{tab}
