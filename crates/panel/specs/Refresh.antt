@@ -7,9 +7,7 @@ use lib.IntN.{ℤ, pos}
 use lib.Signed.{_≤ℤ_}
 use lib.ListN.{length, getD}
 use Rattle.numbers.specs.Lists.{tab}
-use Rattle.glass.specs.declared.Shade.{Shade}
 use Rattle.glass.specs.declared.Transfer.{Transfer}
-use Rattle.glass.specs.Greys.{shadeOf}
 use Rattle.glass.specs.Transfers.{identityT}
 use Rattle.waveform.specs.declared.Drive.{Drive}
 use Rattle.waveform.specs.declared.Drive.the-variants.{Lut}
@@ -42,12 +40,5 @@ inTable ts lut = getD ts lut (identityT (pos 0))
 pub record Repaintable (r : Refresh) (luts : List ℕ) (states : List ℤ) (pixels : List ℕ) : Type 0 where
   pub walkable : AllWalkable (r .waveform)
   pub some : pos 1 ≤ℤ r .swing
-  pub luts-long : length luts ≡ length states
-  pub pixels-long : length pixels ≡ length states
-
--- what a pass over the pixels asks
-pub record Paintable (shade : Shade) (luts : List ℕ) (states : List ℤ) (pixels : List ℕ) : Type 0 where
-  pub some : pos 1 ≤ℤ shade .swing
-  pub made : shade ≡ shadeOf (shade .swing)
   pub luts-long : length luts ≡ length states
   pub pixels-long : length pixels ≡ length states

@@ -2,7 +2,6 @@
 use crate::Border;
 use crate::Display;
 use crate::Panel;
-use glass::Shade;
 use glass::Transfer;
 use waveform::Drive;
 use waveform::Until;
@@ -13,7 +12,7 @@ ghost use Rattle.waveform.specs.Setting.{waveformOf};
 ghost use Rattle.panel.specs.Border.{borderDrive};
 ghost use Rattle.panel.specs.Pixels.{stateBy, statesBy, grays};
 ghost use Rattle.panel.specs.Finish.{borderBy, withBorder};
-ghost use Rattle.panel.specs.Refresh.{AllWalkable, Repaintable, Paintable, refreshOf, transferIn, fourTransfers, inTable};
+ghost use Rattle.panel.specs.Refresh.{AllWalkable, Repaintable, refreshOf, transferIn, fourTransfers, inTable};
 
 // What the transfers of a display are made from.
 pub struct Refresh {
@@ -81,27 +80,32 @@ fn moved(transfers: [Transfer; 4], lut: u8, state: i64) -> i64
 }
 
 // One pass: each driven state moved, and every pixel the grey of its state.
-fn paint(transfers: [Transfer; 4], shade: Shade, luts: &[u8], states: &mut [i64], pixels: &mut [u8])
-    requires { ⌜ Paintable shade (now luts) (now states) (now pixels) ⌝ }
+fn paint(
+    refresh: Refresh,
+    transfers: [Transfer; 4],
+    luts: &[u8],
+    states: &mut [i64],
+    pixels: &mut [u8],
+)
+    requires { ⌜ Repaintable refresh (now luts) (now states) (now pixels) ⌝ }
     ensures { λ _. ⌜ now (states .exit) ≡ statesBy (inTable transfers) (now (luts .entry)) (now (states .entry)) ⌝ }
-    ensures { λ _. ⌜ now (pixels .exit) ≡ grays (shade .swing) (statesBy (inTable transfers) (now (luts .entry)) (now (states .entry))) ⌝ }
+    ensures { λ _. ⌜ now (pixels .exit) ≡ grays (refresh .swing) (statesBy (inTable transfers) (now (luts .entry)) (now (states .entry))) ⌝ }
 {
     for i in 0..states.len() {
         let state = moved(transfers, luts[i], states[i]);
         states[i] = state;
-        pixels[i] = glass::gray_by(shade, state);
+        pixels[i] = glass::gray(state, refresh.swing);
     }
 }
 
-// All pixels, by transfers and a shade made once.
+// All pixels, by transfers made once.
 pub(crate) fn repaint(refresh: Refresh, luts: &[u8], states: &mut [i64], pixels: &mut [u8])
     requires { ⌜ Repaintable refresh (now luts) (now states) (now pixels) ⌝ }
     ensures { λ _. ⌜ now (states .exit) ≡ statesBy (λ lut. transferIn refresh (Drive.Lut lut)) (now (luts .entry)) (now (states .entry)) ⌝ }
     ensures { λ _. ⌜ now (pixels .exit) ≡ grays (refresh .swing) (statesBy (λ lut. transferIn refresh (Drive.Lut lut)) (now (luts .entry)) (now (states .entry))) ⌝ }
 {
     let transfers = transfers(refresh);
-    let shade = glass::shade_of(refresh.swing);
-    paint(transfers, shade, luts, &mut states[..], &mut pixels[..]);
+    paint(refresh, transfers, luts, &mut states[..], &mut pixels[..]);
 }
 
 // The border, driven or left.

@@ -15,12 +15,12 @@ use Rattle.panel.proofs.refresh.paint.Statement.{statement}
 use Rattle.panel.proofs.refresh.paint.Tie as tie
 
 abbrev Inv-loop : tie.InvT-loop
-Inv-loop transfers shade luts states₀ pixels₀ i₀ i-end states pixels i =
+Inv-loop refresh transfers luts states₀ pixels₀ i₀ i-end states pixels i =
     Painted i (λ k. stateBy (inTable transfers) (getD luts k 0) (getD states₀ k (pos 0))) states₀ states
-    × Painted i (λ k. grayZ (stateBy (inTable transfers) (getD luts k 0) (getD states₀ k (pos 0))) (shade .swing)) pixels₀ pixels
+    × Painted i (λ k. grayZ (stateBy (inTable transfers) (getD luts k 0) (getD states₀ k (pos 0))) (refresh .swing)) pixels₀ pixels
 
 abbrev μ-loop : tie.MeasureT-loop
-μ-loop transfers shade luts states₀ pixels₀ i₀ i-end states pixels i = i-end - i
+μ-loop refresh transfers luts states₀ pixels₀ i₀ i-end states pixels i = i-end - i
 
 loop-holds : tie.Need-loop-holds Inv-loop μ-loop
 loop-holds c = (painted-none _ _, painted-none _ _)
@@ -43,8 +43,8 @@ mul-state c = omega arith
 slice-set-from-state : tie.Need-slice-set-from-state Inv-loop μ-loop
 slice-set-from-state c = omega arith
 
-gray-by-requires : tie.Need-gray-by-requires Inv-loop μ-loop
-gray-by-requires c κs = search needs
+gray-requires : tie.Need-gray-requires Inv-loop μ-loop
+gray-requires c κs = search needs
 
 slice-write-pixels : tie.Need-slice-write-pixels Inv-loop μ-loop
 slice-write-pixels c = omega arith
@@ -57,15 +57,16 @@ loop-less c = omega arith
 
 loop-again : tie.Need-loop-again Inv-loop μ-loop
 loop-again c =
-    let m = c .before .before .before .before .before in
+    let m = c .before .before .before .before .before .before in
     let a = m .before .before .before .args in
     let i = m .loop .i in
-    let is : rd (c .before .moved .result) ≡ stateBy (inTable (a .transfers)) (getD (a .luts .now) i 0) (getD (a .states .now) i (pos 0)) =
-    got (c .before .moved .ok)
-    (c .before .moved .ensures
-    ∙ ap (stateBy _ _) (field-back _ (c .before .before .moved-arg .given) ∙ painted-next (pos 0) (m .loop .inv .0) (omega arith))) in (
+    let is : rd (c .before .before .moved .result) ≡ stateBy (inTable (a .transfers)) (getD (a .luts .now) i 0) (getD (a .states .now) i (pos 0)) =
+    got (c .before .before .moved .ok)
+    (c .before .before .moved .ensures
+    ∙ ap (stateBy _ _) (field-back _ (c .before .before .before .moved-arg .given) ∙ painted-next (pos 0) (m .loop .inv .0) (omega arith))) in
+    let swing : rd (a .refresh .swing) ≡ a .refresh .swing = field-back _ (c .before .struct-told .given .1 .0 .1) in (
       painted-more (m .loop .inv .0) (omega arith) is,
-      painted-more (m .loop .inv .1) (omega arith) (c .gray-by .ensures ∙ ap (λ (z : ℤ). grayZ z (a .shade .swing)) is),
+      painted-more (m .loop .inv .1) (omega arith) (c .gray .ensures ∙ (λ j. grayZ (is j) (swing j))),
     )
 
 same-length : tie.Need-same-length Inv-loop μ-loop
@@ -81,7 +82,7 @@ returns c =
     let a = s .args in (
       painted-all (c .before .loop .inv .0) (omega arith),
       rw (s .pre .pixels-long) at (painted-all (c .before .loop .inv .1) (omega arith))
-          ∙ grays-tab (a .shade .swing) (length (a .states .now)) (λ i. stateBy (inTable (a .transfers)) (getD (a .luts .now) i 0) (getD (a .states .now) i (pos 0))),
+          ∙ grays-tab (a .refresh .swing) (length (a .states .now)) (λ i. stateBy (inTable (a .transfers)) (getD (a .luts .now) i 0) (getD (a .states .now) i (pos 0))),
     )
 
 pub paint-spec : {M : Type 1} → statement M
@@ -97,7 +98,7 @@ paint-spec =
     moved-requires
     mul-state
     slice-set-from-state
-    gray-by-requires
+    gray-requires
     slice-write-pixels
     add-i
     loop-less
