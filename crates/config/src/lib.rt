@@ -6,7 +6,7 @@ ghost use Rattle.config.specs.Temperature.{coldest, warmest, sixteenthsO
 ghost use mathlib.Core.List.{[], _∷_};
 ghost use Rattle.config.specs.Answer.{isAccepted, firstOf, answerOf};
 ghost use Rattle.config.specs.Tests.{geometryTests, swingTest, periodsTest, configTests};
-ghost use Rattle.config.specs.Timing.{defaultTiming};
+ghost use Rattle.config.specs.Defaults.{defaultGateScan, defaultTiming};
 use glass::Optics;
 use glass::Provenance;
 
@@ -26,6 +26,17 @@ const FRAME_PERIOD: u64 = 20_000_000;
 pub struct GateScan {
     pub sm: bool,
     pub gd: bool,
+}
+
+impl GateScan {
+    pub fn default() -> GateScan
+        ensures { λ r. ⌜ r ≡ defaultGateScan ⌝ }
+    {
+        GateScan {
+            sm: false,
+            gd: false,
+        }
+    }
 }
 
 // The glass behind the controller: which sources and gates it uses, and in what order its rows lie.
