@@ -1,9 +1,9 @@
 // The parameters of an SSD1677 and of the panel it drives: what the datasheet leaves open, what belongs to the glass, and what no
 // source gives (config.rs). The waveforms in the panel's OTP are a lent table of their own.
+ghost use mathlib.Core.List.{[], _∷_};
 ghost use mathlib.Core.Path.{_≡_};
 ghost use lib.IntN.{pos, _*ℤ_};
 ghost use Rattle.config.specs.Temperature.{coldest, warmest, sixteenthsOf, registerOf, fromSixteenths};
-ghost use mathlib.Core.List.{[], _∷_};
 ghost use Rattle.config.specs.Answer.{isAccepted, firstOf, answerOf};
 ghost use Rattle.config.specs.Tests.{geometryTests, swingTest, periodsTest, configTests};
 ghost use Rattle.config.specs.Defaults.{defaultGateScan, defaultTiming};

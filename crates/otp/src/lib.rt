@@ -245,7 +245,7 @@ fn any_approximate_entry(otp: &[u8]) -> bool
 
 // Whether a configuration is an approximation, or that its table is none.
 pub enum IsApproximation {
-    Answer(bool),
+    Is(bool),
     BadTable,
 }
 
@@ -264,5 +264,5 @@ pub fn is_approximation(config: Ssd1677Config, otp: &[u8]) -> IsApproximation
     let glass = is_approximate(of_glass);
     let durations = is_approximate(of_durations);
     let entries = any_approximate_entry(otp);
-    IsApproximation::Answer(glass | durations | entries)
+    IsApproximation::Is(glass | durations | entries)
 }
