@@ -2,7 +2,7 @@
 // entry: mode, provenance, lower and upper bound as registers, high byte first, and the 112 bytes of the setting (config.rs).
 ghost use mathlib.Core.Path.{_≡_};
 ghost use mathlib.Core.List.{[], _∷_};
-ghost use Prim.Native.Nat.{_+_, _*_, _<_, _≤_};
+ghost use Prim.Native.Nat.{_+_, _*_, _<_};
 ghost use lib.ListN.{length, getD};
 ghost use Rattle.voltage.specs.Codes.{sourceVoltage, vslVoltage, vcomVoltage};
 ghost use Rattle.config.specs.Answer.{firstOf, answerOf};
