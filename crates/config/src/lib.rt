@@ -1,12 +1,12 @@
 // The parameters of an SSD1677 and of the panel it drives: what the datasheet leaves open, what belongs to the glass, and what no
 // source gives (config.rs). The waveforms in the panel's OTP are a lent table of their own.
+ghost use mathlib.Core.List.{[], _∷_};
 ghost use mathlib.Core.Path.{_≡_};
 ghost use lib.IntN.{pos, _*ℤ_};
 ghost use Rattle.config.specs.Temperature.{coldest, warmest, sixteenthsOf, registerOf, fromSixteenths};
-ghost use mathlib.Core.List.{[], _∷_};
 ghost use Rattle.config.specs.Answer.{isAccepted, firstOf, answerOf};
 ghost use Rattle.config.specs.Tests.{geometryTests, swingTest, periodsTest, configTests};
-ghost use Rattle.config.specs.Timing.{defaultTiming};
+ghost use Rattle.config.specs.Defaults.{defaultGateScan, defaultTiming};
 use glass::Optics;
 use glass::Provenance;
 
@@ -26,6 +26,17 @@ const FRAME_PERIOD: u64 = 20_000_000;
 pub struct GateScan {
     pub sm: bool,
     pub gd: bool,
+}
+
+impl GateScan {
+    pub fn default() -> GateScan
+        ensures { λ r. ⌜ r ≡ defaultGateScan ⌝ }
+    {
+        GateScan {
+            sm: false,
+            gd: false,
+        }
+    }
 }
 
 // The glass behind the controller: which sources and gates it uses, and in what order its rows lie.

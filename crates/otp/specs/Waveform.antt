@@ -1,5 +1,5 @@
 -- The waveform that is taken for a mode and a temperature (datasheet §6.9, as config.rs cites it).
-use mathlib.Core.Bool.{Bool, _&&_, _||_}
+use mathlib.Core.Bool.{Bool, _&&_}
 use mathlib.Core.List.{List, []}
 use Prim.Native.Nat.{ℕ, _*_}
 use lib.Dec.{eqb}

@@ -2,7 +2,7 @@
 // entry: mode, provenance, lower and upper bound as registers, high byte first, and the 112 bytes of the setting (config.rs).
 ghost use mathlib.Core.Path.{_≡_};
 ghost use mathlib.Core.List.{[], _∷_};
-ghost use Prim.Native.Nat.{_+_, _*_, _<_, _≤_};
+ghost use Prim.Native.Nat.{_+_, _*_, _<_};
 ghost use lib.ListN.{length, getD};
 ghost use Rattle.voltage.specs.Codes.{sourceVoltage, vslVoltage, vcomVoltage};
 ghost use Rattle.config.specs.Answer.{firstOf, answerOf};
@@ -245,7 +245,7 @@ fn any_approximate_entry(otp: &[u8]) -> bool
 
 // Whether a configuration is an approximation, or that its table is none.
 pub enum IsApproximation {
-    Answer(bool),
+    Is(bool),
     BadTable,
 }
 
@@ -264,5 +264,5 @@ pub fn is_approximation(config: Ssd1677Config, otp: &[u8]) -> IsApproximation
     let glass = is_approximate(of_glass);
     let durations = is_approximate(of_durations);
     let entries = any_approximate_entry(otp);
-    IsApproximation::Answer(glass | durations | entries)
+    IsApproximation::Is(glass | durations | entries)
 }

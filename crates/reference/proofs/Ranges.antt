@@ -1,14 +1,14 @@
 -- Where each setting is found: as the ranges of the table say, at every register; and start refuses nothing of it. Assumes nothing.
-use mathlib.Core.Path.{_≡_, refl, sym, ap, _∙_}
+use mathlib.Core.Path.{_≡_, refl, _∙_}
 use mathlib.Core.Bool.{Bool, true, false, _&&_}
-use mathlib.Core.List.{List, [], _∷_}
+use mathlib.Core.List.{[], _∷_}
 use Prim.Native.Nat.{ℕ, _%_}
 use lib.Dec.{eqb}
 use lib.IntN.{ℤ, pos, negsuc}
 use lib.Signed.{ltZ, leZ}
 use Rattle.numbers.specs.Choice.{pick}
 use Rattle.numbers.specs.Lists.{tab}
-use Rattle.numbers.proofs.Lin.{Le, whole, is-le, not-le, is-lt, not-lt}
+use Rattle.numbers.proofs.Lin.{Le, whole, is-le, not-le, is-lt}
 use Rattle.voltage.specs.Codes.{voltage}
 use Rattle.config.specs.declared.DisplayMode.{DisplayMode}
 use Rattle.config.specs.declared.DisplayMode.the-variants.{One, Two}

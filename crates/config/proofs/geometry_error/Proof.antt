@@ -2,8 +2,7 @@
 use borrow.Author.Needs.{needs}
 use mathlib.Core.Path.{refl}
 use mathlib.Core.List.{[], _∷_}
-use Rattle.config.specs.declared.PanelGeometry.{PanelGeometry}
-use Rattle.config.specs.Answer.{Answer, accepted, refused, answerOf}
+use Rattle.config.specs.Answer.{answerOf}
 use Rattle.config.specs.Tests.{emptyPanel, panelOutsideRam, oddRowsWithGd}
 use Rattle.config.proofs.Answers.{refuses, passes, none-left}
 use Rattle.config.proofs.geometry_error.Statement.{statement}

@@ -1,10 +1,10 @@
 -- `config::periods_error` meets its contract: the loop has passed no period of 0.
-use mathlib.Core.Path.{_≡_, refl, sym, ap, _∙_}
+use mathlib.Core.Path.{_≡_, refl, sym, ap}
 use mathlib.Core.Bool.{Bool}
 use mathlib.Core.List.{List, []}
-use Prim.Native.Nat.{ℕ, _-_, _<_, _≤_}
+use Prim.Native.Nat.{ℕ, _-_, _≤_}
 use native.Mathlib.Omega.{arith}
-use lib.Dec.{eqb, lit<}
+use lib.Dec.{eqb}
 use lib.ListN.{getD}
 use borrow.Author.Count.{below-more, below-none}
 use borrow.Author.Tests.{eq-eqb, ne-eqb, lt-ltb, le-ltb}

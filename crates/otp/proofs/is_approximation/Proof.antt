@@ -1,5 +1,5 @@
 -- `otp::is_approximation` meets its contract.
-use mathlib.Core.Path.{_≡_, sym, _∙_}
+use mathlib.Core.Path.{sym, _∙_}
 use Rattle.otp.specs.Approximation.{outcomeOf}
 use Rattle.otp.proofs.Approximations.{refused-is, answered-is}
 use borrow.Author.Needs.{needs}

@@ -1,5 +1,5 @@
 -- `config::Temperature::from_celsius` meets its contract: sixteen times an i8 fits an i16.
-use mathlib.Core.Path.{_≡_, ap, _∙_}
+use mathlib.Core.Path.{ap, _∙_}
 use Prim.Native.Nat.{ℕ, _≤_}
 use native.Mathlib.Nat.{mul-le-mul}
 use lib.Dec.{lit≤}

@@ -1,7 +1,7 @@
 -- `config::Temperature::from_register` meets its contract: the mask is the remainder by 4096, and bit 11 tells its half.
-use mathlib.Core.Path.{_≡_, refl, sym, ap, subst, _∙_}
-use mathlib.Core.Bool.{Bool, true, false, not}
-use Prim.Native.Nat.{ℕ, _+_, _*_, _/_, _%_, _^_, _≤_, _<_}
+use mathlib.Core.Path.{_≡_, refl, ap, _∙_}
+use mathlib.Core.Bool.{Bool, true, false}
+use Prim.Native.Nat.{ℕ, _*_, _/_, _%_, _≤_}
 use native.Mathlib.Nat.{mod-eq-of-lt}
 use native.Mathlib.Omega.{arith}
 use lib.Dec.{leb}
@@ -9,9 +9,8 @@ use lib.IntN.{ℤ, pos, _-ℤ_}
 use lib.Bits.{bitAnd, and-mask, and-high}
 use borrow.Author.Tests.{leb-true, leb-false}
 use mir.Syntax.{w16}
-use mir.Val.{SFits, toZ, ofZ}
-use Rattle.numbers.proofs.Lin.{whole, ranged, back, fits-is, sub-out, eq-out}
-use Rattle.config.specs.Temperature.{sixteenthsOf}
+use mir.Val.{SFits, toZ}
+use Rattle.numbers.proofs.Lin.{whole, back, fits-is, sub-out, eq-out}
 use Rattle.config.proofs.Registers.{low-half, high-half}
 use Rattle.config.proofs.Temperature.from_register.Statement.{statement}
 use Rattle.config.proofs.Temperature.from_register.Tie as tie

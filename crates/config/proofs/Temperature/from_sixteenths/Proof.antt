@@ -1,5 +1,4 @@
 -- `config::Temperature::from_sixteenths` meets its contract: the two tests are the definition's.
-use mathlib.Core.Path.{_≡_}
 use lib.IntN.{pos, negsuc}
 use Rattle.numbers.proofs.Lin.{whole, ranged, back, is-le, not-le}
 use Rattle.config.proofs.Temperature.from_sixteenths.Statement.{statement}

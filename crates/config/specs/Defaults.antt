@@ -1,8 +1,14 @@
--- The durations at their defaults (config.rs, `Ssd1677Timing::default`).
+-- The gate scan and the durations at their defaults (config.rs).
+use mathlib.Core.Bool.{false}
 use Prim.Native.Nat.{ℕ, _*_}
 use lib.ListN.{replicate}
 use Rattle.glass.specs.declared.Provenance.the-variants.{Approximation}
+use Rattle.config.specs.declared.GateScan.{GateScan}
 use Rattle.config.specs.declared.Ssd1677Timing.{Ssd1677Timing}
+
+-- left and right interlaced, from G0: both bits clear
+abbrev pub defaultGateScan : GateScan
+defaultGateScan = record { sm = false; gd = false }
 
 -- nanoseconds in a millisecond
 abbrev pub millisecond : ℕ
