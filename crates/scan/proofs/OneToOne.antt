@@ -15,7 +15,7 @@ use Rattle.numbers.specs.Lists.{tab}
 use Rattle.numbers.proofs.Scattered.{scatter, scatter-tab}
 use Rattle.config.specs.declared.GateScan.{GateScan}
 use Rattle.config.specs.declared.PanelGeometry.{PanelGeometry}
-use Rattle.scan.specs.declared.Row.the-variants.{Is, Nothing}
+use Rattle.scan.specs.declared.Row.the-variants.{Is}
 use Rattle.scan.specs.Gates.{evenGates, rowOf, rowOfGate, nativeRow, physicalRow, gatesStored}
 
 -- the gate of a row by SM and GD: Table 8-2 read the other way

@@ -1,4 +1,4 @@
--- Laws of the row of a gate that the functions' proofs cite: half of the lines, a pair exchanged by one bit, and the bounds of a row.
+-- Laws of the row of a gate that the functions' proofs cite: a pair exchanged by one bit, and the bounds of a row.
 -- Assumes nothing.
 use mathlib.Core.Path.{_≡_, refl, ap, _∙_}
 use mathlib.Core.Bool.{Bool, true, false}
@@ -6,14 +6,11 @@ use Prim.Native.Nat.{ℕ, _+_, _-_, _*_, _/_, _%_, _<_}
 use native.Mathlib.Omega.{arith}
 use lib.Bits.{bitXor, differ, xor-step, xor-zero-r}
 use lib.Dec.{ltb, eqb}
-use borrow.Author.Tests.{eqb-true, eqb-false, ltb-true, lt-ltb}
+use borrow.Author.Tests.{eqb-true, eqb-false, ltb-true}
 use Rattle.numbers.specs.Choice.{pick}
 use Rattle.config.specs.declared.GateScan.{GateScan}
 use Rattle.scan.specs.declared.Row.the-variants.{Is, Nothing}
 use Rattle.scan.specs.Gates.{rowOf, rowOfGate, rowOr, nativeRow}
-
-pub half-up : (n : ℕ) → n / 2 + n % 2 ≡ (n + 1) / 2
-half-up n = omega arith
 
 -- `gate ^ 1`
 pub exchanged : (n : ℕ) → bitXor n 1 ≡ pick (eqb (n % 2) 0) (n + 1) (n - 1)

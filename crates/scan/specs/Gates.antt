@@ -1,7 +1,7 @@
 -- Which row of the RAM each gate shows (datasheet Table 8-2, as panel.rs cites it), and which gate drives each row of the glass.
 use mathlib.Core.Bool.{Bool, true, false}
 use mathlib.Core.List.{List}
-use Prim.Native.Nat.{ℕ, zero, suc, _+_, _-_, _*_, _/_, _%_}
+use Prim.Native.Nat.{ℕ, zero, suc, _+_, _-_, _/_, _%_}
 use lib.Dec.{ltb, eqb}
 use lib.ListN.{set}
 use Rattle.numbers.specs.Choice.{pick}

@@ -1,5 +1,5 @@
 -- The LUT of each pixel (panel.rs, `Panel::start`; document 01: an undriven pixel has 255).
-use mathlib.Core.Bool.{Bool, true, false, not}
+use mathlib.Core.Bool.{Bool, false, not}
 use mathlib.Core.List.{List}
 use Prim.Native.Nat.{ℕ, _+_, _-_, _*_, _/_, _%_}
 use lib.Dec.{eqb}

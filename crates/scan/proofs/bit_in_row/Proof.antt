@@ -1,6 +1,4 @@
 -- `scan::bit_in_row` meets its contract: the byte is in the plane, and the mask is the remainder by 2.
-use mathlib.Core.Path.{_≡_}
-use Prim.Native.Nat.{_<_}
 use borrow.Author.Needs.{needs}
 use lib.Bits.{and-mask}
 use Rattle.numbers.specs.Choice.{bitOf}

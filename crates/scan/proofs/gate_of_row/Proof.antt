@@ -1,5 +1,5 @@
 -- `scan::gate_of_row` meets its contract: after each turn one gate more is stored at its row.
-use mathlib.Core.Path.{_≡_, _∙_}
+use mathlib.Core.Path.{_∙_}
 use mathlib.Core.Logic.{⊎-elim}
 use Prim.Native.Nat.{_≤_, _-_}
 use native.Mathlib.Omega.{arith}

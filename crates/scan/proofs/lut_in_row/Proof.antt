@@ -1,6 +1,7 @@
 -- `scan::lut_in_row` meets its contract: the calls' answers, put into the definition.
-use mathlib.Core.Path.{_≡_, subst}
+use mathlib.Core.Path.{subst}
 use Prim.Native.Nat.{_<_}
+use native.Mathlib.Omega.{arith}
 use borrow.Author.Needs.{needs}
 use Rattle.scan.specs.Gates.{rowOr}
 use Rattle.scan.specs.Luts.{lutInRow, lutOfPixels}
@@ -20,7 +21,7 @@ returns c = rw (c .enum-told .given .1)
 bit-in-row-requires : tie.Need-bit-in-row-requires
 bit-in-row-requires c κs =
     let s = c .before .before .before .before .before in
-    (s .pre .0, (subst (λ r. rowOr r 0 < 680) (c .before .row .given .1) (s .pre .1 .1 .0), s .pre .1 .1 .1))
+    (omega arith, (subst (λ r. rowOr r 0 < 680) (c .before .row .given .1) (s .pre .1 .1 .0), omega arith))
 
 apply-requires : tie.Need-apply-requires
 apply-requires c κs = search needs
@@ -28,7 +29,7 @@ apply-requires c κs = search needs
 bit-in-row-requires-2 : tie.Need-bit-in-row-requires-2
 bit-in-row-requires-2 c κs =
     let s = c .before .before .before .before .before .before .before in
-    (s .pre .1 .0, (subst (λ r. rowOr r 0 < 680) (c .before .before .before .row .given .1) (s .pre .1 .1 .0), s .pre .1 .1 .1))
+    (omega arith, (subst (λ r. rowOr r 0 < 680) (c .before .before .before .row .given .1) (s .pre .1 .1 .0), omega arith))
 
 apply-requires-2 : tie.Need-apply-requires-2
 apply-requires-2 c κs = search needs
