@@ -8,9 +8,10 @@ use native.Mathlib.Omega.{arith}
 use native.Mathlib.Decide.{decLt}
 use lib.IntN.{ℤ, pos, negsuc, negℤ, _+ℤ_}
 use lib.Dec.{ltb}
+use lib.Signed.{_≤ℤ_}
 use borrow.Author.Tests.{ltb-true}
 use Rattle.numbers.specs.Saturation.{clampZ}
-use Rattle.numbers.proofs.Lin.{whole}
+use Rattle.numbers.proofs.Lin.{le-in, whole}
 use Rattle.numbers.proofs.Hold.{clamp-low, clamp-high, clamp-mid}
 use Rattle.glass.specs.declared.Transfer.{Transfer}
 use Rattle.glass.specs.Transfers.{applyT, thenT, shiftT, identityT}
@@ -119,3 +120,10 @@ run-from S room (d ∷ ds) m = run-from S room ds (moves-then S room m (moves-sh
 -- the composed run is the phases one after the other, each exact and held
 pub run-exact : (S : ℕ) → S ≤ 9223372036854775807 → (ds : List ℤ) (x : ℕ) → x ≤ S → applyT (runFrom S (identityT (pos S)) ds) (pos x) ≡ pos (drives S ds x)
 run-exact S room ds x h = run-from S room ds (moves-start S room) x h .is
+
+-- and it keeps the order of two states
+pub run-mono : (S : ℕ) → S ≤ 9223372036854775807 → (ds : List ℤ) (x y : ℕ) → x ≤ y → y ≤ S
+    → applyT (runFrom S (identityT (pos S)) ds) (pos x) ≤ℤ applyT (runFrom S (identityT (pos S)) ds) (pos y)
+run-mono S room ds x y h k =
+    rw (run-exact S room ds x (omega arith), run-exact S room ds y k)
+    (le-in _ _ (omega (whole, drives-mono S ds x y h k)))
