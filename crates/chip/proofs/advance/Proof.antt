@@ -1,45 +1,35 @@
+-- `chip::advance` meets its contract.
+use Rattle.chip.proofs.Cases.{advances}
+use Rattle.chip.proofs.Kept.{ready-now}
 use borrow.Author.Needs.{needs}
 use Rattle.chip.proofs.advance.Statement.{statement}
 use Rattle.chip.proofs.advance.Tie as tie
-use Rattle.chip.proofs.advance.Reads as reads
-use Rattle.chip.proofs.advance.Lts as lts
-use Rattle.chip.proofs.end_display.Reads as end-display-reads
-use Rattle.chip.proofs.lower_busy.Reads as lower-busy-reads
-use Rattle.device.proofs.part.set_bus.Reads as set-bus-reads
-use Rattle.device.proofs.part.set_now.Reads as set-now-reads
-use Rattle.numbers.proofs.max_u64.Reads as max-u64-reads
 
--- src/lib.rt:105:9
 max-u64-requires : tie.Need-max-u64-requires
 max-u64-requires c κs = search needs
 
--- src/lib.rt:106:9
 set-now-requires : tie.Need-set-now-requires
 set-now-requires c κs = search needs
 
--- src/lib.rt:107:9
 end-display-requires : tie.Need-end-display-requires
-end-display-requires c κs = ?
+end-display-requires c κs =
+    let s = c .before .before .before .before .before .before in
+    ready-now (s .args .state) _ _ (s .args .states .now) (s .args .luts .now) (s .args .pixels .now) (c .before .before .set-now .ensures) (s .pre)
 
--- src/lib.rt:108:9
 lower-busy-requires : tie.Need-lower-busy-requires
 lower-busy-requires c κs = search needs
 
--- src/lib.rt:109:5
 set-bus-requires : tie.Need-set-bus-requires
 set-bus-requires c κs = search needs
 
--- src/lib.rt:95:1
 same-length : tie.Need-same-length
 same-length c = search needs
 
--- src/lib.rt:95:1
 same-length-2 : tie.Need-same-length-2
 same-length-2 c = search needs
 
--- src/lib.rt:95:1
 returns : tie.Need-returns
-returns c = ?
+returns c = advances _ _ _ _ _ _ _ _ (c .before .before .before .before .before .before .before .before .before .max-u64 .ensures) (c .before .before .before .before .before .before .before .before .set-now .ensures) (c .before .before .before .before .before .end-display .ensures) (c .before .lower-busy .ensures) (c .set-bus .ensures)
 
 pub advance-spec : {M : Type 1} → statement M
 advance-spec =

@@ -1,26 +1,20 @@
+-- `chip::busy_for` meets its contract.
+use Rattle.chip.proofs.Cases.{rises, rises-not}
 use borrow.Author.Needs.{needs}
 use Rattle.chip.proofs.busy_for.Statement.{statement}
 use Rattle.chip.proofs.busy_for.Tie as tie
-use Rattle.chip.proofs.busy_for.Reads as reads
-use Rattle.chip.proofs.busy_for.Lts as lts
-use Rattle.chip.proofs.after.Reads as after-reads
-use Rattle.device.proofs.part.set_until.Reads as set-until-reads
 
--- src/lib.rt:50:13
 after-requires : tie.Need-after-requires
 after-requires c κs = search needs
 
--- src/lib.rt:51:9
 set-until-requires : tie.Need-set-until-requires
 set-until-requires c κs = search needs
 
--- src/lib.rt:51:9
 returns : tie.Need-returns
-returns c = ?
+returns c = rises _ _ _ _ _ (c .before .before .if1 .taken) (c .before .after .ensures) (c .set-until .ensures)
 
--- src/lib.rt:46:1
 returns-2 : tie.Need-returns-2
-returns-2 c = ?
+returns-2 c = rises-not _ _ _ (c .if1 .left)
 
 pub busy-for-spec : {M : Type 1} → statement M
 busy-for-spec = tie.close (tie.spec after-requires set-until-requires returns returns-2)

@@ -1,33 +1,26 @@
+-- `chip::lower_busy` meets its contract.
+use Rattle.chip.proofs.Cases.{falls, stays}
 use borrow.Author.Needs.{needs}
 use Rattle.chip.proofs.lower_busy.Statement.{statement}
 use Rattle.chip.proofs.lower_busy.Tie as tie
-use Rattle.chip.proofs.lower_busy.Reads as reads
-use Rattle.chip.proofs.lower_busy.Lts as lts
-use Rattle.device.proofs.part.set_until.Reads as set-until-reads
 
--- src/lib.rt:34:28
 enum-told : tie.Need-enum-told
 enum-told c = search needs
 
--- src/lib.rt:35:22
 enum-known-busy-until : tie.Need-enum-known-busy-until
 enum-known-busy-until c = search needs
 
--- src/lib.rt:37:17
 set-until-requires : tie.Need-set-until-requires
 set-until-requires c κs = search needs
 
--- src/lib.rt:29:1
 returns : tie.Need-returns
 returns c = search needs
 
--- src/lib.rt:29:1
 returns-2 : tie.Need-returns-2
-returns-2 c = ?
+returns-2 c = falls _ _ _ _ (c .before .before .before .busy-until .given .1) _ (c .before .if1 .taken) (c .set-until .ensures)
 
--- src/lib.rt:29:1
 returns-3 : tie.Need-returns-3
-returns-3 c = ?
+returns-3 c = stays _ _ _ _ (c .before .before .busy-until .given .1) (c .if1 .left)
 
 pub lower-busy-spec : {M : Type 1} → statement M
 lower-busy-spec =

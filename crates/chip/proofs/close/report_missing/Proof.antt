@@ -1,50 +1,41 @@
+-- `chip::close::report_missing` meets its contract.
+use Rattle.chip.proofs.Cases.{lacks, lacks-none}
+use Rattle.chip.specs.Close.{missing}
 use borrow.Author.Needs.{needs}
 use Rattle.chip.proofs.close.report_missing.Statement.{statement}
 use Rattle.chip.proofs.close.report_missing.Tie as tie
-use Rattle.chip.proofs.close.report_missing.Reads as reads
-use Rattle.chip.proofs.close.report_missing.Lts as lts
-use Rattle.chip.proofs.close.expected.Reads as expected-reads
-use Rattle.diagnostic.proofs.report.Reads as report-reads
 
--- src/close.rt:36:26
 enum-told : tie.Need-enum-told
 enum-told c = search needs
 
--- src/close.rt:37:30
 enum-told-2 : tie.Need-enum-told-2
 enum-told-2 c = search needs
 
--- src/close.rt:38:25
 enum-known-current : tie.Need-enum-known-current
 enum-known-current c = search needs
 
--- src/close.rt:40:17
 expected-requires : tie.Need-expected-requires
 expected-requires c κs = search needs
 
--- src/close.rt:44:17
 report-requires : tie.Need-report-requires
 report-requires c κs = search needs
 
--- src/close.rt:31:1
 returns : tie.Need-returns
-returns c = ?
+unfolding missing
+returns c = rw (c .enum-told .given .1)
 
--- src/close.rt:31:1
 returns-2 : tie.Need-returns-2
-returns-2 c = ?
+unfolding missing
+returns-2 c = rw (c .enum-told2 .given .1)
 
--- src/close.rt:31:1
 same-length : tie.Need-same-length
 same-length c = search needs
 
--- src/close.rt:31:1
 returns-3 : tie.Need-returns-3
-returns-3 c = ?
+returns-3 c = lacks _ _ _ _ _ (c .before .before .before .before .before .before .before .current .given .1) (c .before .before .before .before .before .expected .ensures) _ (c .before .before .before .before .if1 .taken) (c .before .before .report .ensures)
 
--- src/close.rt:31:1
 returns-4 : tie.Need-returns-4
-returns-4 c = ?
+returns-4 c = lacks-none _ _ _ _ _ (c .before .before .before .current .given .1) (c .before .expected .ensures) (c .if1 .left)
 
 pub report-missing-spec : {M : Type 1} → statement M
 report-missing-spec =
