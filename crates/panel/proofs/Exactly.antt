@@ -14,7 +14,7 @@ use borrow.Author.Tests.{lt-ltb, le-ltb}
 use Rattle.numbers.specs.Choice.{pick}
 use Rattle.numbers.specs.Saturation.{largest}
 use Rattle.numbers.proofs.Lin.{le-in, whole}
-use Rattle.numbers.proofs.Painted.{getD-tab}
+use Rattle.numbers.proofs.Painted.{length-tab, getD-tab}
 use Rattle.glass.specs.declared.Transfer.{Transfer}
 use Rattle.glass.specs.Exact.{drives}
 use Rattle.glass.specs.Greys.{grayZ}
@@ -111,7 +111,15 @@ module _ (e : Ending) (S : ℕ) (some : 1 ≤ S) (room : S ≤ 92233720368547758
       ∙ ap (stateBy (byLut e (pos S)) (getD luts i 0)) is
       ∙ exactly (getD luts i 0) x h
 
--- ---- the buffers by pixel, whatever their states
+-- ---- the buffers, whatever their states
+pub states-length : (transfer : ℕ → Transfer) (luts : List ℕ) (states : List ℤ) → length (statesBy transfer luts states) ≡ length states
+unfolding statesBy
+states-length transfer luts states = length-tab (length states) _
+
+pub pixels-length : (swing : ℤ) (states : List ℤ) → length (grays swing states) ≡ length states
+unfolding grays
+pixels-length swing states = length-tab (length states) _
+
 pub state-undriven : (transfer : ℕ → Transfer) (luts : List ℕ) (states : List ℤ) (i : ℕ) → i < length states → 4 ≤ getD luts i 0
     → getD (statesBy transfer luts states) i (pos 0) ≡ getD states i (pos 0)
 unfolding statesBy
