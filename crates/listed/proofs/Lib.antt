@@ -1,0 +1,2 @@
+-- The laws of listed.
+pub mod Masks

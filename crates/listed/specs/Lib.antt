@@ -1,0 +1,2 @@
+-- The root of listed's specs.
+pub mod Listed

@@ -1,0 +1,4 @@
+-- The laws of registers.
+pub mod Bytes
+pub mod Unwritten
+pub mod Bounds

@@ -1,0 +1,12 @@
+-- `field::update_control_2`: 0x22 stores its byte as it is.
+use mathlib.Core.Path.{_≡_, refl}
+use Rattle.registers.specs.Store.{stored}
+use Rattle.registers.proofs.field.update_control_2.Statement.{statement}
+use Rattle.registers.proofs.field.update_control_2.Tie as tie
+
+returns : tie.Need-returns
+unfolding stored
+returns c = refl
+
+pub update-control-2-spec : {M : Type 1} → statement M
+update-control-2-spec = tie.close (tie.spec returns)
