@@ -1,3 +1,6 @@
 -- The root of config's specs.
 pub mod Temperature
 pub mod Timing
+pub mod Lowest
+pub mod Answer
+pub mod Tests

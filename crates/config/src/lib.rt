@@ -3,6 +3,9 @@
 ghost use mathlib.Core.Path.{_≡_};
 ghost use lib.IntN.{pos, _*ℤ_};
 ghost use Rattle.config.specs.Temperature.{coldest, warmest, sixteenthsOf, registerOf, fromSixteenths};
+ghost use mathlib.Core.List.{[], _∷_};
+ghost use Rattle.config.specs.Answer.{isAccepted, firstOf, answerOf};
+ghost use Rattle.config.specs.Tests.{geometryTests, swingTest, periodsTest, configTests};
 ghost use Rattle.config.specs.Timing.{defaultTiming};
 use glass::Optics;
 use glass::Provenance;
@@ -90,7 +93,7 @@ impl Ssd1677Timing {
 }
 
 // A temperature in the controller's format: twelve bits, two's complement, in sixteenths of a degree Celsius (datasheet §6.8.3).
-pub struct Temperature(pub i16);
+pub struct Temperature(i16);
 
 // A temperature, where the format holds it.
 pub enum FromSixteenths {
@@ -100,26 +103,20 @@ pub enum FromSixteenths {
 
 impl Temperature {
     // The lowest value of the format, 800h, −128 °C.
-    pub fn min() -> Temperature
-        ensures { λ r. ⌜ r ≡ coldest ⌝ }
-    {
-        Temperature(-2048)
-    }
+    pub const MIN: Temperature = Temperature(-2048);
 
     // The highest value of the format, 7FFh, 127.9375 °C; the temperature register's reset value.
-    pub fn max() -> Temperature
-        ensures { λ r. ⌜ r ≡ warmest ⌝ }
-    {
-        Temperature(2047)
-    }
+    pub const MAX: Temperature = Temperature(2047);
 
     pub fn from_sixteenths(sixteenths: i16) -> FromSixteenths
         ensures { λ r. ⌜ r ≡ fromSixteenths sixteenths ⌝ }
     {
-        if sixteenths < -2048 {
+        let coldest = Temperature::MIN;
+        let warmest = Temperature::MAX;
+        if sixteenths < coldest.0 {
             return FromSixteenths::Outside;
         }
-        if 2047 < sixteenths {
+        if warmest.0 < sixteenths {
             return FromSixteenths::Outside;
         }
         FromSixteenths::Within(Temperature(sixteenths))
@@ -189,4 +186,94 @@ pub struct Ssd1677Config {
     pub vci_millivolts: u32,
     // The user ID of the OTP, read by 0x2E and loaded into its register at reset.
     pub user_id: [u8; 10],
+}
+
+// Parameters an SSD1677 model cannot be built on.
+pub enum ConfigError {
+    Accepted,
+    // The panel has no pixel.
+    EmptyPanel,
+    // The panel does not fit the controller's sources and gates.
+    PanelOutsideRam,
+    // A native gate scan with GD = 1 swaps gates in pairs, which an odd number of rows cannot hold.
+    OddRowsWithGd,
+    // The drive of a full swing is 0: every pixel would jump between black and white.
+    ZeroSwing,
+    // The frame period of this frame-rate code is 0.
+    ZeroFramePeriod(usize),
+    // The bytes lent are no table of waveforms.
+    BadTable,
+    // The waveform of this index holds a source or VCOM voltage that the datasheet does not list.
+    OtpVoltage(usize),
+}
+
+pub fn is_accepted(error: ConfigError) -> bool
+    ensures { λ r. ⌜ r ≡ isAccepted (answerOf error) ⌝ }
+{
+    match error {
+        ConfigError::Accepted => true,
+        ConfigError::EmptyPanel => false,
+        ConfigError::PanelOutsideRam => false,
+        ConfigError::OddRowsWithGd => false,
+        ConfigError::ZeroSwing => false,
+        ConfigError::ZeroFramePeriod(_) => false,
+        ConfigError::BadTable => false,
+        ConfigError::OtpVoltage(_) => false,
+    }
+}
+
+pub fn geometry_error(panel: PanelGeometry) -> ConfigError
+    ensures { λ r. ⌜ answerOf r ≡ firstOf (geometryTests panel) ⌝ }
+{
+    let native = panel.native_scan;
+    let sources = (panel.first_source as u32) + (panel.width as u32);
+    if (panel.width == 0) | (panel.height == 0) {
+        return ConfigError::EmptyPanel;
+    }
+    if ((RAM_SOURCES as u32) < sources) | (RAM_GATES < panel.height) {
+        return ConfigError::PanelOutsideRam;
+    }
+    if native.gd & (panel.height % 2 == 1) {
+        return ConfigError::OddRowsWithGd;
+    }
+    ConfigError::Accepted
+}
+
+pub fn swing_error(optics: Optics) -> ConfigError
+    ensures { λ r. ⌜ answerOf r ≡ firstOf (swingTest optics ∷ []) ⌝ }
+{
+    if optics.full_swing == 0 {
+        return ConfigError::ZeroSwing;
+    }
+    ConfigError::Accepted
+}
+
+pub fn periods_error(periods: [u64; 16]) -> ConfigError
+    ensures { λ r. ⌜ answerOf r ≡ firstOf (periodsTest periods ∷ []) ⌝ }
+{
+    let mut code: usize = 0;
+    while code < 16 {
+        if periods[code] == 0 {
+            return ConfigError::ZeroFramePeriod(code);
+        }
+        code += 1;
+    }
+    ConfigError::Accepted
+}
+
+// What is refused of a configuration whatever the table: 1 to 5.
+pub fn config_error(config: Ssd1677Config) -> ConfigError
+    ensures { λ r. ⌜ answerOf r ≡ firstOf (configTests config) ⌝ }
+{
+    let timing = config.timing;
+    let periods = timing.frame_period;
+    let geometry = geometry_error(config.panel);
+    if is_accepted(geometry) {
+        let swing = swing_error(config.optics);
+        if is_accepted(swing) {
+            return periods_error(periods);
+        }
+        return swing;
+    }
+    geometry
 }

@@ -6,19 +6,22 @@ use Rattle.config.proofs.Temperature.from_sixteenths.Statement.{stateme
 use Rattle.config.proofs.Temperature.from_sixteenths.Tie as tie
 
 returns : tie.Need-returns
-returns c = let f = ranged (c .before .fits .sixteenths) in rw (not-le (negsuc 2047) (c .before .args .sixteenths) (omega whole))
+returns c =
+    let s = c .before .before .before in
+    let f = ranged (s .fits .sixteenths) in
+    rw (not-le (negsuc 2047) (s .args .sixteenths) (omega whole))
 
 returns-2 : tie.Need-returns-2
 returns-2 c =
-    let f = ranged (c .before .before .fits .sixteenths) in
-    let z = c .before .before .args .sixteenths in
-    rw (is-le (negsuc 2047) z (omega whole), not-le z (pos 2047) (omega whole))
+    let s = c .before .before .before .before .before .before in
+    let f = ranged (s .fits .sixteenths) in
+    rw (is-le (negsuc 2047) (s .args .sixteenths) (omega whole), not-le (s .args .sixteenths) (pos 2047) (omega whole))
 
 returns-3 : tie.Need-returns-3
 returns-3 c =
-    let f = ranged (c .before .before .fits .sixteenths) in
-    let z = c .before .before .args .sixteenths in
-    rw (is-le (negsuc 2047) z (omega whole), is-le z (pos 2047) (omega whole), back (c .before .before .fits .sixteenths))
+    let s = c .before .before .before .before .before .before in
+    let f = ranged (s .fits .sixteenths) in
+    rw (is-le (negsuc 2047) (s .args .sixteenths) (omega whole), is-le (s .args .sixteenths) (pos 2047) (omega whole), back (s .fits .sixteenths))
 
 pub from-sixteenths-spec : {M : Type 1} → statement M
 from-sixteenths-spec = tie.close (tie.spec returns returns-2 returns-3)

@@ -1,0 +1,5 @@
+-- The root of otp's specs.
+pub mod Table
+pub mod Search
+pub mod Waveform
+pub mod Approximation

@@ -1,0 +1,35 @@
+-- The waveform that is taken for a mode and a temperature (datasheet §6.9, as config.rs cites it).
+use mathlib.Core.Bool.{Bool, _&&_, _||_}
+use mathlib.Core.List.{List, []}
+use Prim.Native.Nat.{ℕ, _*_}
+use lib.Dec.{eqb}
+use lib.Signed.{ltZ, leZ}
+use lib.ListN.{take, drop}
+use Rattle.numbers.specs.Choice.{pick}
+use Rattle.config.specs.declared.DisplayMode.{DisplayMode}
+use Rattle.config.specs.declared.DisplayMode.the-variants.{One, Two}
+use Rattle.config.specs.Temperature.{sixteenthsOf}
+use Rattle.otp.specs.declared.Entry.{Entry}
+use Rattle.otp.specs.declared.Entry.the-variants.{At, Nothing}
+use Rattle.otp.specs.Table.{entryBytes, entriesOf, modeAt, lowerAt, upperAt, badTable}
+use Rattle.otp.specs.Search.{lastOf}
+
+-- the mode's byte in a table (01)
+abbrev pub modeByte : DisplayMode → ℕ
+modeByte One = 0
+modeByte Two = 1
+
+-- the entry is of the mode, and its range holds the register's temperature: lower < T ≤ upper
+unfoldable pub covers : List ℕ → DisplayMode → ℕ → ℕ → Bool
+covers otp mode register entry =
+    eqb (modeAt otp entry) (modeByte mode) && ltZ (sixteenthsOf (lowerAt otp entry)) (sixteenthsOf register)
+    && leZ (sixteenthsOf register) (sixteenthsOf (upperAt otp entry))
+
+-- "The last match will be selected"; none of a table that 12 refuses (01)
+unfoldable pub foundEntry : List ℕ → DisplayMode → ℕ → Entry
+foundEntry otp mode register = pick (badTable otp) Nothing (lastOf (covers otp mode register) (entriesOf otp))
+
+-- the bytes of an entry
+abbrev pub partOf : List ℕ → Entry → List ℕ
+partOf otp (At entry) = take entryBytes (drop (entryBytes * entry) otp)
+partOf otp Nothing = []

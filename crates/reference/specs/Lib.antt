@@ -1,0 +1,2 @@
+-- The root of reference's specs.
+pub mod Reference
