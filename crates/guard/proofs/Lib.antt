@@ -1,0 +1,4 @@
+-- The laws of guard that belong to no one function.
+pub mod SameKind
+pub mod Periods
+pub mod Parts

@@ -1,0 +1,52 @@
+-- The lengths that 11 asks of what a call is lent (document 01, "Forms that cannot stay").
+use Prim.Native.Nat.{ℕ, _*_}
+use mathlib.Core.Bool.{Bool, true, _&&_}
+use lib.Dec.{eqb}
+use Rattle.config.specs.declared.PanelGeometry.{PanelGeometry}
+use Rattle.guard.specs.declared.lengths.Lent.{Lent}
+use Rattle.guard.specs.declared.lengths.Lent.the-variants.{Nothing, Of}
+use Rattle.guard.specs.declared.lengths.Lengths.{Lengths}
+
+-- a plane: 680 rows of 120 bytes
+abbrev pub planeBytes : ℕ
+planeBytes = 81600
+
+-- the log: 1,024 records of 16 bytes
+abbrev pub logBytes : ℕ
+logBytes = 16384
+
+-- the pixels of a panel
+abbrev pub pixelsOf : PanelGeometry → ℕ
+pixelsOf p = p .width * p .height
+
+-- a buffer has the right length, or is not lent
+unfoldable pub fits : Lent → ℕ → Bool
+fits Nothing right = true
+fits (Of n) right = eqb n right
+
+-- 11 finds nothing to refuse
+unfoldable pub lengthsFit : PanelGeometry → Lengths → Bool
+lengthsFit p l =
+    eqb (l .states) (pixelsOf p)
+    && eqb (l .luts) (pixelsOf p)
+    && eqb (l .pixels) (pixelsOf p)
+    && fits (l .log) logBytes
+    && fits (l .«black_white») planeBytes
+    && fits (l .red) planeBytes
+    && fits (l .gates) (p .height)
+
+-- what `advance` is lent: states, chosen LUTs and pixels
+abbrev pub glassLent : ℕ → ℕ → ℕ → Lengths
+glassLent s l p = record { states = s; luts = l; pixels = p; log = Nothing; «black_white» = Nothing; red = Nothing; gates = Nothing }
+
+-- what `set_reset` is lent: the same and the log
+abbrev pub glassLogLent : ℕ → ℕ → ℕ → ℕ → Lengths
+glassLogLent s l p g = record { states = s; luts = l; pixels = p; log = Of g; «black_white» = Nothing; red = Nothing; gates = Nothing }
+
+-- what `write_data` and `read_data` are lent: the same and both planes
+abbrev pub planesLogLent : ℕ → ℕ → ℕ → ℕ → ℕ → ℕ → Lengths
+planesLogLent s l p g b r = record { states = s; luts = l; pixels = p; log = Of g; «black_white» = Of b; red = Of r; gates = Nothing }
+
+-- what `new` and `write_command` are lent: the same and gate-of-row
+abbrev pub allLent : ℕ → ℕ → ℕ → ℕ → ℕ → ℕ → ℕ → Lengths
+allLent s l p g b r o = record { states = s; luts = l; pixels = p; log = Of g; «black_white» = Of b; red = Of r; gates = Of o }
