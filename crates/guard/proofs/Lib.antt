@@ -2,3 +2,6 @@
 pub mod SameKind
 pub mod Periods
 pub mod Parts
+pub mod Joined
+pub mod Accepted
+pub mod Kept

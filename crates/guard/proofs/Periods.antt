@@ -43,7 +43,7 @@ pub none-zero : (periods : List ℕ) (any : Bool) → any ≡ anyOf (isZero peri
 unfolding periodsFine
 none-zero periods any e = ap not (e ∙ any-lowest (isZero periods) 16)
 
-none-of : (a b : Bool) → a || b ≡ false → (a ≡ false) × (b ≡ false)
+pub none-of : (a b : Bool) → a || b ≡ false → (a ≡ false) × (b ≡ false)
 none-of true b e = absurd (no e)
   where
     no : true ≡ false → ⊥
