@@ -87,6 +87,7 @@ none-refuses t ts e = by (t .refuses) e
   where
     never : false ≡ true → ⊥
     never f = let z : _≡_ {A = ℕ} 0 1 = cc in omega arith
+
     by : (r : Bool) → isAccepted (pick r (refused (t .number) (t .value)) (firstOf ts)) ≡ true → (r ≡ false) × (isAccepted (firstOf ts) ≡ true)
     by true f = absurd (never f)
     by false f = (refl, f)
@@ -130,10 +131,10 @@ pub fine-registers : (r : Registers) → registersFine r ≡ true → FineRegist
 unfolding registersFine
 fine-registers r e =
     let at =
-        each (leb (r .mux) 1023)
-        (leb (r .window .«x_start») 1023 ∷ leb (r .window .«x_end») 1023 ∷ leb (r .window .«y_start») 1023 ∷ leb (r .window .«y_end») 1023
-            ∷ leb (r .counter .x) 1023 ∷ leb (r .counter .y) 1023 ∷ leb (r .entry .0) 7 ∷ leb (r .temperature) 4095 ∷ [])
-        e in
+    each (leb (r .mux) 1023)
+    (leb (r .window .«x_start») 1023 ∷ leb (r .window .«x_end») 1023 ∷ leb (r .window .«y_start») 1023 ∷ leb (r .window .«y_end») 1023
+    ∷ leb (r .counter .x) 1023 ∷ leb (r .counter .y) 1023 ∷ leb (r .entry .0) 7 ∷ leb (r .temperature) 4095 ∷ [])
+    e in
     record {
       mux = leb-true (r .mux) 1023 (at 0);
       x-start = leb-true (r .window .«x_start») 1023 (at 1);
@@ -165,8 +166,8 @@ fine-state d e =
     let swing = d .panel .swing in
     let periods = d .config .timing .«frame_period» in
     let at =
-        each (panelFine (d .config .panel))
-        (swingFine swing ∷ periodsFine periods ∷ registersFine (d .regs) ∷ countFine (d .journal .count) ∷ currentFine (d .bus .current) ∷ []) e in
+    each (panelFine (d .config .panel))
+    (swingFine swing ∷ periodsFine periods ∷ registersFine (d .regs) ∷ countFine (d .journal .count) ∷ currentFine (d .bus .current) ∷ []) e in
     record {
       panel = fine-panel (d .config .panel) (at 0);
       swing = at-most (pos 1) swing (left (leZ (pos 1) swing) (leZ swing most) (at 1));
@@ -195,10 +196,10 @@ pub fine-lengths : (p : PanelGeometry) (l : Lengths) → lengthsFit p l ≡ true
 unfolding lengthsFit
 fine-lengths p l e =
     let at =
-        each (eqb (l .states) (pixelsOf p))
-        (eqb (l .luts) (pixelsOf p) ∷ eqb (l .pixels) (pixelsOf p) ∷ fits (l .log) logBytes ∷ fits (l .«black_white») planeBytes
-            ∷ fits (l .red) planeBytes ∷ fits (l .gates) (p .height) ∷ [])
-        e in
+    each (eqb (l .states) (pixelsOf p))
+    (eqb (l .luts) (pixelsOf p) ∷ eqb (l .pixels) (pixelsOf p) ∷ fits (l .log) logBytes ∷ fits (l .«black_white») planeBytes
+    ∷ fits (l .red) planeBytes ∷ fits (l .gates) (p .height) ∷ [])
+    e in
     record {
       states = eqb-true (l .states) (pixelsOf p) (at 0);
       luts = eqb-true (l .luts) (pixelsOf p) (at 1);

@@ -12,9 +12,17 @@ use Rattle.guard.proofs.Accepted.{FineRegisters}
 pub registers-pass : (r : Registers) → FineRegisters r → registersFine r ≡ true
 unfolding registersFine
 registers-pass r f =
-    rw (le-leb (r .mux) 1023 (f .mux), le-leb (r .window .«x_start») 1023 (f .x-start), le-leb (r .window .«x_end») 1023 (f .x-end),
-        le-leb (r .window .«y_start») 1023 (f .y-start), le-leb (r .window .«y_end») 1023 (f .y-end), le-leb (r .counter .x) 1023 (f .x),
-        le-leb (r .counter .y) 1023 (f .y), le-leb (r .entry .0) 7 (f .entry), le-leb (r .temperature) 4095 (f .temperature))
+    rw (
+      le-leb (r .mux) 1023 (f .mux),
+      le-leb (r .window .«x_start») 1023 (f .x-start),
+      le-leb (r .window .«x_end») 1023 (f .x-end),
+      le-leb (r .window .«y_start») 1023 (f .y-start),
+      le-leb (r .window .«y_end») 1023 (f .y-end),
+      le-leb (r .counter .x) 1023 (f .x),
+      le-leb (r .counter .y) 1023 (f .y),
+      le-leb (r .entry .0) 7 (f .entry),
+      le-leb (r .temperature) 4095 (f .temperature),
+    )
 
 pub state-passes : (d : Ssd1677)
     → panelFine (d .config .panel) ≡ true → swingFine (d .panel .swing) ≡ true → periodsFine (d .config .timing .«frame_period») ≡ true

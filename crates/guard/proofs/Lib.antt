@@ -2,6 +2,7 @@
 pub mod SameKind
 pub mod Periods
 pub mod Parts
+pub mod WithTable
 pub mod Joined
 pub mod Accepted
 pub mod Kept

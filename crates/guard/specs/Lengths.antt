@@ -35,18 +35,22 @@ lengthsFit p l =
     && fits (l .red) planeBytes
     && fits (l .gates) (p .height)
 
+-- the lengths of what is lent
+abbrev pub lengthsOf : ℕ → ℕ → ℕ → Lent → Lent → Lent → Lent → Lengths
+lengthsOf s l p g b r o = record { states = s; luts = l; pixels = p; log = g; «black_white» = b; red = r; gates = o }
+
 -- what `advance` is lent: states, chosen LUTs and pixels
 abbrev pub glassLent : ℕ → ℕ → ℕ → Lengths
-glassLent s l p = record { states = s; luts = l; pixels = p; log = Nothing; «black_white» = Nothing; red = Nothing; gates = Nothing }
+glassLent s l p = lengthsOf s l p Nothing Nothing Nothing Nothing
 
 -- what `set_reset` is lent: the same and the log
 abbrev pub glassLogLent : ℕ → ℕ → ℕ → ℕ → Lengths
-glassLogLent s l p g = record { states = s; luts = l; pixels = p; log = Of g; «black_white» = Nothing; red = Nothing; gates = Nothing }
+glassLogLent s l p g = lengthsOf s l p (Of g) Nothing Nothing Nothing
 
 -- what `write_data` and `read_data` are lent: the same and both planes
 abbrev pub planesLogLent : ℕ → ℕ → ℕ → ℕ → ℕ → ℕ → Lengths
-planesLogLent s l p g b r = record { states = s; luts = l; pixels = p; log = Of g; «black_white» = Of b; red = Of r; gates = Nothing }
+planesLogLent s l p g b r = lengthsOf s l p (Of g) (Of b) (Of r) Nothing
 
 -- what `new` and `write_command` are lent: the same and gate-of-row
 abbrev pub allLent : ℕ → ℕ → ℕ → ℕ → ℕ → ℕ → ℕ → Lengths
-allLent s l p g b r o = record { states = s; luts = l; pixels = p; log = Of g; «black_white» = Of b; red = Of r; gates = Of o }
+allLent s l p g b r o = lengthsOf s l p (Of g) (Of b) (Of r) (Of o)

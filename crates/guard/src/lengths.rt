@@ -1,6 +1,6 @@
 // The lengths of what a call is lent.
 ghost use mathlib.Core.Path.{_≡_};
-ghost use Rattle.guard.specs.Lengths.{fits, lengthsFit, glassLent, glassLogLent, planesLogLent, allLent};
+ghost use Rattle.guard.specs.Lengths.{fits, lengthsFit, lengthsOf, glassLent, glassLogLent, planesLogLent, allLent};
 use config::PanelGeometry;
 use ram::PLANE_BYTES;
 
@@ -24,34 +24,43 @@ pub struct Lengths {
     pub gates: Lent,
 }
 
-// Lent to `advance`.
-pub fn glass_lent(states: usize, luts: usize, pixels: usize) -> Lengths
-    ensures { λ r. ⌜ r ≡ glassLent states luts pixels ⌝ }
+fn lengths_of(
+    states: usize,
+    luts: usize,
+    pixels: usize,
+    log: Lent,
+    black_white: Lent,
+    red: Lent,
+    gates: Lent,
+) -> Lengths
+    ensures { λ r. ⌜ r ≡ lengthsOf states luts pixels log «black_white» red gates ⌝ }
 {
     Lengths {
         states,
         luts,
         pixels,
-        log: Lent::Nothing,
-        black_white: Lent::Nothing,
-        red: Lent::Nothing,
-        gates: Lent::Nothing,
+        log,
+        black_white,
+        red,
+        gates,
     }
+}
+
+// Lent to `advance`.
+pub fn glass_lent(states: usize, luts: usize, pixels: usize) -> Lengths
+    ensures { λ r. ⌜ r ≡ glassLent states luts pixels ⌝ }
+{
+    let none = Lent::Nothing;
+    lengths_of(states, luts, pixels, none, none, none, none)
 }
 
 // Lent to `set_reset`.
 pub fn glass_log_lent(states: usize, luts: usize, pixels: usize, log: usize) -> Lengths
     ensures { λ r. ⌜ r ≡ glassLogLent states luts pixels log ⌝ }
 {
-    Lengths {
-        states,
-        luts,
-        pixels,
-        log: Lent::Of(log),
-        black_white: Lent::Nothing,
-        red: Lent::Nothing,
-        gates: Lent::Nothing,
-    }
+    let none = Lent::Nothing;
+    let log = Lent::Of(log);
+    lengths_of(states, luts, pixels, log, none, none, none)
 }
 
 // Lent to `write_data` and `read_data`.
@@ -65,15 +74,11 @@ pub fn planes_log_lent(
 ) -> Lengths
     ensures { λ r. ⌜ r ≡ planesLogLent states luts pixels log «black_white» red ⌝ }
 {
-    Lengths {
-        states,
-        luts,
-        pixels,
-        log: Lent::Of(log),
-        black_white: Lent::Of(black_white),
-        red: Lent::Of(red),
-        gates: Lent::Nothing,
-    }
+    let none = Lent::Nothing;
+    let log = Lent::Of(log);
+    let black_white = Lent::Of(black_white);
+    let red = Lent::Of(red);
+    lengths_of(states, luts, pixels, log, black_white, red, none)
 }
 
 // Lent to `new` and `write_command`.
@@ -88,15 +93,11 @@ pub fn all_lent(
 ) -> Lengths
     ensures { λ r. ⌜ r ≡ allLent states luts pixels log «black_white» red gates ⌝ }
 {
-    Lengths {
-        states,
-        luts,
-        pixels,
-        log: Lent::Of(log),
-        black_white: Lent::Of(black_white),
-        red: Lent::Of(red),
-        gates: Lent::Of(gates),
-    }
+    let log = Lent::Of(log);
+    let black_white = Lent::Of(black_white);
+    let red = Lent::Of(red);
+    let gates = Lent::Of(gates);
+    lengths_of(states, luts, pixels, log, black_white, red, gates)
 }
 
 fn fits(lent: Lent, right: usize) -> bool

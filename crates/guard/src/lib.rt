@@ -49,10 +49,10 @@ pub fn check(state: Ssd1677, lengths: Lengths) -> Refusal
 {
     let config = state.config;
     let fine = state::state_is_fine(state);
+    let fit = lengths::lengths_fit(config.panel, lengths);
     if !fine {
         return Refusal::State;
     }
-    let fit = lengths::lengths_fit(config.panel, lengths);
     if !fit {
         return Refusal::Buffer;
     }
@@ -63,16 +63,12 @@ pub fn check(state: Ssd1677, lengths: Lengths) -> Refusal
 pub fn check_with_table(state: Ssd1677, lengths: Lengths, otp: &[u8]) -> Refusal
     ensures { λ r. ⌜ r ≡ guardedWithTable state lengths (now (otp .entry)) ⌝ }
 {
-    let config = state.config;
-    let fine = state::state_is_fine(state);
-    if !fine {
-        return Refusal::State;
-    }
-    let fit = lengths::lengths_fit(config.panel, lengths);
-    if !fit {
-        return Refusal::Buffer;
-    }
+    let refusal = check(state, lengths);
+    let accepted = is_accepted(refusal);
     let bad = otp::is_bad_table(otp);
+    if !accepted {
+        return refusal;
+    }
     if bad {
         return Refusal::Table;
     }
