@@ -1,5 +1,5 @@
 -- What a call that is not refused knows of what it was handed. Assumes nothing.
-use Prim.Native.Nat.{ℕ, _+_, _*_, _%_, _≤_, _<_}
+use Prim.Native.Nat.{ℕ, _+_, _%_, _≤_, _<_}
 use mathlib.Core.Path.{_≡_, refl, sym, ap, _∙_, subst}
 use mathlib.Core.Bool.{Bool, true, false, _&&_, not}
 use mathlib.Core.List.{List, [], _∷_}
@@ -8,70 +8,67 @@ use lib.Dec.{T, eqb, leb, ltb}
 use lib.IntN.{ℤ, pos}
 use lib.Signed.{leZ, _≤ℤ_, leZ-yes}
 use lib.ListN.{getD}
-use borrow.Author.Tests.{ltb-false, leb-true, eqb-true, eqb-false, not-true, not-false}
+use borrow.Author.Tests.{ltb-false, leb-true, eqb-true, eqb-false}
 use Rattle.numbers.specs.Choice.{pick}
 use Rattle.numbers.specs.Saturation.{most}
 use Rattle.numbers.proofs.Cases.{left, right}
 use Rattle.config.specs.declared.PanelGeometry.{PanelGeometry}
-use Rattle.config.specs.Answer.{accepted, refused, isAccepted, Test, firstOf}
+use Rattle.config.specs.Answer.{refused, isAccepted, Test, firstOf}
 use Rattle.config.specs.Tests.{emptyPanel, panelOutsideRam, oddRowsWithGd}
 use Rattle.otp.specs.Table.{badTable}
 use Rattle.device.specs.declared.Registers.{Registers}
 use Rattle.device.specs.declared.Ssd1677.{Ssd1677}
 use Rattle.guard.specs.declared.lengths.Lent.{Lent}
-use Rattle.guard.specs.declared.lengths.Lent.the-variants.{Nothing, Of}
+use Rattle.guard.specs.declared.lengths.Lent.the-variants.{Of}
 use Rattle.guard.specs.declared.lengths.Lengths.{Lengths}
 use Rattle.guard.specs.declared.Refusal.{Refusal}
 use Rattle.guard.specs.declared.Refusal.the-variants.{Accepted, Buffer, Table, State}
 use Rattle.guard.specs.Kinds.{currentFine}
 use Rattle.guard.specs.State.{panelFine, swingFine, periodsFine, registersFine, countFine, stateFine}
 use Rattle.guard.specs.Lengths.{planeBytes, logBytes, pixelsOf, fits, lengthsFit}
-use Rattle.guard.specs.Refusals.{guarded, guardedWithTable}
+use Rattle.guard.specs.Refusals.{accepts, guarded, guardedWithTable}
 use Rattle.guard.proofs.Joined.{each}
 use Rattle.guard.proofs.Periods.{none-of, each-above-zero}
 
 -- ---- which tests have passed
-no : (r : Refusal) → r ≡ Accepted → r ≡ State → ⊥
-no r e f = let z : _≡_ {A = ℕ} 0 1 = cc in omega arith
+never : false ≡ true → ⊥
+never e = let z : _≡_ {A = ℕ} 0 1 = cc in omega arith
 
-no-buffer : (r : Refusal) → r ≡ Accepted → r ≡ Buffer → ⊥
-no-buffer r e f = let z : _≡_ {A = ℕ} 0 1 = cc in omega arith
-
-no-table : (r : Refusal) → r ≡ Accepted → r ≡ Table → ⊥
-no-table r e f = let z : _≡_ {A = ℕ} 0 1 = cc in omega arith
+not-accepted : (r : Refusal) → accepts r ≡ false → r ≡ Accepted → ⊥
+not-accepted r h e = never (sym h ∙ ap accepts e)
 
 two : (a b : Bool) → pick (not a) State (pick (not b) Buffer Accepted) ≡ Accepted → (a ≡ true) × (b ≡ true)
 two true true e = (refl, refl)
-two true false e = absurd (no-buffer Buffer e refl)
-two false b e = absurd (no State e refl)
+two true false e = absurd (not-accepted Buffer refl e)
+two false b e = absurd (not-accepted State refl e)
 
 three : (a b c : Bool) → pick (not a) State (pick (not b) Buffer (pick c Table Accepted)) ≡ Accepted → (a ≡ true) × (b ≡ true) × (c ≡ false)
-three true true true e = absurd (no-table Table e refl)
+three true true true e = absurd (not-accepted Table refl e)
 three true true false e = (refl, refl, refl)
-three true false c e = absurd (no-buffer Buffer e refl)
-three false b c e = absurd (no State e refl)
+three true false c e = absurd (not-accepted Buffer refl e)
+three false b c e = absurd (not-accepted State refl e)
 
-module _ (d : Ssd1677) (l : Lengths) (accepts : guarded d l ≡ Accepted) where
+module _ (d : Ssd1677) (l : Lengths) (passes : guarded d l ≡ Accepted) where
   pub accepted-state : stateFine d ≡ true
   unfolding guarded
-  accepted-state = two (stateFine d) (lengthsFit (d .config .panel) l) accepts .0
+  accepted-state = two (stateFine d) (lengthsFit (d .config .panel) l) passes .0
 
   pub accepted-lengths : lengthsFit (d .config .panel) l ≡ true
   unfolding guarded
-  accepted-lengths = two (stateFine d) (lengthsFit (d .config .panel) l) accepts .1
+  accepted-lengths = two (stateFine d) (lengthsFit (d .config .panel) l) passes .1
 
-module _ (d : Ssd1677) (l : Lengths) (otp : List ℕ) (accepts : guardedWithTable d l otp ≡ Accepted) where
+module _ (d : Ssd1677) (l : Lengths) (otp : List ℕ) (passes : guardedWithTable d l otp ≡ Accepted) where
   pub table-state : stateFine d ≡ true
   unfolding guardedWithTable
-  table-state = three (stateFine d) (lengthsFit (d .config .panel) l) (badTable otp) accepts .0
+  table-state = three (stateFine d) (lengthsFit (d .config .panel) l) (badTable otp) passes .0
 
   pub table-lengths : lengthsFit (d .config .panel) l ≡ true
   unfolding guardedWithTable
-  table-lengths = three (stateFine d) (lengthsFit (d .config .panel) l) (badTable otp) accepts .1
+  table-lengths = three (stateFine d) (lengthsFit (d .config .panel) l) (badTable otp) passes .1
 
   pub table-good : badTable otp ≡ false
   unfolding guardedWithTable
-  table-good = three (stateFine d) (lengthsFit (d .config .panel) l) (badTable otp) accepts .2
+  table-good = three (stateFine d) (lengthsFit (d .config .panel) l) (badTable otp) passes .2
 
 -- ---- a panel
 pub record FinePanel (p : PanelGeometry) : Type 0 where
@@ -81,7 +78,7 @@ pub record FinePanel (p : PanelGeometry) : Type 0 where
   pub gates : p .height ≤ 680
   pub even : p .«native_scan» .gd ≡ true → p .height % 2 ≡ 0
 
-none-refuses : (t : Test) (ts : List Test) → isAccepted (firstOf (t ∷ ts)) ≡ true → (t .refuses ≡ false) × (isAccepted (firstOf ts) ≡ true)
+pub none-refuses : (t : Test) (ts : List Test) → isAccepted (firstOf (t ∷ ts)) ≡ true → (t .refuses ≡ false) × (isAccepted (firstOf ts) ≡ true)
 unfolding firstOf
 none-refuses t ts e = by (t .refuses) e
   where
@@ -95,9 +92,6 @@ none-refuses t ts e = by (t .refuses) e
 not-both : (a b : Bool) → a && b ≡ false → a ≡ true → b ≡ false
 not-both true b e f = e
 not-both false b e f = absurd (never f)
-  where
-    never : false ≡ true → ⊥
-    never g = let z : _≡_ {A = ℕ} 0 1 = cc in omega arith
 
 pub fine-panel : (p : PanelGeometry) → panelFine p ≡ true → FinePanel p
 unfolding panelFine

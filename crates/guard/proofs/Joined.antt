@@ -1,10 +1,10 @@
 -- Tests joined by `&`: where all pass, each does. Assumes nothing.
 use Prim.Native.Nat.{ℕ, zero, suc}
 use mathlib.Core.Path.{_≡_, refl, sym, ap, _∙_}
-use mathlib.Core.Bool.{Bool, true, false, _&&_}
+use mathlib.Core.Bool.{Bool, true, _&&_}
 use mathlib.Core.List.{List, [], _∷_}
 use lib.ListN.{getD}
-use Rattle.numbers.proofs.Cases.{left, right}
+use Rattle.numbers.proofs.Cases.{left}
 
 -- a & b & c & ..
 abbrev pub joined : Bool → List Bool → Bool

@@ -1,6 +1,5 @@
 -- A state that 13 lets pass, from its parts: what shows that a call leaves such a state. Assumes nothing.
-use Prim.Native.Nat.{ℕ}
-use mathlib.Core.Path.{_≡_, refl}
+use mathlib.Core.Path.{_≡_}
 use mathlib.Core.Bool.{true}
 use borrow.Author.Tests.{le-leb}
 use Rattle.device.specs.declared.Registers.{Registers}

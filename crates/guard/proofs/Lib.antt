@@ -6,3 +6,4 @@ pub mod WithTable
 pub mod Joined
 pub mod Accepted
 pub mod Kept
+pub mod Started

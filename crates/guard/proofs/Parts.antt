@@ -1,6 +1,5 @@
 -- The parts of a test put together, over plain variables. Assumes nothing.
-use Prim.Native.Nat.{ℕ}
-use mathlib.Core.Path.{_≡_, refl}
+use mathlib.Core.Path.{_≡_}
 use mathlib.Core.Bool.{Bool, _&&_}
 use lib.Dec.{eqb}
 use Rattle.config.specs.declared.PanelGeometry.{PanelGeometry}

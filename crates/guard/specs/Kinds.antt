@@ -1,5 +1,4 @@
 -- When a state's active command has the kind that `kind` gives it (document 01, 13).
-use Prim.Native.Nat.{ℕ}
 use mathlib.Core.Bool.{Bool, true, false, _&&_}
 use lib.Dec.{eqb}
 use Rattle.device.specs.declared.Kind.{Kind}

@@ -9,8 +9,6 @@ use Rattle.numbers.specs.Saturation.{most}
 use Rattle.config.specs.declared.PanelGeometry.{PanelGeometry}
 use Rattle.config.specs.Answer.{isAccepted, firstOf}
 use Rattle.config.specs.Tests.{geometryTests, periodsTest}
-use Rattle.ram.specs.declared.Window.{Window}
-use Rattle.ram.specs.declared.Counter.{Counter}
 use Rattle.device.specs.declared.Registers.{Registers}
 use Rattle.device.specs.declared.Ssd1677.{Ssd1677}
 use Rattle.guard.specs.Kinds.{currentFine}
