@@ -1,0 +1,2 @@
+-- The laws of busy that belong to no one function.
+pub mod Deadlines

@@ -1,0 +1,2 @@
+-- The root of busy's specs.
+pub mod Busy

@@ -1,0 +1,41 @@
+-- What a call other than start refuses of what it is handed, in document 01's order: 13, 11, 12.
+use Prim.Native.Nat.{ℕ}
+use mathlib.Core.Bool.{Bool, true, false, not}
+use mathlib.Core.List.{List}
+use Rattle.numbers.specs.Choice.{pick}
+use Rattle.otp.specs.Table.{badTable}
+use Rattle.device.specs.declared.Ssd1677.{Ssd1677}
+use Rattle.guard.specs.declared.lengths.Lengths.{Lengths}
+use Rattle.guard.specs.declared.Refusal.{Refusal}
+use Rattle.guard.specs.declared.Refusal.the-variants.{Accepted, Buffer, Table, State}
+use Rattle.guard.specs.State.{stateFine}
+use Rattle.guard.specs.Lengths.{lengthsFit}
+
+-- document 01's number of a refusal, 0 for none
+abbrev pub numberOf : Refusal → ℕ
+numberOf Accepted = 0
+numberOf Buffer = 11
+numberOf Table = 12
+numberOf State = 13
+
+-- the call is not refused
+abbrev pub accepts : Refusal → Bool
+accepts Accepted = true
+accepts Buffer = false
+accepts Table = false
+accepts State = false
+
+-- 13, then 11
+unfoldable pub guarded : Ssd1677 → Lengths → Refusal
+guarded d l =
+    pick (not (stateFine d)) State
+    (pick (not (lengthsFit (d .config .panel) l)) Buffer
+    Accepted)
+
+-- 13, then 11, then 12
+unfoldable pub guardedWithTable : Ssd1677 → Lengths → List ℕ → Refusal
+guardedWithTable d l otp =
+    pick (not (stateFine d)) State
+    (pick (not (lengthsFit (d .config .panel) l)) Buffer
+    (pick (badTable otp) Table
+    Accepted))

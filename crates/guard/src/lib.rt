@@ -1,0 +1,76 @@
+// What the host must hand over with a call: a state, buffers of the right lengths and a table, or the call is refused (document 01,
+// "The host that lends").
+ghost use mathlib.Core.Path.{_≡_};
+ghost use Rattle.guard.specs.Refusals.{accepts, numberOf, guarded, guardedWithTable};
+use device::Ssd1677;
+use lengths::Lengths;
+
+pub mod kinds;
+pub mod lengths;
+pub mod state;
+
+// Why a call was refused.
+pub enum Refusal {
+    Accepted,
+    // 11: a buffer's length.
+    Buffer,
+    // 12: the table of waveforms.
+    Table,
+    // 13: the state.
+    State,
+}
+
+pub fn is_accepted(refusal: Refusal) -> bool
+    ensures { λ r. ⌜ r ≡ accepts refusal ⌝ }
+{
+    match refusal {
+        Refusal::Accepted => true,
+        Refusal::Buffer => false,
+        Refusal::Table => false,
+        Refusal::State => false,
+    }
+}
+
+// Document 01's number, 0 for none.
+pub fn number(refusal: Refusal) -> u8
+    ensures { λ r. ⌜ r ≡ numberOf refusal ⌝ }
+{
+    match refusal {
+        Refusal::Accepted => 0,
+        Refusal::Buffer => 11,
+        Refusal::Table => 12,
+        Refusal::State => 13,
+    }
+}
+
+// For a call that is lent no table.
+pub fn check(state: Ssd1677, lengths: Lengths) -> Refusal
+    ensures { λ r. ⌜ r ≡ guarded state lengths ⌝ }
+{
+    let config = state.config;
+    let fine = state::state_is_fine(state);
+    let fit = lengths::lengths_fit(config.panel, lengths);
+    if !fine {
+        return Refusal::State;
+    }
+    if !fit {
+        return Refusal::Buffer;
+    }
+    Refusal::Accepted
+}
+
+// For a call that is lent a table.
+pub fn check_with_table(state: Ssd1677, lengths: Lengths, otp: &[u8]) -> Refusal
+    ensures { λ r. ⌜ r ≡ guardedWithTable state lengths (now (otp .entry)) ⌝ }
+{
+    let refusal = check(state, lengths);
+    let accepted = is_accepted(refusal);
+    let bad = otp::is_bad_table(otp);
+    if !accepted {
+        return refusal;
+    }
+    if bad {
+        return Refusal::Table;
+    }
+    Refusal::Accepted
+}
