@@ -14,11 +14,8 @@ ghost use Rattle.ram.specs.Registers.{tenBits};
 mod auto;
 
 pub use auto::auto_write;
-
-// Sources of the controller: the width of each plane, in pixels (datasheet §1).
-pub const RAM_SOURCES: u16 = 960;
-// Gates of the controller: the height of each plane, in rows (datasheet §1).
-pub const RAM_GATES: u16 = 680;
+pub use config::RAM_GATES;
+pub use config::RAM_SOURCES;
 
 // Bytes in a row of a plane.
 pub const ROW_BYTES: usize = RAM_SOURCES as usize / 8;
