@@ -28,6 +28,7 @@ pub record Glass : Type 0 where
   pub states : List ℤ
   pub pixels : List ℕ
 
+-- the three as one
 abbrev pub glass : Panel → List ℤ → List ℕ → Glass
 glass p s x = record { panel = p; states = s; pixels = x }
 
@@ -39,6 +40,7 @@ pub record Ending : Type 0 where
   pub at : ℕ
   pub until : Until
 
+-- the five as one
 abbrev pub ending : Display → Bool → List ℕ → ℕ → Until → Ending
 ending d black periods at until = record { display = d; black = black; periods = periods; at = at; until = until }
 

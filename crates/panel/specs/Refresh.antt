@@ -21,6 +21,7 @@ use Rattle.panel.specs.declared.refresh.Refresh.{Refresh}
 abbrev pub AllWalkable : Waveform → Type 0
 AllWalkable w = (drive : Drive) → Takes drive → Walkable w drive
 
+-- a display of a waveform, by the swing, the sign and how much of it counts
 abbrev pub refreshOf : Waveform → ℤ → Bool → Until → Refresh
 refreshOf w swing black until = record { waveform = w; swing = swing; «positive_drives_black» = black; until = until }
 

@@ -44,6 +44,7 @@ pub record Fresh : Type 0 where
   pub luts : List ℕ
   pub pixels : List ℕ
 
+-- the four as one
 abbrev pub fresh : Panel → List ℤ → List ℕ → List ℕ → Fresh
 fresh p s l x = record { panel = p; states = s; luts = l; pixels = x }
 

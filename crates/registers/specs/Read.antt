@@ -16,6 +16,7 @@ pub record Answer : Type 0 where
   pub count : ℕ
   pub bytes : List ℕ
 
+-- the two as one
 abbrev pub answer : ℕ → List ℕ → Answer
 answer count bytes = record { count = count; bytes = bytes }
 

@@ -19,7 +19,7 @@ use super::random::Random;
 type Family = (&'static str, fn(&mut Script));
 
 const FAMILIES: [Family; 19] = [
-    ("firmware", firmware::session),
+    ("firmware", firmware::run),
     ("reset", driving::reset_timing),
     ("cut", driving::cut_edges),
     ("ends", driving::two_ends),

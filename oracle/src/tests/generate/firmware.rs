@@ -1,4 +1,4 @@
-//! What a firmware sends: the steps that the families below are made of, and whole sessions.
+//! What a firmware sends: the steps that the families below are made of, and whole runs.
 
 use super::script::Script;
 use crate::ssd1677::tests::configurations::{self, Geometry};
@@ -14,7 +14,7 @@ fn low_high(number: u64) -> [u8; 2] {
     [bytes[0], bytes[1]]
 }
 
-/// The start of a session, with `lines` gates scanned in the order of `scan` (the third byte).
+/// The start of a run, with `lines` gates scanned in the order of `scan` (the third byte).
 pub(super) fn init(script: &mut Script, lines: u64, scan: u8) {
     script.command(0x12);
     script.wait();
@@ -80,7 +80,7 @@ pub(super) fn power_on(script: &mut Script) {
 }
 
 /// A start on a panel of its own: small, or now and then the X4's.
-fn session_panel(script: &mut Script) -> Geometry {
+fn run_panel(script: &mut Script) -> Geometry {
     if script.place % 48 == 1 {
         return Geometry {
             width: 800,
@@ -95,10 +95,10 @@ fn session_panel(script: &mut Script) -> Geometry {
     Geometry::small(&mut script.random)
 }
 
-/// A realistic session: reset, init, window, both planes, a full refresh, then partial ones, a
+/// A realistic run: reset, init, window, both planes, a full refresh, then partial ones, a
 /// custom LUT, the forced temperature, sleep.
-pub(super) fn session(script: &mut Script) {
-    let panel = session_panel(script);
+pub(super) fn run(script: &mut Script) {
+    let panel = run_panel(script);
     let mut configuration = configurations::reference(panel);
     configuration.fields[38] = script.random.pick(&[0, 1, 1]);
     script.start(&configuration);
