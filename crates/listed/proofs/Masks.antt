@@ -5,7 +5,7 @@ use Prim.Native.Nat.{ℕ, _+_, _≤_}
 use native.Mathlib.Omega.{arith}
 use lib.Dec.{T, leb}
 use borrow.Author.Tests.{leb-true, leb-false, le-leb, lt-leb}
-use lib.ListN.{length, replicate, getD, length-replicate}
+use lib.ListN.{replicate, length-replicate}
 use Rattle.numbers.proofs.Every.{every, at}
 
 abbrev same : Bool → Bool → Bool

@@ -29,7 +29,7 @@ sourcesListed index byte = pick (ltb index 2) (isVoltage (sourceVoltage byte)) (
 abbrev pub temperatureListed : ℕ → ℕ → Bool
 temperatureListed index byte = pick (eqb index 0) true (eqb (byte % 16) 0)
 
--- an option of a plane (0x21): as it is, read as 0, inverted
+-- an option of a plane (0x21): 0 normal, 4 bypass as 0, 8 inverse
 abbrev pub planeOption : ℕ → Bool
 planeOption nibble = eqb nibble 0 || eqb nibble 4 || eqb nibble 8
 

@@ -1,5 +1,5 @@
 -- A command that writes no register leaves them all. Assumes nothing.
-use mathlib.Core.Path.{_≡_, refl}
+use mathlib.Core.Path.{_≡_}
 use mathlib.Core.List.{List, [], _∷_}
 use Prim.{Unit}
 use Prim.Native.Nat.{ℕ}

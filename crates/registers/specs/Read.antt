@@ -16,7 +16,11 @@ pub record Answer : Type 0 where
   pub count : ℕ
   pub bytes : List ℕ
 
+<<<<<<< HEAD
 -- the two as one
+=======
+-- that many bytes, these
+>>>>>>> registers
 abbrev pub answer : ℕ → List ℕ → Answer
 answer count bytes = record { count = count; bytes = bytes }
 
@@ -32,7 +36,7 @@ temperatureBytes r = r .temperature / 16 % 256 ∷ r .temperature % 16 * 16 ∷ 
 abbrev pub optionBytes : Registers → List ℕ
 optionBytes r = getD (r .«display_option») 0 0 ∷ getD (r .lut) 109 0 ∷ drop 1 (r .«display_option»)
 
--- 0x2F: bit 5 HV not ready, bit 4 VCI low, bit 2 busy, and chip ID 01
+-- 0x2F: bit 5 HV not ready, bit 4 VCI low, bit 2 busy, and bit 0 is 1
 abbrev pub statusByte : Status → Bool → ℕ
 statusByte s busy = pick (s .«hv_not_ready») 32 0 + pick (s .«vci_low») 16 0 + pick busy 4 0 + 1
 

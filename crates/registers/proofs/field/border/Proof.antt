@@ -1,5 +1,5 @@
 -- `field::border`: 0x3C stores its byte as it is.
-use mathlib.Core.Path.{_≡_, refl}
+use mathlib.Core.Path.{refl}
 use Rattle.registers.specs.Store.{stored}
 use Rattle.registers.proofs.field.border.Statement.{statement}
 use Rattle.registers.proofs.field.border.Tie as tie

@@ -1,5 +1,5 @@
 -- `field::sensor`: 0x18 stores its byte as it is.
-use mathlib.Core.Path.{_≡_, refl}
+use mathlib.Core.Path.{refl}
 use Rattle.registers.specs.Store.{stored}
 use Rattle.registers.proofs.field.sensor.Statement.{statement}
 use Rattle.registers.proofs.field.sensor.Tie as tie

@@ -1,5 +1,5 @@
 -- `field::update_control_2`: 0x22 stores its byte as it is.
-use mathlib.Core.Path.{_≡_, refl}
+use mathlib.Core.Path.{refl}
 use Rattle.registers.specs.Store.{stored}
 use Rattle.registers.proofs.field.update_control_2.Statement.{statement}
 use Rattle.registers.proofs.field.update_control_2.Tie as tie

@@ -1,5 +1,5 @@
 -- `field::vcom_sense`: 0x29 stores its byte as it is.
-use mathlib.Core.Path.{_≡_, refl}
+use mathlib.Core.Path.{refl}
 use Rattle.registers.specs.Store.{stored}
 use Rattle.registers.proofs.field.vcom_sense.Statement.{statement}
 use Rattle.registers.proofs.field.vcom_sense.Tie as tie

@@ -1,7 +1,7 @@
 -- `read::read_register`: in each arm the command is the row's number; in the last, no row's.
 use borrow.Author.Needs.{needs}
 use Prim.{Unit}
-use mathlib.Core.Path.{_≡_, ap, _∙_}
+use mathlib.Core.Path.{ap, _∙_}
 use mathlib.Core.List.{[]}
 use native.Mathlib.Omega.{arith}
 use Rattle.numbers.specs.Rows.{lookup}

@@ -1,8 +1,8 @@
 -- `read::temperature`: the shift and the two bytes in plain arithmetic.
 use borrow.Author.Needs.{needs}
-use mathlib.Core.Path.{_∙_, ap}
+use mathlib.Core.Path.{_∙_}
 use native.Mathlib.Omega.{arith}
-use lib.Bits.{and-mask, mask-lt}
+use lib.Bits.{and-mask}
 use mir.Facts.{fits-mask}
 use Prim.Native.Nat.{_*_, _%_}
 use Rattle.registers.proofs.Bytes.{here, past}
