@@ -16,11 +16,7 @@ pub record Answer : Type 0 where
   pub count : ℕ
   pub bytes : List ℕ
 
-<<<<<<< HEAD
--- the two as one
-=======
 -- that many bytes, these
->>>>>>> registers
 abbrev pub answer : ℕ → List ℕ → Answer
 answer count bytes = record { count = count; bytes = bytes }
 
