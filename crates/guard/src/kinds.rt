@@ -13,7 +13,7 @@ pub struct Code {
     pub most: u16,
 }
 
-pub fn code_of(kind: Kind) -> Code
+fn code_of(kind: Kind) -> Code
     ensures { λ r. ⌜ r ≡ codeOf kind ⌝ }
 {
     match kind {
@@ -52,7 +52,7 @@ pub fn code_of(kind: Kind) -> Code
     }
 }
 
-pub fn same_kind(one: Kind, other: Kind) -> bool
+fn same_kind(one: Kind, other: Kind) -> bool
     ensures { λ r. ⌜ r ≡ sameKind one other ⌝ }
 {
     let a = code_of(one);
