@@ -1,0 +1,3 @@
+-- The root of listing's proofs.
+pub mod Appended
+pub mod Columns
