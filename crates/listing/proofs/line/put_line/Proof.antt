@@ -1,31 +1,38 @@
+-- `listing::line::put_line` meets its contract.
+use Prim.Native.Nat.{_≤_}
+use native.Mathlib.Omega.{arith}
+use lib.ListN.{length}
+use Rattle.listing.specs.Listing.{lineOf}
+use Rattle.listing.proofs.Appended.{after}
 use borrow.Author.Needs.{needs}
 use Rattle.listing.proofs.line.put_line.Statement.{statement}
 use Rattle.listing.proofs.line.put_line.Tie as tie
-use Rattle.listing.proofs.line.put_line.Reads as reads
-use Rattle.listing.proofs.line.put_line.Lts as lts
-use Rattle.listing.proofs.column.put_line_end.Reads as put-line-end-reads
-use Rattle.listing.proofs.line.put_drives.Reads as put-drives-reads
-use Rattle.listing.proofs.line.put_head.Reads as put-head-reads
 
--- src/line.rt:80:9
 put-head-requires : tie.Need-put-head-requires
 put-head-requires c κs = search needs
 
--- src/line.rt:81:9
 put-drives-requires : tie.Need-put-drives-requires
 put-drives-requires c κs = search needs
 
--- src/line.rt:82:5
 put-line-end-requires : tie.Need-put-line-end-requires
 put-line-end-requires c κs = search needs
 
--- src/line.rt:66:1
 same-length : tie.Need-same-length
 same-length c = search needs
 
--- src/line.rt:66:1
 returns : tie.Need-returns
-returns c = ?
+unfolding lineOf
+returns c =
+    let end = c .before .before in
+    let drives = end .before .before .before .before in
+    let head = drives .before .before .before .before in
+    let s = head .before .before .before in
+    let at = s .args .at in
+    let d = s .args .out .now in
+    let room : at ≤ length d = omega (arith, s .pre .0) in (
+      after at d _ _ room (after at d _ _ room (head .put-head .ensures .0) (drives .put-drives .ensures .0)) (end .put-line-end .ensures .0),
+      omega (arith, head .put-head .ensures .1, drives .put-drives .ensures .1, end .put-line-end .ensures .1),
+    )
 
 pub put-line-spec : {M : Type 1} → statement M
 put-line-spec =

@@ -1,29 +1,42 @@
+-- `listing::line::put_phase` meets its contract.
+use mathlib.Core.Path.{refl, ap, _∙_}
+use mathlib.Core.List.{List}
+use Prim.Native.Nat.{ℕ}
+use native.Mathlib.Omega.{arith}
+use lib.ListN.{getD}
+use borrow.Author.Tests.{eq-eqb, ne-eqb}
+use Rattle.numbers.proofs.Cases.{took, passed}
+use Rattle.listing.specs.Columns.{buffer, appended}
+use Rattle.listing.specs.Listing.{phaseText}
+use Rattle.listing.proofs.Appended.{nothing}
 use borrow.Author.Needs.{needs}
 use Rattle.listing.proofs.line.put_phase.Statement.{statement}
 use Rattle.listing.proofs.line.put_phase.Tie as tie
-use Rattle.listing.proofs.line.put_phase.Reads as reads
-use Rattle.listing.proofs.line.put_phase.Lts as lts
-use Rattle.listing.proofs.line.put_line.Reads as put-line-reads
 
--- src/line.rt:100:18
 element-copy-out-frames : tie.Need-element-copy-out-frames
 element-copy-out-frames c = search needs
 
--- src/line.rt:102:9
 returns : tie.Need-returns
-returns c = ?
+unfolding phaseText
+returns c =
+    let s = c .before .before .before .args in
+    (nothing (s .at) (s .out .now) ∙ ap (λ (t : List ℕ). appended (buffer (s .at) (s .out .now)) t) (took _ _ _ _ (eq-eqb (getD (s .t4 .frames) (s .phase) 0) 0 (c .if1 .taken)) refl), search needs)
 
--- src/line.rt:104:5
 put-line-requires : tie.Need-put-line-requires
 put-line-requires c κs = search needs
 
--- src/line.rt:86:1
 same-length : tie.Need-same-length
 same-length c = search needs
 
--- src/line.rt:86:1
 returns-2 : tie.Need-returns-2
-returns-2 c = ?
+unfolding phaseText
+returns-2 c =
+    let line = c .before .before in
+    let test = line .before .before in
+    let s = test .before .before .before .args in (
+      line .put-line .ensures .0 ∙ ap (λ (t : List ℕ). appended (buffer (s .at) (s .out .now)) t) (passed _ _ _ _ (ne-eqb (getD (s .t4 .frames) (s .phase) 0) 0 (test .if1 .left)) refl),
+      omega (arith, line .put-line .ensures .1),
+    )
 
 pub put-phase-spec : {M : Type 1} → statement M
 put-phase-spec =
