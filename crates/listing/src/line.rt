@@ -105,7 +105,13 @@ fn put_phase(
 }
 
 // The lines of a group.
-pub(crate) fn put_group(out: &mut [u8], at: usize, levels: Levels, group: Group, number: usize) -> usize
+pub(crate) fn put_group(
+    out: &mut [u8],
+    at: usize,
+    levels: Levels,
+    group: Group,
+    number: usize,
+) -> usize
     requires room { ⌜ at + 208 ≤ length (now out) ⌝ }
     requires listable { ⌜ AllListable levels ⌝ }
     ensures text { λ r. ⌜ buffer r (now (out .exit)) ≡ appended (buffer at (now (out .entry))) (groupText levels group number) ⌝ }
