@@ -28,6 +28,8 @@ const USAGE: &str = "usage: oracle replay < events
        oracle leaf < questions
        oracle leaf-generate NAME|all SEED COUNT
        oracle listing < setting
+       oracle listings < settings
+       oracle settings SEED COUNT
        oracle figures";
 
 impl crate::Judge for Ssd1677 {
@@ -54,6 +56,11 @@ impl crate::Judge for Ssd1677 {
                 _ => return usage(),
             },
             ["listing"] => write!(out, "{}", listing::listing(&input())).map(|()| true),
+            ["listings"] => listing::run(&input(), &mut out),
+            ["settings", seed, count] => match (seed.parse(), count.parse()) {
+                (Ok(seed), Ok(count)) => listing::generate(seed, count, &mut out),
+                _ => return usage(),
+            },
             ["figures"] => figures::run(&mut out),
             _ => return usage(),
         };
