@@ -1,10 +1,9 @@
 -- A column's length and its places. Assumes nothing.
 use mathlib.Core.Path.{_≡_}
-use mathlib.Core.Bool.{Bool, true, false, _||_}
+use mathlib.Core.Bool.{Bool, true, false}
 use Prim.Native.Nat.{ℕ, zero, suc, _-_, _^_, _<_, _≤_}
 use native.Mathlib.Nat.{one-le-pow, zero-lt-suc}
 use native.Mathlib.Omega.{arith}
-use lib.Dec.{eqb, leb}
 use lib.ListN.{length, getD}
 use Rattle.numbers.proofs.Painted.{length-tab, getD-tab}
 use Rattle.listing.specs.Columns.{hasDigit, symbolAt, columnOf}

@@ -3,7 +3,7 @@ mod column;
 mod line;
 
 ghost use mathlib.Core.Path.{_≡_};
-ghost use Prim.Native.Nat.{_+_, _≤_};
+ghost use Prim.Native.Nat.{_≤_};
 ghost use lib.ListN.{length, replicate};
 ghost use Rattle.waveform.specs.Setting.{waveformOf};
 ghost use Rattle.waveform.specs.Voltages.{AllListable};
@@ -11,7 +11,7 @@ ghost use Rattle.listing.specs.Columns.{buffer, appended};
 ghost use Rattle.listing.specs.Listing.{period, linesOf, listingOf, notASetting, listed};
 use waveform::Waveform;
 
-// The bytes of the longest listing.
+// The bytes of the longest listing: 40 lines of 52, and the last of 21.
 pub const ROOM: usize = 2101;
 
 pub const SETTING_BYTES: usize = 112;
@@ -47,6 +47,7 @@ fn put_listing(out: &mut [u8], waveform: Waveform) -> usize
     column::put_line_end(out, end)
 }
 
+// With the listing's period for every frame-rate code.
 fn waveform_of(setting: &[u8]) -> Waveform
     requires { ⌜ length (now setting) ≡ 112 ⌝ }
     ensures { λ r. ⌜ r ≡ waveformOf (now (setting .entry)) (replicate 16 period) ⌝ }
@@ -57,6 +58,7 @@ fn waveform_of(setting: &[u8]) -> Waveform
     waveform::setting::from_setting(&copied, &periods)
 }
 
+// Number 41 of document 01: the input is not 112 bytes.
 fn put_not_a_setting(out: &mut [u8]) -> usize
     requires room { ⌜ 4 ≤ length (now out) ⌝ }
     ensures text { λ r. ⌜ buffer r (now (out .exit)) ≡ appended (buffer 0 (now (out .entry))) notASetting ⌝ }

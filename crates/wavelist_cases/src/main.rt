@@ -4,12 +4,12 @@ use libc::STDOUT_FILENO;
 
 // Lists the next setting, or what is left where that is shorter; answers whether to go on.
 fn list_next() -> bool {
-    let mut input = [0u8; 112];
+    let mut input = [0u8; listing::SETTING_BYTES];
     let read = io::read_full(STDIN_FILENO, &mut input);
     if read == 0 {
         return false;
     }
-    let mut text = [0u8; 2101];
+    let mut text = [0u8; listing::ROOM];
     let length = listing::list(&input[..read], &mut text);
     io::write_all(STDOUT_FILENO, &text[..length])
 }

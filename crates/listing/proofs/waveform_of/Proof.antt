@@ -1,5 +1,5 @@
 -- `listing::waveform_of` meets its contract: a whole copy is the setting.
-use mathlib.Core.Path.{_≡_, sym, ap, _∙_}
+use mathlib.Core.Path.{_≡_, ap, _∙_}
 use mathlib.Core.List.{List, _++_, append-nil}
 use Prim.Native.Nat.{ℕ}
 use lib.ListN.{length, take, drop, replicate}

@@ -1,8 +1,7 @@
 -- `listing::column::put` meets its contract: after i turns the column's first i bytes are written over.
-use mathlib.Core.Path.{sym, ap, _∙_}
+use mathlib.Core.Path.{sym, _∙_}
 use Prim.Native.Nat.{_-_, _≤_}
 use native.Mathlib.Omega.{arith}
-use lib.ListN.{length}
 use Rattle.listing.specs.Columns.{columnOf}
 use Rattle.listing.proofs.Appended.{Pasted, pasted-none, pasted-more, pasted-all}
 use Rattle.listing.proofs.Columns.{column-length, column-at}
