@@ -28,7 +28,8 @@ const USAGE: &str = "usage: oracle replay < events
        oracle leaf < questions
        oracle leaf-generate NAME|all SEED COUNT
        oracle listing < setting
-       oracle setting SEED
+       oracle listings < settings
+       oracle settings SEED COUNT
        oracle figures";
 
 impl crate::Judge for Ssd1677 {
@@ -55,12 +56,10 @@ impl crate::Judge for Ssd1677 {
                 _ => return usage(),
             },
             ["listing"] => write!(out, "{}", listing::listing(&input())).map(|()| true),
-            ["setting", seed] => match seed.parse() {
-                Ok(seed) => {
-                    let mut random = random::Random::of_place(seed, 0);
-                    out.write_all(&settings::setting(&mut random)).map(|()| true)
-                }
-                Err(_) => return usage(),
+            ["listings"] => listing::run(&input(), &mut out),
+            ["settings", seed, count] => match (seed.parse(), count.parse()) {
+                (Ok(seed), Ok(count)) => listing::generate(seed, count, &mut out),
+                _ => return usage(),
             },
             ["figures"] => figures::run(&mut out),
             _ => return usage(),

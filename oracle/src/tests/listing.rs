@@ -1,8 +1,10 @@
 //! The listing of a setting (document 01, "Listing (added)"), with what the reference decodes.
 
-use std::fmt::Write;
+use std::fmt::Write as _;
+use std::io::{self, Write};
 
-use super::inside;
+use super::random::Random;
+use super::{inside, settings};
 use crate::glass::Transfer;
 use crate::ssd1677::LUT_BYTES;
 use crate::ssd1677::waveform::{Drive, Waveform};
@@ -52,4 +54,20 @@ pub(super) fn listing(input: &[u8]) -> String {
     }
     let _ = writeln!(text, "{:20}", waveform.duration_ns());
     text
+}
+
+/// The listings of settings that stand one after the other.
+pub(super) fn run(input: &[u8], out: &mut impl Write) -> io::Result<bool> {
+    for setting in input.chunks(LUT_BYTES) {
+        out.write_all(listing(setting).as_bytes())?;
+    }
+    Ok(true)
+}
+
+/// Settings one after the other.
+pub(super) fn generate(seed: u64, count: u64, out: &mut impl Write) -> io::Result<bool> {
+    for place in 0..count {
+        out.write_all(&settings::setting(&mut Random::of_place(seed, place)))?;
+    }
+    Ok(true)
 }

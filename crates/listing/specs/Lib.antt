@@ -1,0 +1,3 @@
+-- The root of listing's specs.
+pub mod Columns
+pub mod Listing
