@@ -23,12 +23,13 @@ use Rattle.bench.specs.Made.{geometryOf}
 none-passes : (p : ℕ → Bool) (n : ℕ) → lowest p n ≡ n → (k : ℕ) → k < n → p k ≡ false
 unfolding lowest
 none-passes p zero e k l = absurd (not-suc-le-zero l)
-none-passes p (suc n) e k l = by (p 0) refl e k l
+none-passes p (suc n) e k l = by (p 0) refl e (λ e k l. none-passes (λ k. p (suc k)) n e k l) k l
   where
-    by : (t : Bool) → p 0 ≡ t → pick t 0 (suc (lowest (λ k. p (suc k)) n)) ≡ suc n → (k : ℕ) → k < suc n → p k ≡ false
-    by true h e k l = absurd (omega arith)
-    by false h e zero l = h
-    by false h e (suc k) l = none-passes (λ k. p (suc k)) n (omega arith) k (le-of-suc-le-suc l)
+    by : (t : Bool) → p 0 ≡ t → pick t 0 (suc (lowest (λ k. p (suc k)) n)) ≡ suc n
+        → (lowest (λ k. p (suc k)) n ≡ n → (k : ℕ) → k < n → p (suc k) ≡ false) → (k : ℕ) → k < suc n → p k ≡ false
+    by true h e later k l = absurd (omega arith)
+    by false h e later zero l = h
+    by false h e later (suc k) l = later (omega arith) k (le-of-suc-le-suc l)
 
 pub lasts : (p : List ℕ) → lasting p ≡ true → (code : ℕ) → code < 16 → 0 < getD p code 0
 unfolding lasting

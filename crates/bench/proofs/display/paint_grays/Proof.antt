@@ -22,7 +22,7 @@ Inv-loop states swing pixels₀ i₀ i-end pixels i = Painted i (λ k. grayZ (ge
 abbrev μ-loop : tie.MeasureT-loop
 μ-loop states swing pixels₀ i₀ i-end pixels i = i-end - i
 
-long : (s : tie.Start) → length (s .args .pixels .now) ≡ length (s .args .states .now)
+long : (s : tie.Start Inv-loop μ-loop) → length (s .args .pixels .now) ≡ length (s .args .states .now)
 long s = gray-long (s .args .swing) (length (s .args .states .now)) (length (s .args .pixels .now)) (s .pre)
 
 loop-holds : tie.Need-loop-holds Inv-loop μ-loop
