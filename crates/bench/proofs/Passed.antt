@@ -84,8 +84,14 @@ module _ (luts gates red blackWhite width height first : ℕ) where
       let others = right glass planes four in
       subst Scans (sym made) (
         eqb-true luts (height * width) (left (eqb luts (height * width)) (eqb gates height) two),
-        (eqb-true gates height (right (eqb luts (height * width)) (eqb gates height) two),
-        (eqb-true red 81600 (left (eqb red 81600) (eqb blackWhite 81600) others),
-        (eqb-true blackWhite 81600 (right (eqb red 81600) (eqb blackWhite 81600) others),
-        leb-true (first + width) 960 (right (glass && planes) (leb (first + width) 960) e)))),
+        (
+          eqb-true gates height (right (eqb luts (height * width)) (eqb gates height) two),
+          (
+            eqb-true red 81600 (left (eqb red 81600) (eqb blackWhite 81600) others),
+            (
+              eqb-true blackWhite 81600 (right (eqb red 81600) (eqb blackWhite 81600) others),
+              leb-true (first + width) 960 (right (glass && planes) (leb (first + width) 960) e),
+            ),
+          ),
+        ),
       )

@@ -28,7 +28,10 @@ pub(crate) fn geometry_of(
 ) -> PanelGeometry
     ensures { λ r. ⌜ r ≡ geometryOf width height «first_source» «columns_reversed» ⌝ }
 {
-    let native_scan = GateScan { sm: true, gd: false };
+    let native_scan = GateScan {
+        sm: true,
+        gd: false,
+    };
     PanelGeometry {
         width,
         height,
