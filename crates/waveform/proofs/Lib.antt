@@ -4,6 +4,7 @@ pub mod Joined
 pub mod Products
 pub mod Range
 pub mod Steps
+pub mod Stepped
 pub mod Exactly
 pub mod Monotone
 pub mod Lasting

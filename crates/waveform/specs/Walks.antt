@@ -3,7 +3,7 @@ use mathlib.Core.Bool.{Bool, true, false}
 use mathlib.Core.List.{List, foldl}
 use Prim.Native.Nat.{ℕ, _+_, _-_, _*_, _/_, min}
 use lib.IntN.{ℤ, pos, negℤ, _*ℤ_}
-use lib.Dec.{ltb}
+use lib.Dec.{eqb, ltb}
 use Rattle.numbers.specs.Choice.{pick}
 use Rattle.numbers.specs.Saturation.{largest, satZ}
 use Rattle.glass.specs.declared.Transfer.{Transfer}
@@ -15,6 +15,7 @@ use Rattle.waveform.specs.declared.Phase.{Phase}
 use Rattle.waveform.specs.declared.Until.{Until}
 use Rattle.waveform.specs.declared.Until.the-variants.{Whole, Cut}
 use Rattle.waveform.specs.declared.Progress.{Progress}
+use Rattle.waveform.specs.declared.Step.{Step}
 use Rattle.waveform.specs.declared.Waveform.{Waveform}
 use Rattle.waveform.specs.Voltages.{AllListable}
 use Rattle.waveform.specs.Setting.{waveformOf}
@@ -59,6 +60,14 @@ negatedIf false x = x
 -- millivolts × frames × period, each product saturated, towards white
 unfoldable pub saturatedDrive : Bool → ℤ → ℕ → ℕ → ℤ
 saturatedDrive black millivolts frames period = negatedIf black (satZ (satZ (millivolts *ℤ satZ (pos frames)) *ℤ satZ (pos period)))
+
+-- a phase with the drive of all its frames
+abbrev pub stepOf : Driving → Phase → Step
+stepOf d p = record { phase = p; drive = saturatedDrive (d .«positive_drives_black») (p .millivolts) (p .frames) (p .«frame_ns») }
+
+-- a transfer, then such a phase; one of 0 frames is passed over
+unfoldable pub stepped : Driving → Step → Transfer → Transfer
+stepped d s t = pick (eqb (s .phase .frames) 0) t (thenT t (shiftT (s .drive) (d .swing)))
 
 -- a transfer, then `run` frames of a phase
 unfoldable pub pushed : Driving → Phase → ℕ → Transfer → Transfer

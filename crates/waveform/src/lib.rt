@@ -105,6 +105,12 @@ pub struct Phase {
     pub millivolts: i64,
 }
 
+// A phase with the drive of all its frames, which every repeat of its group shares.
+pub struct Step {
+    pub phase: Phase,
+    pub drive: i64,
+}
+
 // How much of the display counts.
 pub enum Until {
     Whole,

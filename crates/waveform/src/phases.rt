@@ -3,11 +3,12 @@ use crate::Drive;
 use crate::Driving;
 use crate::Group;
 use crate::Phase;
+use crate::Step;
 use glass::Transfer;
 ghost use mathlib.Core.Path.{_≡_};
 ghost use Prim.Native.Nat.{_<_};
 ghost use Rattle.waveform.specs.Phases.{Takes, codeFor};
-ghost use Rattle.waveform.specs.Walks.{Drivable, phaseIn, saturatedDrive, pushed};
+ghost use Rattle.waveform.specs.Walks.{Drivable, phaseIn, saturatedDrive, stepOf, pushed};
 
 // The source's code in a phase.
 fn code_for(drive: Drive, group: Group, phase: usize) -> u8
@@ -51,6 +52,17 @@ fn drive_of(positive_drives_black: bool, millivolts: i64, run: u64, frame_ns: u6
     } else {
         amount
     }
+}
+
+// A phase of a group, with its drive.
+pub(crate) fn step_of(driving: Driving, group: Group, at: usize) -> Step
+    requires { ⌜ (at < 4) × Drivable driving ⌝ }
+    ensures { λ r. ⌜ r ≡ stepOf driving (phaseIn driving group at) ⌝ }
+{
+    let phase = phase_of(driving, group, at);
+    let black = driving.positive_drives_black;
+    let drive = drive_of(black, phase.millivolts, phase.frames, phase.frame_ns);
+    Step { phase, drive }
 }
 
 // A transfer, then `run` frames of a phase.

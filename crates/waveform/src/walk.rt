@@ -4,6 +4,7 @@ use crate::Driving;
 use crate::Group;
 use crate::Phase;
 use crate::Progress;
+use crate::Step;
 use crate::Until;
 use crate::Waveform;
 use crate::phases;
@@ -12,32 +13,43 @@ ghost use mathlib.Core.Path.{_≡_};
 ghost use mathlib.Core.List.{foldl};
 ghost use Prim.Native.Nat.{_/_, _<_};
 ghost use Rattle.waveform.specs.Phases.{Timed, driven};
-ghost use Rattle.waveform.specs.Walks.{Drivable, Walkable, fourIn, groupIn, groupsIn, wholeStep, cutStep, runOn, cutShort, wholeOf, cutOf, transferOf};
+ghost use Rattle.waveform.specs.Walks.{Drivable, Walkable, fourIn, groupIn, groupsIn, stepped, wholeStep, cutStep, runOn, cutShort, wholeOf, cutOf, transferOf};
 
 // ---- the whole display
 
-fn whole_phase(driving: Driving, phase: Phase, transfer: Transfer) -> Transfer
-    ensures { λ r. ⌜ r ≡ foldl (wholeStep driving) transfer (driven phase) ⌝ }
+// A phase to its end; one of 0 frames is passed over.
+fn whole_step(driving: Driving, step: Step, transfer: Transfer) -> Transfer
+    ensures { λ r. ⌜ r ≡ stepped driving step transfer ⌝ }
 {
+    let phase = step.phase;
     if phase.frames == 0 {
         return transfer;
     }
-    phases::push(driving, phase, phase.frames, transfer)
+    transfer.then(Transfer::shift(step.drive, driving.swing))
 }
 
 // The four phases of a group, once.
-fn whole_pass(driving: Driving, group: Group, transfer: Transfer) -> Transfer
-    requires { ⌜ Drivable driving ⌝ }
-    ensures { λ r. ⌜ r ≡ foldl (wholeStep driving) transfer (fourIn driving group) ⌝ }
+fn whole_pass(
+    driving: Driving,
+    first: Step,
+    second: Step,
+    third: Step,
+    fourth: Step,
+    transfer: Transfer,
+) -> Transfer
+    ensures { λ r. ⌜ r ≡ stepped driving fourth (stepped driving third (stepped driving second (stepped driving first transfer))) ⌝ }
 {
-    let mut moved = transfer;
-    let mut k: usize = 0;
-    while k < 4 {
-        let phase = phases::phase_of(driving, group, k);
-        moved = whole_phase(driving, phase, moved);
-        k += 1;
-    }
-    moved
+    let one = whole_step(driving, first, transfer);
+    let two = whole_step(driving, second, one);
+    let three = whole_step(driving, third, two);
+    whole_step(driving, fourth, three)
+}
+
+// A group's repeats, with their bound.
+fn times(repeats: u16) -> u64
+    ensures { λ r. ⌜ (r ≡ repeats) × (r < 65536) ⌝ }
+{
+    repeats as u64
 }
 
 // `transfer`, then one group with all its repeats.
@@ -45,11 +57,15 @@ fn group_transfer(driving: Driving, group: Group, transfer: Transfer) -> Transfe
     requires { ⌜ Drivable driving ⌝ }
     ensures { λ r. ⌜ r ≡ foldl (wholeStep driving) transfer (groupIn driving group) ⌝ }
 {
-    let repeats = group.repeats;
+    let first = phases::step_of(driving, group, 0);
+    let second = phases::step_of(driving, group, 1);
+    let third = phases::step_of(driving, group, 2);
+    let fourth = phases::step_of(driving, group, 3);
+    let repeats = times(group.repeats);
     let mut moved = transfer;
-    let mut k: u16 = 0;
+    let mut k: u64 = 0;
     while k < repeats {
-        moved = whole_pass(driving, group, moved);
+        moved = whole_pass(driving, first, second, third, fourth, moved);
         k += 1;
     }
     moved

@@ -1,0 +1,155 @@
+//! The glass: greys, the choice of LUTs, and the end of a display, at 800×480.
+
+use std::hint::black_box;
+
+use emu_core::Cycles;
+
+use super::beside::{Table, timed};
+use super::proved::{self, Choice, Ending};
+use super::random::Random;
+use super::waveform::{PERIODS, SWING, longest};
+use super::{inside, memory};
+use crate::glass::gray;
+use crate::ssd1677::panel::{Display, Panel, PlaneOption, RefreshKind, Scan};
+use crate::ssd1677::ram::{Plane, Ram};
+use crate::ssd1677::reference::gdeq0426t82_otp;
+use crate::ssd1677::waveform::{Drive, Waveform};
+use crate::ssd1677::{GateScan, Optics, PanelGeometry};
+
+const PIXELS: usize = 800 * 480;
+
+pub(super) fn grays(table: &Table) {
+    let mut random = Random::of_place(1, 0);
+    for (name, swing) in [("6·10^12", SWING), ("2^63−1", i64::MAX), ("1000", 1000)] {
+        let states: Vec<i64> =
+            (0..PIXELS).map(|_| (random.next() % swing.unsigned_abs()).cast_signed()).collect();
+        let (mut theirs, mut ours) = (vec![0; PIXELS], vec![0; PIXELS]);
+        table.row(
+            &format!("gray, swing {name}"),
+            (PIXELS, "pixel"),
+            || {
+                timed(|| {
+                    let swing = black_box(swing);
+                    for (pixel, &state) in theirs.iter_mut().zip(&states) {
+                        *pixel = gray(state, swing);
+                    }
+                })
+            },
+            || timed(|| assert!(proved::grays(&states, black_box(swing), &mut ours))),
+        );
+        assert_eq!(theirs, ours, "gray");
+    }
+}
+
+fn scan_of(choice: Choice) -> Scan {
+    Scan {
+        lines: choice.lines,
+        order: GateScan { sm: choice.sm, gd: false },
+        red: PlaneOption::from_nibble(choice.options >> 4),
+        black_white: PlaneOption::from_nibble(choice.options),
+    }
+}
+
+fn panel_of(choice: Choice) -> Panel {
+    let geometry = PanelGeometry {
+        first_source: choice.first_source,
+        columns_reversed: choice.columns_reversed,
+        ..PanelGeometry::gdeq0426t82()
+    };
+    Panel::new(geometry, Optics::default())
+}
+
+fn display_of(panel: &Panel, ram: &Ram, choice: Choice, waveform: &Waveform) -> Display {
+    let (border, kind) = (Some(Drive::Lut(1)), RefreshKind::Full);
+    let times = (Cycles(0), Cycles(0));
+    panel.start(ram, scan_of(choice), waveform.clone(), border, kind, times)
+}
+
+const CHOICE: Choice = Choice {
+    width: 800,
+    height: 480,
+    first_source: 80,
+    columns_reversed: false,
+    lines: 480,
+    sm: true,
+    options: 0,
+};
+
+pub(super) fn starts(table: &Table) {
+    let ram = memory::ram(1);
+    let waveform = Waveform::from_setting(&longest(), &PERIODS);
+    let choices = [
+        ("columns in order", CHOICE),
+        ("columns reversed, red read as 0", Choice { columns_reversed: true, options: 0x40, ..CHOICE }),
+        ("columns in order, both planes inverse, SM 0", Choice { options: 0x88, sm: false, ..CHOICE }),
+        ("columns reversed, 300 lines", Choice { columns_reversed: true, lines: 300, ..CHOICE }),
+    ];
+    for (what, choice) in choices {
+        let panel = panel_of(choice);
+        let gates = inside::glass(&panel).gate_of_row;
+        let mut luts = vec![0; PIXELS];
+        let mut display = None;
+        table.row(
+            &format!("start, {what}"),
+            (PIXELS, "pixel"),
+            || timed(|| display = Some(display_of(&panel, &ram, black_box(choice), &waveform))),
+            || {
+                timed(|| {
+                    let (red, black_white) = (ram.plane(Plane::Red), ram.plane(Plane::BlackWhite));
+                    proved::start(&mut luts, &gates, red, black_white, black_box(choice));
+                })
+            },
+        );
+        assert_eq!(display.map(|display| inside::luts(&display)), Some(luts), "start");
+    }
+}
+
+/// A panel whose states are of many kinds: displays of chance that were cut at different moments.
+fn used_panel() -> Panel {
+    let mut panel = panel_of(CHOICE);
+    let waveform = Waveform::from_setting(&gdeq0426t82_otp()[2].setting, &PERIODS);
+    for seed in 0..8 {
+        let display = display_of(&panel, &memory::ram(10 + seed), CHOICE, &waveform);
+        panel.finish(&display, Cycles(0), Some((3 + seed) * 17_000_000));
+    }
+    panel
+}
+
+pub(super) fn finishes(table: &Table) {
+    let panel = used_panel();
+    let before = inside::glass(&panel);
+    let short = gdeq0426t82_otp()[0].setting;
+    let long = longest();
+    let ends = |setting| Waveform::from_setting(setting, &PERIODS).duration_ns() / 2;
+    let rows = [
+        ("Mode One, whole", &short, None),
+        ("Mode One, cut in the middle", &short, Some(ends(&short))),
+        ("ten groups of 256 repeats, whole", &long, None),
+        ("ten groups of 256 repeats, cut in the middle", &long, Some(ends(&long))),
+    ];
+    for (what, setting, until) in rows {
+        let waveform = Waveform::from_setting(setting, &PERIODS);
+        let display = display_of(&panel, &memory::ram(3), CHOICE, &waveform);
+        let luts = inside::luts(&display);
+        let ending = Ending { setting, periods: &PERIODS, swing: SWING, register: 1, until };
+        let mut after = panel.clone();
+        let (mut states, mut pixels, mut border) = (Vec::new(), vec![0; PIXELS], 0);
+        table.row(
+            &format!("finish, {what}"),
+            (PIXELS, "pixel"),
+            || {
+                after = panel.clone();
+                timed(|| after.finish(black_box(&display), Cycles(0), until))
+            },
+            || {
+                states.clone_from(&before.states);
+                timed(|| {
+                    border = proved::finish(&mut states, &luts, &mut pixels, before.border, black_box(ending));
+                })
+            },
+        );
+        let theirs = inside::glass(&after);
+        assert_eq!((&theirs.states, theirs.border), (&states, border), "finish");
+        assert_eq!(after.image().pixels, pixels, "finish");
+    }
+}

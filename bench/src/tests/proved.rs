@@ -1,0 +1,174 @@
+//! The functions of crates/bench, from the archive that `rt staticlib bench` writes.
+
+mod archive {
+    unsafe extern "C" {
+        pub fn proved_grays(
+            states: *const i64,
+            states_len: usize,
+            swing: i64,
+            pixels: *mut u8,
+            pixels_len: usize,
+        ) -> bool;
+        pub fn proved_transfer(
+            setting: &[u8; 112],
+            periods: &[u64; 16],
+            lut: usize,
+            swing: i64,
+            positive_drives_black: bool,
+            cut: bool,
+            until: u64,
+            out: &mut [i64; 3],
+        ) -> bool;
+        pub fn proved_start(
+            luts: *mut u8,
+            luts_len: usize,
+            gates: *const u16,
+            gates_len: usize,
+            red: *const u8,
+            red_len: usize,
+            black_white: *const u8,
+            black_white_len: usize,
+            width: u16,
+            height: u16,
+            first_source: u16,
+            columns_reversed: bool,
+            lines: u16,
+            sm: bool,
+            options: u8,
+        ) -> bool;
+        pub fn proved_finish(
+            states: *mut i64,
+            states_len: usize,
+            luts: *const u8,
+            luts_len: usize,
+            pixels: *mut u8,
+            pixels_len: usize,
+            setting: &[u8; 112],
+            periods: &[u64; 16],
+            swing: i64,
+            positive_drives_black: bool,
+            register: u8,
+            border: i64,
+            cut: bool,
+            until: u64,
+        ) -> i64;
+        pub fn proved_auto_write(plane: *mut u8, plane_len: usize, parameter: u8);
+        pub fn proved_write(
+            plane: *mut u8,
+            plane_len: usize,
+            bytes: *const u8,
+            bytes_len: usize,
+            counter: &mut [u16; 2],
+            window: &[u16; 4],
+            mode: u8,
+        );
+    }
+}
+
+pub(super) fn grays(states: &[i64], swing: i64, pixels: &mut [u8]) -> bool {
+    let (out, len) = (pixels.as_mut_ptr(), pixels.len());
+    unsafe { archive::proved_grays(states.as_ptr(), states.len(), swing, out, len) }
+}
+
+/// The transfer of LUT `lut`: what it adds, and its two ends.
+pub(super) fn transfer(
+    setting: &[u8; 112],
+    periods: &[u64; 16],
+    lut: usize,
+    swing: i64,
+    until: Option<u64>,
+) -> [i64; 3] {
+    let mut out = [0; 3];
+    let (cut, end) = (until.is_some(), until.unwrap_or(0));
+    let done =
+        unsafe { archive::proved_transfer(setting, periods, lut, swing, true, cut, end, &mut out) };
+    assert!(done, "refused");
+    out
+}
+
+/// What the choice of LUTs asks beside the buffers.
+#[derive(Clone, Copy)]
+pub(super) struct Choice {
+    pub(super) width: u16,
+    pub(super) height: u16,
+    pub(super) first_source: u16,
+    pub(super) columns_reversed: bool,
+    pub(super) lines: u16,
+    pub(super) sm: bool,
+    pub(super) options: u8,
+}
+
+pub(super) fn start(luts: &mut [u8], gates: &[u16], red: &[u8], black_white: &[u8], c: Choice) {
+    let done = unsafe {
+        archive::proved_start(
+            luts.as_mut_ptr(),
+            luts.len(),
+            gates.as_ptr(),
+            gates.len(),
+            red.as_ptr(),
+            red.len(),
+            black_white.as_ptr(),
+            black_white.len(),
+            c.width,
+            c.height,
+            c.first_source,
+            c.columns_reversed,
+            c.lines,
+            c.sm,
+            c.options,
+        )
+    };
+    assert!(done, "refused");
+}
+
+/// A display that ends: its setting and border register, with the periods and the cut.
+#[derive(Clone, Copy)]
+pub(super) struct Ending<'a> {
+    pub(super) setting: &'a [u8; 112],
+    pub(super) periods: &'a [u64; 16],
+    pub(super) swing: i64,
+    pub(super) register: u8,
+    pub(super) until: Option<u64>,
+}
+
+/// The border's state after the display.
+pub(super) fn finish(
+    states: &mut [i64],
+    luts: &[u8],
+    pixels: &mut [u8],
+    border: i64,
+    e: Ending<'_>,
+) -> i64 {
+    unsafe {
+        archive::proved_finish(
+            states.as_mut_ptr(),
+            states.len(),
+            luts.as_ptr(),
+            luts.len(),
+            pixels.as_mut_ptr(),
+            pixels.len(),
+            e.setting,
+            e.periods,
+            e.swing,
+            true,
+            e.register,
+            border,
+            e.until.is_some(),
+            e.until.unwrap_or(0),
+        )
+    }
+}
+
+pub(super) fn auto_write(plane: &mut [u8], parameter: u8) {
+    unsafe { archive::proved_auto_write(plane.as_mut_ptr(), plane.len(), parameter) }
+}
+
+/// Writes a run of bytes; the counter afterwards.
+pub(super) fn write(plane: &mut [u8], bytes: &[u8], window: [u16; 4], mode: u8) -> [u16; 2] {
+    let mut counter = [window[0], window[2]];
+    let (out, len) = (plane.as_mut_ptr(), plane.len());
+    unsafe {
+        archive::proved_write(out, len, bytes.as_ptr(), bytes.len(), &mut counter, &window, mode);
+    }
+    counter
+}

@@ -1,0 +1,4 @@
+-- The root of bench's specs.
+pub mod Asked
+pub mod Made
+pub mod Runs

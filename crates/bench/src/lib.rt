@@ -1,0 +1,166 @@
+// The proved functions as a Rust or a C program calls them, to be timed beside the reference. Each tests what the function under it
+// asks, and changes nothing where the test fails.
+use ram::Counter;
+use ram::Entry;
+use ram::Window;
+
+mod asked;
+mod display;
+mod made;
+mod memory;
+
+ghost use mathlib.Core.Path.{_≡_};
+ghost use lib.ListN.{length};
+ghost use Rattle.numbers.specs.Choice.{pick};
+ghost use Rattle.numbers.specs.Lists.{tab};
+ghost use Rattle.glass.specs.Greys.{grayZ};
+ghost use Rattle.ram.specs.Plane.{autoWritten};
+ghost use Rattle.scan.specs.Luts.{lutOf};
+ghost use Rattle.waveform.specs.declared.Drive.the-variants.{Lut};
+ghost use Rattle.panel.specs.Pixels.{grays};
+ghost use Rattle.panel.specs.Finish.{settingTransfer, glass, ending, finished};
+ghost use Rattle.bench.specs.Asked.{grayable, walkable, scannable, finishable};
+ghost use Rattle.bench.specs.Runs.{run, ranOn, counterOf, windowOf, entryOf};
+ghost use Rattle.bench.specs.Made.{untilOf, numbersOf, geometryOf, scanOf, panelOf, displayOf, shown, shownOf};
+
+// The grey of each state.
+#[no_mangle]
+pub extern "C" fn proved_grays(states: &[i64], swing: i64, pixels: &mut [u8]) -> bool
+    ensures { λ r. ⌜ r ≡ grayable swing (length (now (states .entry))) (length (now (pixels .entry))) ⌝ }
+    ensures { λ r. ⌜ now (pixels .exit) ≡ pick r (grays swing (now (states .entry))) (now (pixels .entry)) ⌝ }
+{
+    if asked::can_gray(swing, states.len(), pixels.len()) {
+        display::paint_grays(states, swing, &mut pixels[..]);
+        return true;
+    }
+    false
+}
+
+// The transfer of a setting's LUT, whole or up to a cut: what it adds, and its two ends.
+#[no_mangle]
+pub extern "C" fn proved_transfer(
+    setting: &[u8; 112],
+    periods: &[u64; 16],
+    lut: usize,
+    swing: i64,
+    positive_drives_black: bool,
+    cut: bool,
+    until: u64,
+    out: &mut [i64; 3],
+) -> bool
+    ensures { λ r. ⌜ r ≡ walkable (now (periods .entry)) lut ⌝ }
+    ensures { λ r. ⌜ now (out .exit) ≡ pick r (numbersOf (settingTransfer (now (setting .entry)) (now (periods .entry)) (Lut lut) swing «positive_drives_black» (untilOf cut until))) (now (out .entry)) ⌝ }
+{
+    if asked::can_walk(periods, lut) {
+        let until = made::until_of(cut, until);
+        let t = display::transfer(setting, periods, lut, swing, positive_drives_black, until);
+        *out = [t.add, t.lo, t.hi];
+        return true;
+    }
+    false
+}
+
+// The LUT of every pixel.
+#[no_mangle]
+pub extern "C" fn proved_start(
+    luts: &mut [u8],
+    gates: &[u16],
+    red: &[u8],
+    black_white: &[u8],
+    width: u16,
+    height: u16,
+    first_source: u16,
+    columns_reversed: bool,
+    lines: u16,
+    sm: bool,
+    options: u8,
+) -> bool
+    ensures { λ r. ⌜ r ≡ scannable (length (now (luts .entry))) (length (now (gates .entry))) (length (now (red .entry))) (length (now («black_white» .entry))) width height «first_source» ⌝ }
+    ensures { λ r. ⌜ now (luts .exit) ≡ pick r (tab (length (now (luts .entry))) (lutOf (now (gates .entry)) (now (red .entry)) (now («black_white» .entry)) (geometryOf width height «first_source» «columns_reversed») (scanOf lines sm options))) (now (luts .entry)) ⌝ }
+{
+    if asked::can_scan(
+        luts.len(),
+        gates.len(),
+        red.len(),
+        black_white.len(),
+        width,
+        height,
+        first_source,
+    ) {
+        let geometry = made::geometry_of(width, height, first_source, columns_reversed);
+        let scan = made::scan_of(lines, sm, options);
+        scan::start(&mut luts[..], gates, red, black_white, geometry, scan);
+        return true;
+    }
+    false
+}
+
+// The end of a display: the border's state after it.
+#[no_mangle]
+pub extern "C" fn proved_finish(
+    states: &mut [i64],
+    luts: &[u8],
+    pixels: &mut [u8],
+    setting: &[u8; 112],
+    periods: &[u64; 16],
+    swing: i64,
+    positive_drives_black: bool,
+    register: u8,
+    border: i64,
+    cut: bool,
+    until: u64,
+) -> i64
+    ensures { λ r. ⌜ shown r (now (states .exit)) (now (pixels .exit)) ≡ pick (finishable (now (periods .entry)) swing (length (now (states .entry))) (length (now (luts .entry))) (length (now (pixels .entry)))) (shownOf (finished (ending (displayOf (now (setting .entry)) register) «positive_drives_black» (now (periods .entry)) 0 (untilOf cut until)) (now (luts .entry)) (glass (panelOf swing border) (now (states .entry)) (now (pixels .entry))))) (shown border (now (states .entry)) (now (pixels .entry))) ⌝ }
+{
+    if asked::can_finish(periods, swing, states.len(), luts.len(), pixels.len()) {
+        let panel = made::panel_of(swing, border);
+        let display = made::display_of(setting, register);
+        let until = made::until_of(cut, until);
+        let finished = panel::finish(
+            panel,
+            display,
+            positive_drives_black,
+            *periods,
+            0,
+            until,
+            &mut states[..],
+            luts,
+            &mut pixels[..],
+        );
+        return finished.border;
+    }
+    border
+}
+
+// The auto write of a plane.
+#[no_mangle]
+pub extern "C" fn proved_auto_write(plane: &mut [u8], parameter: u8)
+    ensures { λ _. ⌜ now (plane .exit) ≡ autoWritten parameter (now (plane .entry)) ⌝ }
+{
+    ram::auto_write(&mut plane[..], parameter);
+}
+
+// A run of data bytes; the counter is moved past them.
+#[no_mangle]
+pub extern "C" fn proved_write(
+    plane: &mut [u8],
+    bytes: &[u8],
+    counter: &mut [u16; 2],
+    window: &[u16; 4],
+    mode: u8,
+)
+    ensures { λ _. ⌜ run (counterOf (now (counter .exit))) (now (plane .exit)) ≡ ranOn (windowOf (now (window .entry))) (entryOf mode) (now (bytes .entry)) (length (now (bytes .entry))) (run (counterOf (now (counter .entry))) (now (plane .entry))) ⌝ }
+{
+    let bounds = Window {
+        x_start: window[0],
+        x_end: window[1],
+        y_start: window[2],
+        y_end: window[3],
+    };
+    let first = Counter {
+        x: counter[0],
+        y: counter[1],
+    };
+    let last = memory::write_all(&mut plane[..], bytes, first, bounds, Entry(mode));
+    *counter = [last.x, last.y];
+}
