@@ -1,5 +1,5 @@
 -- What each return of the code hands over, over plain variables. Assumes nothing.
-use Prim.Native.Nat.{ℕ}
+use Prim.Native.Nat.{ℕ, _+_, _*_, _%_}
 use mathlib.Core.Path.{_≡_, refl}
 use mathlib.Core.Bool.{Bool, true, false}
 use mathlib.Core.List.{List}
@@ -26,7 +26,7 @@ use Rattle.chip.specs.Moments.{nsBetween, busyFor}
 use Rattle.chip.specs.Advance.{WithGlass, withGlass, stopped, endingOf, glassOf}
 use Rattle.chip.specs.Close.{WithLog, withLog, entriesOf, closed}
 use Rattle.reset.specs.Reset.{logged, restored, WithGlassLog, withGlassLog, isDriving, cutShort, cut, inReset, asserted, released, byLine}
-use Rattle.reset.specs.Start.{softReset, isPowered, unpowered, sensingTime, vcomSensed, pointed}
+use Rattle.reset.specs.Start.{softReset, isPowered, unpowered, vcomSensed, pointed}
 
 pub logs : (kind : DiagnosticKind) (k : WithLog) (e : Entries) (r : Ssd1677) → e ≡ reported (entriesOf k) (k .device .now) kind
     → r ≡ withJournal (k .device) (e .journal) → withLog r (e .log) ≡ logged kind k
@@ -115,10 +115,10 @@ module _ (stage : Stage) (k : WithLog) where
   lacks-clock z e g = passed _ _ _ _ e g
 
 module _ (k : WithLog) (b : Bool) where
-  pub senses : (bus : Bus) (r : Ssd1677) → b ≡ isPowered (k .device) → b ≡ true
-      → bus ≡ busyFor (k .device .bus) (k .device .now) (sensingTime (k .device)) → r ≡ withBus (k .device) bus → withLog r (k .log) ≡ vcomSensed k
+  pub senses : (low : ℕ) (bus : Bus) (r : Ssd1677) → low ≡ k .device .regs .«vcom_sense» % 16 → b ≡ isPowered (k .device) → b ≡ true
+      → bus ≡ busyFor (k .device .bus) (k .device .now) ((low + 1) * 1000000000) → r ≡ withBus (k .device) bus → withLog r (k .log) ≡ vcomSensed k
   unfolding vcomSensed
-  senses bus r e h f g = rw (← e, h, g, f)
+  senses low bus r v e h f g = rw (← e, h, g, f, v)
 
   pub senses-not : (z : WithLog) → b ≡ isPowered (k .device) → b ≡ false → z ≡ unpowered VcomSense k → z ≡ vcomSensed k
   unfolding vcomSensed

@@ -1,5 +1,6 @@
 // What 0x12, 0x28 and the RAM commands do when their byte arrives (mod.rs, `start_command`, `powered`).
 ghost use mathlib.Core.Path.{_≡_};
+ghost use Prim.Native.Nat.{_%_};
 ghost use lib.ListN.{length};
 ghost use Rattle.chip.specs.Close.{withLog};
 ghost use Rattle.reset.specs.Start.{softReset, isPowered, unpowered, vcomSensed, pointed};
@@ -43,6 +44,12 @@ pub fn report_unpowered(state: Ssd1677, log: &mut [u8], stage: Stage) -> Ssd1677
     crate::report(state, log, DiagnosticKind::WithoutClock { stage })
 }
 
+fn low_nibble(byte: u8) -> u8
+    ensures { λ r. ⌜ r ≡ byte % 16 ⌝ }
+{
+    byte & 0x0F
+}
+
 // 0x28: the sensing takes the seconds of 0x29, with the supplies on.
 pub fn sense_vcom(state: Ssd1677, log: &mut [u8]) -> Ssd1677
     requires { ⌜ length (now log) ≡ 16384 ⌝ }
@@ -50,7 +57,8 @@ pub fn sense_vcom(state: Ssd1677, log: &mut [u8]) -> Ssd1677
 {
     if powered(state) {
         let regs = state.regs;
-        let seconds = (regs.vcom_sense % 16) as u64 + 1;
+        let low = low_nibble(regs.vcom_sense);
+        let seconds = low as u64 + 1;
         let bus = chip::busy_for(state.bus, state.now, seconds * SECOND);
         return part::set_bus(state, bus);
     }
