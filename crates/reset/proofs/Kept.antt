@@ -1,0 +1,74 @@
+-- A report, the end of a command, a restoring, a cut and the line each leave a state ready for the end of a display: configuration and
+-- swing stay, and so do the buffers' lengths. Assumes nothing.
+use Prim.Native.Nat.{ℕ}
+use mathlib.Core.Path.{_≡_, refl, sym, _∙_}
+use mathlib.Core.Bool.{Bool, true, false}
+use mathlib.Core.List.{List}
+use lib.IntN.{ℤ}
+use Rattle.numbers.specs.Choice.{pick}
+use Rattle.diagnostic.specs.declared.DiagnosticKind.{DiagnosticKind}
+use Rattle.diagnostic.specs.declared.DiagnosticKind.the-variants.{ResetDuringDisplay}
+use Rattle.panel.specs.Finish.{finished, published}
+use Rattle.panel.proofs.Exactly.{states-length, pixels-length}
+use Rattle.device.specs.declared.Ssd1677.{Ssd1677}
+use Rattle.device.specs.declared.Power.{Power}
+use Rattle.device.specs.declared.Power.the-variants.{Running, Asleep, InReset}
+use Rattle.chip.specs.Advance.{Ready, WithGlass, withGlass}
+use Rattle.chip.specs.Close.{WithLog, withLog, closed}
+use Rattle.reset.specs.Reset.{logged, restored, WithGlassLog, onDevice, onLog, onGlass, isDriving, cutShort, dropped, cut, inReset, asserted, released, byLine}
+
+module _ (states : List ℤ) (luts pixels : List ℕ) where
+  -- a report changes the journal alone
+  pub ready-logged : (kind : DiagnosticKind) (k r : WithLog) → r ≡ logged kind k → Ready (k .device) states luts pixels → Ready (r .device) states luts pixels
+  unfolding logged
+  ready-logged kind k r e h = rw e h
+
+  -- the end of a command changes the journal and the bus alone
+  pub ready-closed : (k r : WithLog) → r ≡ closed k → Ready (k .device) states luts pixels → Ready (r .device) states luts pixels
+  unfolding closed
+  ready-closed k r e h = rw e h
+
+  -- a restoring leaves configuration and glass alone
+  pub ready-restored : (d : Ssd1677) → Ready d states luts pixels → Ready (restored d) states luts pixels
+  unfolding restored
+  ready-restored d h = h
+
+-- the same of a state with its buffers
+abbrev pub ReadyWith : List ℕ → WithGlassLog → Type 0
+ReadyWith luts w = Ready (w .device) (w .states) luts (w .pixels)
+
+module _ (luts : List ℕ) where
+  pub ready-shortened : (g : WithGlass) → Ready (g .device) (g .states) luts (g .pixels)
+      → Ready (cutShort luts g .device) (cutShort luts g .states) luts (cutShort luts g .pixels)
+  unfolding cutShort finished published
+  ready-shortened g h =
+      record {
+        luts-long = h .luts-long ∙ sym (states-length _ luts (g .states));
+        pixels-long = pixels-length _ _;
+        some = h .some;
+        lasting = h .lasting;
+      }
+
+  pub ready-cut : (w : WithGlassLog) → ReadyWith luts w → ReadyWith luts (cut luts w)
+  unfolding cut
+  ready-cut w h = by (isDriving (w .device))
+    where
+      k : WithLog
+      k = logged ResetDuringDisplay (withLog (w .device) (w .log))
+
+      by : (b : Bool) → ReadyWith luts (pick b (onGlass (cutShort luts) (onLog (logged ResetDuringDisplay) w)) (onDevice dropped w))
+      by true = ready-shortened (withGlass (k .device) (w .states) (w .pixels)) (ready-logged (w .states) luts (w .pixels) ResetDuringDisplay _ k refl h)
+      by false = h
+
+  pub ready-asserted : (w : WithGlassLog) → ReadyWith luts w → ReadyWith luts (asserted luts w)
+  unfolding asserted inReset restored
+  ready-asserted w h = ready-cut (onLog closed w) (ready-closed (w .states) luts (w .pixels) _ (closed (withLog (w .device) (w .log))) refl h)
+
+  pub ready-line : (low : Bool) (w : WithGlassLog) (p : Power) → ReadyWith luts w → ReadyWith luts (byLine luts low w p)
+  unfolding byLine released
+  ready-line true w InReset h = h
+  ready-line true w Running h = ready-asserted w h
+  ready-line true w Asleep h = ready-asserted w h
+  ready-line false w InReset h = h
+  ready-line false w Running h = h
+  ready-line false w Asleep h = h

@@ -1,0 +1,3 @@
+-- The root of reset's specs.
+pub mod Reset
+pub mod Start

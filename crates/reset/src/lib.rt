@@ -1,0 +1,170 @@
+// The reset line, and what a reset restores (mod.rs, `set_reset`, `restore_registers`).
+ghost use mathlib.Core.Path.{_≡_};
+ghost use lib.ListN.{length};
+ghost use Rattle.chip.specs.Advance.{Ready, withGlass};
+ghost use Rattle.chip.specs.Close.{withLog};
+ghost use Rattle.reset.specs.Reset.{logged, restored, withGlassLog, cutShort, cut, inReset, asserted, released, byLine};
+use device::Bus;
+use device::Current;
+use device::Deadline;
+use device::Power;
+use device::Ssd1677;
+use device::Status;
+use device::part;
+use diagnostic::DiagnosticKind;
+use waveform::Until;
+
+pub mod start;
+
+// A diagnostic of the instant the clock shows.
+pub fn report(state: Ssd1677, log: &mut [u8], kind: DiagnosticKind) -> Ssd1677
+    requires { ⌜ length (now log) ≡ 16384 ⌝ }
+    ensures { λ r. ⌜ withLog r (now (log .exit)) ≡ logged kind (withLog state (now (log .entry))) ⌝ }
+{
+    let journal = diagnostic::report(state.journal, log, state.now, kind);
+    part::set_journal(state, journal)
+}
+
+// The registers at their reset values, the supplies off and the status bits cleared; the RAM stays.
+pub fn restore_registers(state: Ssd1677) -> Ssd1677
+    ensures { λ r. ⌜ r ≡ restored state ⌝ }
+{
+    let config = state.config;
+    let user_id = config.user_id;
+    let regs = registers::reset(user_id);
+    let status = Status {
+        hv_not_ready: false,
+        vci_low: false,
+    };
+    part::set_powers(state, regs, false, false, status)
+}
+
+// The display is applied up to now and its image published.
+fn finish_cut(state: Ssd1677, states: &mut [i64], luts: &[u8], pixels: &mut [u8]) -> Ssd1677
+    requires { ⌜ Ready state (now states) (now luts) (now pixels) ⌝ }
+    ensures { λ r. ⌜ withGlass r (now (states .exit)) (now (pixels .exit)) ≡ cutShort (now (luts .entry)) (withGlass state (now (states .entry)) (now (pixels .entry))) ⌝ }
+{
+    let display = state.display;
+    let config = state.config;
+    let optics = config.optics;
+    let timing = config.timing;
+    let periods = timing.frame_period;
+    let panel = state.panel;
+    let into = chip::ns_between(display.started, state.now);
+    let finished = panel::finish(
+        panel,
+        display,
+        optics.positive_drives_black,
+        periods,
+        state.now,
+        Until::Cut(into),
+        &mut states[..],
+        luts,
+        &mut pixels[..],
+    );
+    let off = chip::stop(display);
+    part::set_glass(state, finished, off)
+}
+
+// A display cut once its driving has begun publishes what the glass reached; one whose stages before it had not ended is abandoned:
+// the glass did not change.
+fn cut_display(
+    state: Ssd1677,
+    states: &mut [i64],
+    luts: &[u8],
+    pixels: &mut [u8],
+    log: &mut [u8],
+) -> Ssd1677
+    requires { ⌜ Ready state (now states) (now luts) (now pixels) × (length (now log) ≡ 16384) ⌝ }
+    ensures { λ r. ⌜ withGlassLog r (now (states .exit)) (now (pixels .exit)) (now (log .exit)) ≡ cut (now (luts .entry)) (withGlassLog state (now (states .entry)) (now (pixels .entry)) (now (log .entry))) ⌝ }
+{
+    let display = state.display;
+    if display.running & (display.started <= state.now) {
+        let noted = report(state, log, DiagnosticKind::ResetDuringDisplay);
+        return finish_cut(noted, states, luts, pixels);
+    }
+    let off = chip::stop(display);
+    part::set_display(state, off)
+}
+
+// RES# is low: nothing is current and nothing runs.
+fn enter_reset(state: Ssd1677) -> Ssd1677
+    ensures { λ r. ⌜ r ≡ inReset state ⌝ }
+{
+    let bus = Bus {
+        power: Power::InReset,
+        current: Current::Ignoring,
+        busy_until: Deadline::Never,
+    };
+    part::set_bus(state, bus)
+}
+
+// RES# falls: whatever runs is stopped.
+fn assert_reset(
+    state: Ssd1677,
+    states: &mut [i64],
+    luts: &[u8],
+    pixels: &mut [u8],
+    log: &mut [u8],
+) -> Ssd1677
+    requires { ⌜ Ready state (now states) (now luts) (now pixels) × (length (now log) ≡ 16384) ⌝ }
+    ensures { λ r. ⌜ withGlassLog r (now (states .exit)) (now (pixels .exit)) (now (log .exit)) ≡ asserted (now (luts .entry)) (withGlassLog state (now (states .entry)) (now (pixels .entry)) (now (log .entry))) ⌝ }
+{
+    let ended = chip::close::close_command(state, log);
+    let stopped = cut_display(ended, states, luts, pixels, log);
+    let restored = restore_registers(stopped);
+    enter_reset(restored)
+}
+
+// RES# rises: the chip runs, and is busy for the hardware reset.
+fn release_reset(state: Ssd1677) -> Ssd1677
+    ensures { λ r. ⌜ r ≡ released state ⌝ }
+{
+    let config = state.config;
+    let timing = config.timing;
+    let old = state.bus;
+    let busy_until = old.busy_until;
+    let running = Bus {
+        power: Power::Running,
+        current: Current::Idle,
+        busy_until,
+    };
+    let bus = chip::busy_for(running, state.now, timing.hardware_reset);
+    part::set_bus(state, bus)
+}
+
+// The line is put low or high. A level that it already has does nothing.
+pub fn set_line(
+    state: Ssd1677,
+    states: &mut [i64],
+    luts: &[u8],
+    pixels: &mut [u8],
+    log: &mut [u8],
+    low: bool,
+) -> Ssd1677
+    requires { ⌜ Ready state (now states) (now luts) (now pixels) × (length (now log) ≡ 16384) ⌝ }
+    ensures { λ r. ⌜ withGlassLog r (now (states .exit)) (now (pixels .exit)) (now (log .exit)) ≡ byLine (now (luts .entry)) low (withGlassLog state (now (states .entry)) (now (pixels .entry)) (now (log .entry))) (state .bus .power) ⌝ }
+{
+    let bus = state.bus;
+    let power = bus.power;
+    match power {
+        Power::InReset => {
+            if low {
+                return state;
+            }
+            release_reset(state)
+        }
+        Power::Running => {
+            if low {
+                return assert_reset(state, states, luts, pixels, log);
+            }
+            state
+        }
+        Power::Asleep => {
+            if low {
+                return assert_reset(state, states, luts, pixels, log);
+            }
+            state
+        }
+    }
+}
