@@ -1,0 +1,122 @@
+-- What an activation keeps, and that a display does not end before it starts. Assumes nothing.
+use Prim.Native.Nat.{ℕ, _+_, _≤_, min}
+use mathlib.Core.Path.{_≡_, refl, sym, subst, _∙_}
+use mathlib.Core.Bool.{Bool, true, false, _&&_}
+use mathlib.Core.List.{List}
+use lib.IntN.{ℤ}
+use lib.ListN.{length}
+use native.Mathlib.Omega.{arith}
+use Rattle.numbers.specs.Choice.{pick}
+use Rattle.numbers.proofs.Painted.{length-tab}
+use Rattle.panel.specs.Finish.{Ending, published, finished}
+use Rattle.panel.proofs.Exactly.{states-length, pixels-length}
+use Rattle.waveform.specs.declared.Until.the-variants.{Whole}
+use Rattle.config.specs.declared.Ssd1677Config.{Ssd1677Config}
+use Rattle.panel.specs.declared.Display.{Display}
+use Rattle.diagnostic.specs.declared.DiagnosticKind.the-variants.{WithoutClock, WithoutAnalog}
+use Rattle.diagnostic.specs.declared.Stage.the-variants as stage
+use Rattle.scan.specs.Luts.{lutOf}
+use Rattle.device.specs.declared.Registers.{Registers}
+use Rattle.device.specs.declared.Ssd1677.{Ssd1677}
+use Rattle.chip.specs.Moments.{afterNs}
+use Rattle.chip.specs.Advance.{Ready, WithGlass, withGlass, endingOf, glassOf, isOver, ended, clocked, advanced}
+use Rattle.chip.specs.Advance as clock
+use Rattle.stages.specs.Run.{Step, noted}
+use Rattle.activation.specs.Display.{Displayed, scanOf, displayOf, unchanged, begun, shown}
+use Rattle.activation.specs.Activation.{settled, WithLuts, withLuts, Lent, staged, WithBuffers, stagedIn, activated}
+
+-- what holds of both arms holds of the choice
+either : {A : Type 0} (P : A → Type 0) (b : Bool) (x y : A) → P x → P y → P (pick b x y)
+either P true x y p q = p
+either P false x y p q = q
+
+-- the stages leave the configuration and the glass as they were
+pub ready-after : (k : Lent) (s z : WithLuts) (states : List ℤ) (pixels : List ℕ) → z ≡ staged k s → length (z .luts) ≡ length (s .luts)
+    → Ready (s .device) states (s .luts) pixels → Ready (z .device) states (z .luts) pixels
+unfolding staged settled
+ready-after k s z states pixels e same h =
+    subst (λ (x : WithLuts). Ready (x .device) states (z .luts) pixels) (sym e)
+    (record { luts-long = same ∙ h .luts-long; pixels-long = h .pixels-long; some = h .some; lasting = h .lasting })
+
+-- finishing a display keeps what finishing the next one asks
+finished-ready : (e : Ending) (luts : List ℕ) (g : WithGlass) → Ready (g .device) (g .states) luts (g .pixels)
+    → Ready (clock.published g (finished e luts (glassOf g)) .device) (clock.published g (finished e luts (glassOf g)) .states) luts
+    (clock.published g (finished e luts (glassOf g)) .pixels)
+unfolding finished published
+finished-ready e luts g h =
+    record {
+      luts-long = h .luts-long ∙ sym (states-length _ luts (g .states));
+      pixels-long = pixels-length _ _;
+      some = h .some;
+      lasting = h .lasting;
+    }
+
+-- the clock's move too
+pub ready-advanced : (luts : List ℕ) (time : ℕ) (g : WithGlass) → Ready (g .device) (g .states) luts (g .pixels)
+    → Ready (advanced luts time g .device) (advanced luts time g .states) luts (advanced luts time g .pixels)
+unfolding advanced ended
+ready-advanced luts time g h =
+    either (λ (x : WithGlass). Ready (x .device) (x .states) luts (x .pixels)) (isOver (clocked time g .device))
+    (clock.published (clocked time g) (finished (endingOf (clocked time g .device) (g .device .display .ends) Whole) luts (glassOf (clocked time g))))
+    (clocked time g)
+    (finished-ready (endingOf (clocked time g .device) (g .device .display .ends) Whole) luts (clocked time g) h)
+    h
+
+-- a display writes every LUT anew and no more
+module _ (blackWhite red gates : List ℕ) (regs : Registers) (config : Ssd1677Config) (time : ℕ) (wanted two : Bool) (d : Display) (s : Step) (luts : List ℕ) where
+  abbrev long : Displayed → Type 0
+  long x = length (x .luts) ≡ length luts
+
+  abbrev clockless : Displayed
+  clockless = unchanged d luts (noted time (WithoutClock stage.Display) s)
+
+  abbrev analogless : Displayed
+  analogless = unchanged d luts (noted time (WithoutAnalog stage.Display) s)
+
+  luts-shown : length (shown blackWhite red gates regs config time wanted two d s luts .luts) ≡ length luts
+  unfolding shown begun
+  luts-shown =
+      let x = begun blackWhite red gates regs config time two s luts in
+      either long (wanted && s .run .«waveform_found») (pick (s .run .clock) (pick (s .run .analog) x analogless) clockless) (unchanged d luts s)
+      (either long (s .run .clock) (pick (s .run .analog) x analogless) clockless
+      (either long (s .run .analog) x analogless (length-tab (length luts) (lutOf gates red blackWhite (config .panel) (scanOf regs))) refl)
+      refl)
+      refl
+
+luts-staged : (k : Lent) (s : WithLuts) → length (staged k s .luts) ≡ length (s .luts)
+unfolding staged
+luts-staged k s = luts-shown _ _ _ _ _ _ _ _ _ _ _
+
+-- 0x20 keeps what finishing a display asks
+pub ready-activated : (k : Lent) (w : WithBuffers) → Ready (w .device) (w .states) (w .luts) (w .pixels)
+    → Ready (activated k w .device) (activated k w .states) (activated k w .luts) (activated k w .pixels)
+unfolding activated
+ready-activated k w h =
+    let s = stagedIn k w in
+    ready-advanced (s .luts) (s .device .now) (withGlass (s .device) (w .states) (w .pixels))
+    (ready-after k (withLuts (w .device) (w .luts) (w .log)) s (w .states) (w .pixels) refl (luts-staged k (withLuts (w .device) (w .luts) (w .log))) h)
+
+mux-advanced : (luts : List ℕ) (time : ℕ) (g : WithGlass) → advanced luts time g .device .regs .mux ≡ g .device .regs .mux
+unfolding advanced ended
+mux-advanced luts time g =
+    either (λ (x : WithGlass). x .device .regs .mux ≡ g .device .regs .mux) (isOver (clocked time g .device))
+    (clock.published (clocked time g) (finished (endingOf (clocked time g .device) (g .device .display .ends) Whole) luts (glassOf (clocked time g))))
+    (clocked time g)
+    refl
+    refl
+
+-- 0x20 keeps MUX
+pub mux-activated : (k : Lent) (w : WithBuffers) → activated k w .device .regs .mux ≡ w .device .regs .mux
+unfolding activated staged settled
+mux-activated k w =
+    let s = stagedIn k w in
+    mux-advanced (s .luts) (s .device .now) (withGlass (s .device) (w .states) (w .pixels))
+
+later : (time before ns most : ℕ) → min (time + before) most ≤ min (time + min (before + ns) most) most
+later time before ns most = omega arith
+
+-- a display that starts does not end before
+pub starts-before-end : (blackWhite red gates : List ℕ) (regs : Registers) (config : Ssd1677Config) (time : ℕ) (two : Bool) (s : Step) (luts : List ℕ)
+    → begun blackWhite red gates regs config time two s luts .display .started ≤ begun blackWhite red gates regs config time two s luts .display .ends
+unfolding begun displayOf afterNs
+starts-before-end blackWhite red gates regs config time two s luts = later _ _ _ _

@@ -1,0 +1,3 @@
+-- The root of activation's specs.
+pub mod Display
+pub mod Activation

@@ -1,0 +1,34 @@
+-- `stages::load_lut` meets its contract.
+use Rattle.stages.proofs.Cases.{finds, finds-none}
+use borrow.Author.Needs.{needs}
+use Rattle.stages.proofs.load_lut.Statement.{statement}
+use Rattle.stages.proofs.load_lut.Tie as tie
+
+find-waveform-requires : tie.Need-find-waveform-requires
+find-waveform-requires c κs = search needs
+
+setting-of-requires : tie.Need-setting-of-requires
+setting-of-requires c κs = search needs
+
+returns : tie.Need-returns
+returns c = finds _ _ _ _ _ (c .before .before .find-waveform .ensures) _ (c .before .if1 .taken) (c .setting-of .ensures)
+
+note-requires : tie.Need-note-requires
+note-requires c κs = search needs
+
+same-length : tie.Need-same-length
+same-length c = search needs
+
+returns-2 : tie.Need-returns-2
+returns-2 c = finds-none _ _ _ _ _ (c .before .before .before .before .before .find-waveform .ensures) _ (c .before .before .before .before .if1 .left) (c .before .before .note .ensures)
+
+pub load-lut-spec : {M : Type 1} → statement M
+load-lut-spec =
+    tie.close
+    (tie.spec
+    find-waveform-requires
+    setting-of-requires
+    returns
+    note-requires
+    same-length
+    returns-2)

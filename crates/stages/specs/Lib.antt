@@ -1,0 +1,3 @@
+-- The root of stages' specs.
+pub mod Run
+pub mod Stages
