@@ -1,9 +1,14 @@
 -- `reset::cut_display` meets its contract.
 use Rattle.reset.proofs.Cases.{cuts, drops}
 use Rattle.reset.proofs.Kept.{ready-logged}
+use Rattle.reset.specs.Reset.{WithGlassLog, withGlassLog}
 use borrow.Author.Needs.{needs}
 use Rattle.reset.proofs.cut_display.Statement.{statement}
 use Rattle.reset.proofs.cut_display.Tie as tie
+
+-- the state and the buffers as lent
+abbrev given : tie.Start → WithGlassLog
+given s = withGlassLog (s .args .state) (s .args .states .now) (s .args .pixels .now) (s .args .log .now)
 
 report-requires : tie.Need-report-requires
 report-requires c κs = search needs
@@ -23,7 +28,9 @@ same-length-3 : tie.Need-same-length-3
 same-length-3 c = search needs
 
 returns : tie.Need-returns
-returns c = cuts _ _ _ _ (c .before .before .before .before .before .before .before .before .before .before .if1 .taken) (c .before .before .before .before .before .before .before .before .report .ensures) (c .before .before .before .finish-cut .ensures)
+returns c =
+    let s = c .before .before .before .before .before .before .before .before .before .before .before .before .before .before .before .before .before .before in
+    cuts (s .args .luts .now) (given s) _ _ (c .before .before .before .before .before .before .before .before .before .before .if1 .taken) (c .before .before .before .before .before .before .before .before .report .ensures) (c .before .before .before .finish-cut .ensures)
 
 stop-requires : tie.Need-stop-requires
 stop-requires c κs = search needs
@@ -32,7 +39,9 @@ set-display-requires : tie.Need-set-display-requires
 set-display-requires c κs = search needs
 
 returns-2 : tie.Need-returns-2
-returns-2 c = drops _ _ _ _ (c .before .before .if1 .left) (c .before .stop .ensures) (c .set-display .ensures)
+returns-2 c =
+    let s = c .before .before .before .before .before .before .before .before .before .before in
+    drops (s .args .luts .now) (given s) _ _ (c .before .before .if1 .left) (c .before .stop .ensures) (c .set-display .ensures)
 
 pub cut-display-spec : {M : Type 1} → statement M
 cut-display-spec =
