@@ -88,7 +88,7 @@ module _ (blackWhite red gates : List ℕ) (d : Ssd1677) where
       displayed (waited ns (a .run)) (displayOf (s .run .lut) (d .regs .border) (d .now) (s .run .ns) ns two)
       (tab (length luts) (lutOf gates red blackWhite (d .config .panel) (scanOf (d .regs)))) (a .log)
 
-  -- bit 2: it starts where no waveform lacks and the clock and the analog supplies are on; 33 without the one, 34 without the other
+  -- bit 2: it starts unless a LUT load found no waveform; it needs the clock, else 33, and the analog supplies, else 34 (mod.rs, `powered`)
   unfoldable pub shown : Bool → Bool → Step → List ℕ → Displayed
   shown wanted two s luts =
       pick (wanted && s .run .«waveform_found»)

@@ -118,7 +118,7 @@ fn start_display(
     Shown { run: next, display }
 }
 
-// The display, where it is asked for, no waveform lacks and the clock and the analog supplies are on.
+// The display, unless a LUT load found no waveform; it needs the clock and the analog supplies (mod.rs, `powered`).
 fn show(
     run: Run,
     luts: &mut [u8],
