@@ -14,7 +14,6 @@ use Rattle.numbers.proofs.Fields.{test-bit}
 use Rattle.glass.specs.declared.RefreshKind.{RefreshKind}
 use Rattle.waveform.specs.Setting.{waveformOf}
 use Rattle.waveform.specs.Duration.{durationOf}
-use Rattle.config.specs.declared.Ssd1677Config.{Ssd1677Config}
 use Rattle.diagnostic.specs.declared.DiagnosticKind.the-variants.{WithoutClock, WithoutAnalog}
 use Rattle.diagnostic.specs.declared.Stage.the-variants as stage
 use Rattle.scan.specs.declared.PlaneOption.{PlaneOption}
@@ -49,35 +48,36 @@ pub displays : (setting : List ℕ) (border time before ns : ℕ) (two : Bool) (
 unfolding displayOf
 displays setting border time before ns two a w b k e₁ e₂ e₃ e₄ = rw (e₁, e₃, e₂, e₄)
 
-module _ (blackWhite red gates : List ℕ) (regs : Registers) (config : Ssd1677Config) (time : ℕ) where
-  pub begins : (two : Bool) (s : Step) (luts : List ℕ) (scan : Scan) (a : Step) (ns : ℕ) (u : List ℕ) (d : Display) (r : Run)
-      → scan ≡ scanOf regs → a ≡ warned time two (regs .«display_option») s
-      → ns ≡ durationOf (waveformOf (s .run .lut) (config .timing .«frame_period»))
-      → u ≡ tab (length luts) (lutOf gates red blackWhite (config .panel) scan) → d ≡ displayOf (s .run .lut) (regs .border) time (s .run .ns) ns two
-      → r ≡ waited ns (a .run) → displayed r d u (a .log) ≡ begun blackWhite red gates regs config time two s luts
+module _ (blackWhite red gates : List ℕ) (d : Ssd1677) where
+  pub begins : (two : Bool) (s : Step) (luts : List ℕ) (scan : Scan) (a : Step) (ns : ℕ) (u : List ℕ) (x : Display) (r : Run)
+      → scan ≡ scanOf (d .regs) → a ≡ warned (d .now) two (d .regs .«display_option») s
+      → ns ≡ durationOf (waveformOf (s .run .lut) (d .config .timing .«frame_period»))
+      → u ≡ tab (length luts) (lutOf gates red blackWhite (d .config .panel) scan)
+      → x ≡ displayOf (s .run .lut) (d .regs .border) (d .now) (s .run .ns) ns two
+      → r ≡ waited ns (a .run) → displayed r x u (a .log) ≡ begun blackWhite red gates d two s luts
   unfolding begun
-  begins two s luts scan a ns u d r e₁ e₂ e₃ e₄ e₅ e₆ = rw (e₆, e₅, e₄, e₁, e₂, e₃)
+  begins two s luts scan a ns u x r e₁ e₂ e₃ e₄ e₅ e₆ = rw (e₆, e₅, e₄, e₁, e₂, e₃)
 
-  module _ (wanted two : Bool) (d : Display) (s : Step) (luts : List ℕ) (is : wanted && s .run .«waveform_found» ≡ true) where
-    pub shows : (z : Displayed) → s .run .clock ≡ true → s .run .analog ≡ true → z ≡ begun blackWhite red gates regs config time two s luts
-        → z ≡ shown blackWhite red gates regs config time wanted two d s luts
+  module _ (wanted two : Bool) (s : Step) (luts : List ℕ) (is : wanted && s .run .«waveform_found» ≡ true) where
+    pub shows : (z : Displayed) → s .run .clock ≡ true → s .run .analog ≡ true → z ≡ begun blackWhite red gates d two s luts
+        → z ≡ shown blackWhite red gates d wanted two s luts
     unfolding shown
     shows z p q e = took _ _ _ _ is (took _ _ _ _ p (took _ _ _ _ q e))
 
-    pub no-analog : (z : Step) → s .run .clock ≡ true → s .run .analog ≡ false → z ≡ noted time (WithoutAnalog stage.Display) s
-        → unchanged d luts z ≡ shown blackWhite red gates regs config time wanted two d s luts
+    pub no-analog : (z : Step) → s .run .clock ≡ true → s .run .analog ≡ false → z ≡ noted (d .now) (WithoutAnalog stage.Display) s
+        → unchanged (d .display) luts z ≡ shown blackWhite red gates d wanted two s luts
     unfolding shown
-    no-analog z p q e = took _ _ _ _ is (took _ _ _ _ p (passed _ _ _ _ q (ap (λ (x : Step). unchanged d luts x) e)))
+    no-analog z p q e = took _ _ _ _ is (took _ _ _ _ p (passed _ _ _ _ q (ap (λ (x : Step). unchanged (d .display) luts x) e)))
 
-    pub no-clock : (z : Step) → s .run .clock ≡ false → z ≡ noted time (WithoutClock stage.Display) s
-        → unchanged d luts z ≡ shown blackWhite red gates regs config time wanted two d s luts
+    pub no-clock : (z : Step) → s .run .clock ≡ false → z ≡ noted (d .now) (WithoutClock stage.Display) s
+        → unchanged (d .display) luts z ≡ shown blackWhite red gates d wanted two s luts
     unfolding shown
-    no-clock z p e = took _ _ _ _ is (passed _ _ _ _ p (ap (λ (x : Step). unchanged d luts x) e))
+    no-clock z p e = took _ _ _ _ is (passed _ _ _ _ p (ap (λ (x : Step). unchanged (d .display) luts x) e))
 
-  pub shows-not : (wanted two : Bool) (d : Display) (s : Step) (luts : List ℕ) → wanted && s .run .«waveform_found» ≡ false
-      → unchanged d luts s ≡ shown blackWhite red gates regs config time wanted two d s luts
+  pub shows-not : (wanted two : Bool) (s : Step) (luts : List ℕ) → wanted && s .run .«waveform_found» ≡ false
+      → unchanged (d .display) luts s ≡ shown blackWhite red gates d wanted two s luts
   unfolding shown
-  shows-not wanted two d s luts h = rw h
+  shows-not wanted two s luts h = rw h
 
 pub settles : (d : Ssd1677) (r : Run) (x : Display) (g : Registers) (b : Bus) (z : Ssd1677) → g ≡ withLoaded (d .regs) (r .temperature) (r .lut)
     → b ≡ busyFor (d .bus) (d .now) (r .ns) → z ≡ withActivated d g b (r .clock) (r .analog) x (r .journal) → z ≡ settled d r x
@@ -87,8 +87,7 @@ settles d r x g b z e₁ e₂ e₃ = rw (e₃, e₂, e₁)
 pub stages : (k : Lent) (s : WithLuts) (control : Control) (r : Run) (a : Step) (t : Displayed) (b c : Run) (z : Ssd1677)
     → control ≡ controlOf (s .device .regs .«update_control_2») → r ≡ runOf (s .device)
     → a ≡ loaded (s .device .now) control (s .device .regs .sensor) (s .device .config) (k .otp) (step r (s .log))
-    → t ≡ shown (k .blackWhite) (k .red) (k .gates) (s .device .regs) (s .device .config) (s .device .now) (control .display) (control .«mode_two»)
-    (s .device .display) a (s .luts)
+    → t ≡ shown (k .blackWhite) (k .red) (k .gates) (s .device) (control .display) (control .«mode_two») a (s .luts)
     → b ≡ analogOff (control .«analog_off») (s .device .config .timing .«analog_off») (t .run) → c ≡ clockOff (control .«clock_off») b
     → z ≡ settled (s .device) c (t .display)
     → withLuts z (t .luts) (t .log) ≡ staged k s

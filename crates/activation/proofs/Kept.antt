@@ -11,12 +11,9 @@ use Rattle.numbers.proofs.Painted.{length-tab}
 use Rattle.panel.specs.Finish.{Ending, published, finished}
 use Rattle.panel.proofs.Exactly.{states-length, pixels-length}
 use Rattle.waveform.specs.declared.Until.the-variants.{Whole}
-use Rattle.config.specs.declared.Ssd1677Config.{Ssd1677Config}
-use Rattle.panel.specs.declared.Display.{Display}
 use Rattle.diagnostic.specs.declared.DiagnosticKind.the-variants.{WithoutClock, WithoutAnalog}
 use Rattle.diagnostic.specs.declared.Stage.the-variants as stage
 use Rattle.scan.specs.Luts.{lutOf}
-use Rattle.device.specs.declared.Registers.{Registers}
 use Rattle.device.specs.declared.Ssd1677.{Ssd1677}
 use Rattle.chip.specs.Moments.{afterNs}
 use Rattle.chip.specs.Advance.{Ready, WithGlass, withGlass, endingOf, glassOf, isOver, ended, clocked, advanced}
@@ -63,29 +60,30 @@ ready-advanced luts time g h =
     h
 
 -- a display writes every LUT anew and no more
-module _ (blackWhite red gates : List ℕ) (regs : Registers) (config : Ssd1677Config) (time : ℕ) (wanted two : Bool) (d : Display) (s : Step) (luts : List ℕ) where
+module _ (blackWhite red gates : List ℕ) (d : Ssd1677) (wanted two : Bool) (s : Step) (luts : List ℕ) where
   abbrev long : Displayed → Type 0
   long x = length (x .luts) ≡ length luts
 
   abbrev clockless : Displayed
-  clockless = unchanged d luts (noted time (WithoutClock stage.Display) s)
+  clockless = unchanged (d .display) luts (noted (d .now) (WithoutClock stage.Display) s)
 
   abbrev analogless : Displayed
-  analogless = unchanged d luts (noted time (WithoutAnalog stage.Display) s)
+  analogless = unchanged (d .display) luts (noted (d .now) (WithoutAnalog stage.Display) s)
 
-  luts-shown : length (shown blackWhite red gates regs config time wanted two d s luts .luts) ≡ length luts
+  luts-shown : length (shown blackWhite red gates d wanted two s luts .luts) ≡ length luts
   unfolding shown begun
   luts-shown =
-      let x = begun blackWhite red gates regs config time two s luts in
-      either long (wanted && s .run .«waveform_found») (pick (s .run .clock) (pick (s .run .analog) x analogless) clockless) (unchanged d luts s)
+      let x = begun blackWhite red gates d two s luts in
+      either long (wanted && s .run .«waveform_found») (pick (s .run .clock) (pick (s .run .analog) x analogless) clockless)
+      (unchanged (d .display) luts s)
       (either long (s .run .clock) (pick (s .run .analog) x analogless) clockless
-      (either long (s .run .analog) x analogless (length-tab (length luts) (lutOf gates red blackWhite (config .panel) (scanOf regs))) refl)
+      (either long (s .run .analog) x analogless (length-tab (length luts) (lutOf gates red blackWhite (d .config .panel) (scanOf (d .regs)))) refl)
       refl)
       refl
 
 luts-staged : (k : Lent) (s : WithLuts) → length (staged k s .luts) ≡ length (s .luts)
 unfolding staged
-luts-staged k s = luts-shown _ _ _ _ _ _ _ _ _ _ _
+luts-staged k s = luts-shown _ _ _ _ _ _ _ _
 
 -- 0x20 keeps what finishing a display asks
 pub ready-activated : (k : Lent) (w : WithBuffers) → Ready (w .device) (w .states) (w .luts) (w .pixels)
@@ -116,7 +114,7 @@ later : (time before ns most : ℕ) → min (time + before) most ≤ min (time +
 later time before ns most = omega arith
 
 -- a display that starts does not end before
-pub starts-before-end : (blackWhite red gates : List ℕ) (regs : Registers) (config : Ssd1677Config) (time : ℕ) (two : Bool) (s : Step) (luts : List ℕ)
-    → begun blackWhite red gates regs config time two s luts .display .started ≤ begun blackWhite red gates regs config time two s luts .display .ends
+pub starts-before-end : (blackWhite red gates : List ℕ) (d : Ssd1677) (two : Bool) (s : Step) (luts : List ℕ)
+    → begun blackWhite red gates d two s luts .display .started ≤ begun blackWhite red gates d two s luts .display .ends
 unfolding begun displayOf afterNs
-starts-before-end blackWhite red gates regs config time two s luts = later _ _ _ _
+starts-before-end blackWhite red gates d two s luts = later _ _ _ _

@@ -70,8 +70,7 @@ module _ (k : Lent) (s : WithLuts) where
   -- then the display
   abbrev pub during : Control → Displayed
   during control =
-      shown (k .blackWhite) (k .red) (k .gates) (s .device .regs) (s .device .config) (s .device .now) (control .display) (control .«mode_two»)
-      (s .device .display) (before control) (s .luts)
+      shown (k .blackWhite) (k .red) (k .gates) (s .device) (control .display) (control .«mode_two») (before control) (s .luts)
 
   -- then the supplies' end, and all of it back in the state
   abbrev pub after : Control → Displayed → WithLuts

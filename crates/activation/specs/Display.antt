@@ -12,13 +12,13 @@ use Rattle.glass.specs.declared.RefreshKind.the-variants.{Full, Partial}
 use Rattle.waveform.specs.Setting.{waveformOf}
 use Rattle.waveform.specs.Duration.{durationOf}
 use Rattle.config.specs.declared.PanelGeometry.{PanelGeometry}
-use Rattle.config.specs.declared.Ssd1677Config.{Ssd1677Config}
 use Rattle.diagnostic.specs.declared.DiagnosticKind.the-variants.{WithoutClock, WithoutAnalog, RamPingPong}
 use Rattle.diagnostic.specs.declared.Stage.the-variants as stage
 use Rattle.scan.specs.declared.Scan.{Scan}
 use Rattle.scan.specs.Luts.{optionOf, lutOf}
 use Rattle.panel.specs.declared.Display.{Display}
 use Rattle.device.specs.declared.Registers.{Registers}
+use Rattle.device.specs.declared.Ssd1677.{Ssd1677}
 use Rattle.chip.specs.Moments.{afterNs}
 use Rattle.stages.specs.declared.Run.{Run}
 use Rattle.stages.specs.Run.{Step, step, noted, waited}
@@ -79,20 +79,20 @@ displayed r d u l = record { run = r; display = d; luts = u; log = l }
 abbrev pub unchanged : Display → List ℕ → Step → Displayed
 unchanged d luts s = displayed (s .run) d luts (s .log)
 
-module _ (blackWhite red gates : List ℕ) (regs : Registers) (config : Ssd1677Config) (time : ℕ) where
+module _ (blackWhite red gates : List ℕ) (d : Ssd1677) where
   -- the display starts after the time so far, lasts as the LUT register says, and fixes the LUT of every pixel (mod.rs, `start_display`)
   unfoldable pub begun : Bool → Step → List ℕ → Displayed
   begun two s luts =
-      let ns = durationOf (waveformOf (s .run .lut) (config .timing .«frame_period»)) in
-      let a = warned time two (regs .«display_option») s in
-      displayed (waited ns (a .run)) (displayOf (s .run .lut) (regs .border) time (s .run .ns) ns two)
-      (tab (length luts) (lutOf gates red blackWhite (config .panel) (scanOf regs))) (a .log)
+      let ns = durationOf (waveformOf (s .run .lut) (d .config .timing .«frame_period»)) in
+      let a = warned (d .now) two (d .regs .«display_option») s in
+      displayed (waited ns (a .run)) (displayOf (s .run .lut) (d .regs .border) (d .now) (s .run .ns) ns two)
+      (tab (length luts) (lutOf gates red blackWhite (d .config .panel) (scanOf (d .regs)))) (a .log)
 
-  -- bit 2: it starts where no waveform lacks and the clock and the analog supplies are on; 33 without the one, 34 without the other
-  unfoldable pub shown : Bool → Bool → Display → Step → List ℕ → Displayed
-  shown wanted two d s luts =
+  -- bit 2: it starts unless a LUT load found no waveform; it needs the clock, else 33, and the analog supplies, else 34 (mod.rs, `powered`)
+  unfoldable pub shown : Bool → Bool → Step → List ℕ → Displayed
+  shown wanted two s luts =
       pick (wanted && s .run .«waveform_found»)
       (pick (s .run .clock)
-      (pick (s .run .analog) (begun two s luts) (unchanged d luts (noted time (WithoutAnalog stage.Display) s)))
-      (unchanged d luts (noted time (WithoutClock stage.Display) s)))
-      (unchanged d luts s)
+      (pick (s .run .analog) (begun two s luts) (unchanged (d .display) luts (noted (d .now) (WithoutAnalog stage.Display) s)))
+      (unchanged (d .display) luts (noted (d .now) (WithoutClock stage.Display) s)))
+      (unchanged (d .display) luts s)

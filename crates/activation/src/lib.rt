@@ -8,7 +8,6 @@ ghost use Rattle.waveform.specs.Duration.{durationOf};
 ghost use Rattle.stages.specs.Run.{step};
 ghost use Rattle.activation.specs.Display.{kindOf, scanOf, warned, displayOf, displayed, Startable, begun, shown};
 ghost use Rattle.activation.specs.Activation.{analogOff, clockOff, runOf, settled, withLuts, staged, withBuffers, lent, Activatable, activated};
-use config::Ssd1677Config;
 use device::Registers;
 use device::Ssd1677;
 use device::part;
@@ -98,79 +97,53 @@ fn start_display(
     red: &[u8],
     gates: &[u16],
     log: &mut [u8],
-    regs: Registers,
-    config: Ssd1677Config,
-    time: u64,
+    state: Ssd1677,
     two: bool,
 ) -> Shown
-    requires { ⌜ Startable regs (config .panel) (now luts) (now «black_white») (now red) (now gates) (now log) ⌝ }
-    ensures { λ r. ⌜ displayed (r .run) (r .display) (now (luts .exit)) (now (log .exit)) ≡ begun (now («black_white» .entry)) (now (red .entry)) (now (gates .entry)) regs config time two (step run (now (log .entry))) (now (luts .entry)) ⌝ }
+    requires { ⌜ Startable (state .regs) (state .config .panel) (now luts) (now «black_white») (now red) (now gates) (now log) ⌝ }
+    ensures { λ r. ⌜ displayed (r .run) (r .display) (now (luts .exit)) (now (log .exit)) ≡ begun (now («black_white» .entry)) (now (red .entry)) (now (gates .entry)) state two (step run (now (log .entry))) (now (luts .entry)) ⌝ }
 {
+    let regs = state.regs;
+    let config = state.config;
     let timing = config.timing;
     let periods = timing.frame_period;
     let options = regs.display_option;
     let lut = run.lut;
     let scan = scan_of(regs);
-    let warned = warn(run, log, time, two, options);
+    let warned = warn(run, log, state.now, two, options);
     let ns = duration_of(lut, periods);
     scan::start(&mut luts[..], gates, red, black_white, config.panel, scan);
-    let display = display_of(lut, regs.border, time, run.ns, ns, two);
+    let display = display_of(lut, regs.border, state.now, run.ns, ns, two);
     let next = stages::wait(warned, ns);
     Shown { run: next, display }
 }
 
-// The display, where it is asked for, no waveform lacks and the clock and the analog supplies are on.
+// The display, unless a LUT load found no waveform; it needs the clock and the analog supplies (mod.rs, `powered`).
 fn show(
     run: Run,
-    display: Display,
     luts: &mut [u8],
     black_white: &[u8],
     red: &[u8],
     gates: &[u16],
     log: &mut [u8],
-    regs: Registers,
-    config: Ssd1677Config,
-    time: u64,
+    state: Ssd1677,
     wanted: bool,
     two: bool,
 ) -> Shown
-    requires { ⌜ Startable regs (config .panel) (now luts) (now «black_white») (now red) (now gates) (now log) ⌝ }
-    ensures { λ r. ⌜ displayed (r .run) (r .display) (now (luts .exit)) (now (log .exit)) ≡ shown (now («black_white» .entry)) (now (red .entry)) (now (gates .entry)) regs config time wanted two display (step run (now (log .entry))) (now (luts .entry)) ⌝ }
+    requires { ⌜ Startable (state .regs) (state .config .panel) (now luts) (now «black_white») (now red) (now gates) (now log) ⌝ }
+    ensures { λ r. ⌜ displayed (r .run) (r .display) (now (luts .exit)) (now (log .exit)) ≡ shown (now («black_white» .entry)) (now (red .entry)) (now (gates .entry)) state wanted two (step run (now (log .entry))) (now (luts .entry)) ⌝ }
 {
+    let display = state.display;
+    let stage = Stage::Display;
     if wanted & run.waveform_found {
         if run.clock {
             if run.analog {
-                return start_display(
-                    run,
-                    luts,
-                    black_white,
-                    red,
-                    gates,
-                    log,
-                    regs,
-                    config,
-                    time,
-                    two,
-                );
+                return start_display(run, luts, black_white, red, gates, log, state, two);
             }
-            let next = stages::note(
-                run,
-                log,
-                time,
-                DiagnosticKind::WithoutAnalog {
-                    stage: Stage::Display,
-                },
-            );
+            let next = stages::note(run, log, state.now, DiagnosticKind::WithoutAnalog { stage });
             return Shown { run: next, display };
         }
-        let next = stages::note(
-            run,
-            log,
-            time,
-            DiagnosticKind::WithoutClock {
-                stage: Stage::Display,
-            },
-        );
+        let next = stages::note(run, log, state.now, DiagnosticKind::WithoutClock { stage });
         return Shown { run: next, display };
     }
     Shown { run, display }
@@ -258,18 +231,16 @@ fn run_stages(
         config,
         otp,
     );
+    let wanted = control.display;
     let s = show(
         a,
-        state.display,
         luts,
         black_white,
         red,
         gates,
         log,
-        regs,
-        config,
-        state.now,
-        control.display,
+        state,
+        wanted,
         control.mode_two,
     );
     let b = analog_off(s.run, control.analog_off, timing.analog_off);

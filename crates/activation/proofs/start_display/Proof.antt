@@ -29,7 +29,7 @@ same-length-2 : tie.Need-same-length-2
 same-length-2 c = search needs
 
 returns : tie.Need-returns
-returns c = begins _ _ _ _ _ _ _ _ _ _ _ _ _ _ _ (c .before .before .before .before .before .before .before .before .before .before .before .scan-of .ensures) (c .before .before .before .before .before .before .before .before .before .warn .ensures) (c .before .before .before .before .before .before .duration-of .ensures) (c .before .before .before .before .start .ensures) (c .before .display-of .ensures) (c .wait .ensures)
+returns c = begins _ _ _ (c .before .before .before .before .before .before .before .before .before .before .before .before .before .before .before .before .before .before .before .before .before .before .before .args .state) _ _ _ _ _ _ _ _ _ (c .before .before .before .before .before .before .before .before .before .before .before .scan-of .ensures) (c .before .before .before .before .before .before .before .before .before .warn .ensures) (c .before .before .before .before .before .before .duration-of .ensures) (c .before .before .before .before .start .ensures) (c .before .display-of .ensures) (c .wait .ensures)
 
 pub start-display-spec : {M : Type 1} → statement M
 start-display-spec =
