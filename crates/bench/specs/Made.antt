@@ -1,7 +1,7 @@
 -- What the timed functions make of the numbers that they are handed, and what they hand back.
 use mathlib.Core.Bool.{Bool, true, false}
 use mathlib.Core.List.{List, [], _∷_}
-use Prim.Native.Nat.{ℕ, _/_, _%_}
+use Prim.Native.Nat.{ℕ, _/_}
 use lib.IntN.{ℤ}
 use Rattle.glass.specs.declared.Transfer.{Transfer}
 use Rattle.glass.specs.declared.RefreshKind.the-variants.{PowerOn, Full}

@@ -1,5 +1,5 @@
 -- A run of data bytes into a plane (datasheet §8.2–8.5).
-use mathlib.Core.List.{List, [], _∷_}
+use mathlib.Core.List.{List}
 use Prim.Native.Nat.{ℕ, zero, suc}
 use lib.ListN.{getD}
 use Rattle.ram.specs.declared.Counter.{Counter}

@@ -13,7 +13,6 @@ ghost use mathlib.Core.Path.{_≡_};
 ghost use lib.ListN.{length};
 ghost use Rattle.numbers.specs.Choice.{pick};
 ghost use Rattle.numbers.specs.Lists.{tab};
-ghost use Rattle.glass.specs.Greys.{grayZ};
 ghost use Rattle.ram.specs.Plane.{autoWritten};
 ghost use Rattle.scan.specs.Luts.{lutOf};
 ghost use Rattle.waveform.specs.declared.Drive.the-variants.{Lut};

@@ -4,6 +4,7 @@ use mathlib.Core.Bool.{Bool, true, false}
 use mathlib.Core.List.{List, [], _∷_, _++_, foldl}
 use Prim.Native.Nat.{ℕ}
 use lib.Dec.{eqb}
+use lib.IntN.{ℤ, pos}
 use borrow.Author.Tests.{eq-eqb, ne-eqb}
 use Rattle.numbers.specs.Choice.{pick}
 use Rattle.glass.specs.declared.Transfer.{Transfer}
@@ -13,14 +14,26 @@ use Rattle.waveform.specs.declared.Group.{Group}
 use Rattle.waveform.specs.declared.Phase.{Phase}
 use Rattle.waveform.specs.declared.Step.{Step}
 use Rattle.waveform.specs.Phases.{driven, joined}
-use Rattle.waveform.specs.Walks.{phaseIn, fourIn, stepOf, stepped, pushed, wholeStep}
+use Rattle.waveform.specs.Walks.{phaseIn, fourIn, saturatedDrive, stepOf, stepped, pushed, wholeStep}
 use Rattle.waveform.proofs.Joined.{fold-none, fold-more}
 
+abbrev whole : Driving → Phase → ℤ
+whole d p = saturatedDrive (d .«positive_drives_black») (p .millivolts) (p .frames) (p .«frame_ns»)
+
+-- the drive of a phase with frames, and of one without
+pub drive-none : (d : Driving) (p : Phase) → p .frames ≡ 0 → record { phase = p; drive = pos 0 } ≡ stepOf d p
+unfolding stepOf
+drive-none d p e = λ i. record { phase = p; drive = pick (sym (eq-eqb (p .frames) 0 e) i) (pos 0) (whole d p) }
+
+pub drive-some : (d : Driving) (p : Phase) → (p .frames ≡ 0 → ⊥) → record { phase = p; drive = whole d p } ≡ stepOf d p
+unfolding stepOf
+drive-some d p h = λ i. record { phase = p; drive = pick (sym (ne-eqb (p .frames) 0 h) i) (pos 0) (whole d p) }
+
 step-is : (d : Driving) (p : Phase) (t : Transfer) → stepped d (stepOf d p) t ≡ foldl (wholeStep d) t (driven p)
-unfolding stepped driven pushed
+unfolding stepped stepOf driven pushed
 step-is d p t = by (eqb (p .frames) 0)
   where
-    by : (b : Bool) → pick b t (thenT t (shiftT (stepOf d p .drive) (d .swing))) ≡ foldl (wholeStep d) t (pick b [] (p ∷ []))
+    by : (b : Bool) → pick b t (thenT t (shiftT (pick b (pos 0) (whole d p)) (d .swing))) ≡ foldl (wholeStep d) t (pick b [] (p ∷ []))
     by true = refl
     by false = refl
 
@@ -39,7 +52,7 @@ passed a b c e = ((driven (a .phase) ++ driven (b .phase)) ++ driven (c .phase))
 
 module _ (d : Driving) (g : Group) {a b c e : Step} (h₀ : a ≡ stepOf d (phaseIn d g 0)) (h₁ : b ≡ stepOf d (phaseIn d g 1)) (h₂ : c ≡ stepOf d (phaseIn d g 2)) (h₃ : e ≡ stepOf d (phaseIn d g 3)) where
   pub four-is : passed a b c e ≡ fourIn d g
-  unfolding joined
+  unfolding joined stepOf
   four-is = λ i. ((driven (h₀ i .phase) ++ driven (h₁ i .phase)) ++ driven (h₂ i .phase)) ++ driven (h₃ i .phase)
 
   pub pass-is : (t : Transfer) → stepped d e (stepped d c (stepped d b (stepped d a t))) ≡ foldl (wholeStep d) t (passed a b c e)

@@ -61,9 +61,13 @@ negatedIf false x = x
 unfoldable pub saturatedDrive : Bool → ℤ → ℕ → ℕ → ℤ
 saturatedDrive black millivolts frames period = negatedIf black (satZ (satZ (millivolts *ℤ satZ (pos frames)) *ℤ satZ (pos period)))
 
--- a phase with the drive of all its frames
-abbrev pub stepOf : Driving → Phase → Step
-stepOf d p = record { phase = p; drive = saturatedDrive (d .«positive_drives_black») (p .millivolts) (p .frames) (p .«frame_ns») }
+-- a phase with the drive of all its frames; where it has none the drive is left at 0
+unfoldable pub stepOf : Driving → Phase → Step
+stepOf d p =
+    record {
+      phase = p;
+      drive = pick (eqb (p .frames) 0) (pos 0) (saturatedDrive (d .«positive_drives_black») (p .millivolts) (p .frames) (p .«frame_ns»));
+    }
 
 -- a transfer, then such a phase; one of 0 frames is passed over
 unfoldable pub stepped : Driving → Step → Transfer → Transfer

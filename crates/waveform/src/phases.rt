@@ -60,6 +60,9 @@ pub(crate) fn step_of(driving: Driving, group: Group, at: usize) -> Step
     ensures { λ r. ⌜ r ≡ stepOf driving (phaseIn driving group at) ⌝ }
 {
     let phase = phase_of(driving, group, at);
+    if phase.frames == 0 {
+        return Step { phase, drive: 0 };
+    }
     let black = driving.positive_drives_black;
     let drive = drive_of(black, phase.millivolts, phase.frames, phase.frame_ns);
     Step { phase, drive }

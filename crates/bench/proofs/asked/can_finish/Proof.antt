@@ -5,7 +5,7 @@ use lib.Dec.{eqb}
 use lib.IntN.{ℤ}
 use Rattle.numbers.proofs.Lin.{back}
 use borrow.Author.Needs.{needs}
-use Rattle.bench.specs.Asked.{lasting, grayable, finishable}
+use Rattle.bench.specs.Asked.{grayable, finishable}
 use Rattle.bench.proofs.asked.can_finish.Statement.{statement}
 use Rattle.bench.proofs.asked.can_finish.Tie as tie
 

@@ -5,7 +5,7 @@ use Prim.Native.Nat.{ℕ, _≤_, _-_}
 use mathlib.Core.List.{List, foldl}
 use Rattle.waveform.specs.declared.Phase.{Phase}
 use Rattle.waveform.specs.Phases.{joined}
-use Rattle.waveform.specs.Walks.{fourIn, wholeStep}
+use Rattle.waveform.specs.Walks.{wholeStep}
 use Rattle.waveform.proofs.Joined.{fold-none, fold-more}
 use Rattle.waveform.proofs.Stepped.{passed, four-is, pass-is}
 use borrow.Author.Needs.{needs}
