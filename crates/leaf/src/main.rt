@@ -63,7 +63,7 @@ fn all(
     let mut line = question::fresh(0);
     let mut turns = u64::MAX;
     let mut more = true;
-    while (0 < turns) & more {
+    while 0 < turns && more {
         let input = chunk(line, name, numbers, text);
         line = input.line;
         more = !input.ended;

@@ -93,12 +93,16 @@ pub fn end(text: &mut [u8; ROOM], at: usize) {
     }
 }
 
-// Writes what is gathered, and answers the place to go on at.
-pub fn write(text: &[u8], at: usize) -> usize {
+fn put_out(text: &[u8], at: usize) -> usize {
     if at <= text.len() {
         io::write_all(STDOUT_FILENO, &text[0..at]);
     }
     0
+}
+
+// Writes what is gathered, and answers the place to go on at.
+pub fn write(text: &[u8; ROOM], at: usize) -> usize {
+    put_out(text, at)
 }
 
 // The same once there is enough.

@@ -47,7 +47,7 @@ fn gate(gates: &[u16], row: usize) -> u16 {
 }
 
 fn gate_of_row(text: &mut [u8; text::ROOM], at: usize, numbers: &[u64]) -> usize {
-    let mut gates = [0u16; ram::RAM_GATES as usize];
+    let mut gates = [0u16; config::RAM_GATES as usize];
     scan::gate_of_row(&mut gates, column(numbers));
     text::word(text, at, gate(&gates, take::word(numbers, 4) as usize))
 }
@@ -61,7 +61,7 @@ fn hash_of(gates: &[u16], height: usize) -> u64 {
 
 fn gates(text: &mut [u8; text::ROOM], at: usize, numbers: &[u64]) -> usize {
     let geometry = column(numbers);
-    let mut gates = [0u16; ram::RAM_GATES as usize];
+    let mut gates = [0u16; config::RAM_GATES as usize];
     scan::gate_of_row(&mut gates, geometry);
     text::number(text, at, hash_of(&gates, geometry.height as usize))
 }
@@ -108,7 +108,14 @@ fn started(
     let height = geometry.height as usize;
     if pixels <= luts.len() {
         if height <= gates.len() {
-            start(&mut luts[0..pixels], &gates[0..height], red, black_white, geometry, scan);
+            start(
+                &mut luts[0..pixels],
+                &gates[0..height],
+                red,
+                black_white,
+                geometry,
+                scan,
+            );
             return hash::of_bytes(&luts[0..pixels]);
         }
     }
@@ -119,7 +126,7 @@ fn started(
 fn filled(luts: &mut [u8], geometry: PanelGeometry, scan: Scan, seed: u32) -> u64 {
     let mut red = [0u8; ram::PLANE_BYTES];
     let mut black_white = [0u8; ram::PLANE_BYTES];
-    let mut gates = [0u16; ram::RAM_GATES as usize];
+    let mut gates = [0u16; config::RAM_GATES as usize];
     let pixels = area(geometry.height, geometry.width);
     planes::fill(&mut black_white, seed);
     planes::fill(&mut red, std::num::wrapping_add_u32(seed, 1));
@@ -198,7 +205,7 @@ fn applied(option: PlaneOption, bit: bool) -> u8 {
         gd: false,
     };
     let scan = Scan {
-        lines: ram::RAM_GATES,
+        lines: config::RAM_GATES,
         order,
         red: PlaneOption::Zero,
         black_white: option,

@@ -1,42 +1,36 @@
+-- `leaf::lines` is safe and ends.
+use Prim.Native.Nat.{_-_}
+use lib.ListN.{length}
+use borrow.Author.Needs.{needs}
 use Rattle.leaf.proofs.lines.Statement.{statement}
 use Rattle.leaf.proofs.lines.Tie as tie
-use Rattle.leaf.proofs.lines.Reads as reads
-use Rattle.leaf.proofs.lines.Lts as lts
-use Rattle.leaf.proofs.question.read.Reads as read-reads
 
 abbrev Inv-loop : tie.InvT-loop
-Inv-loop bytes name₀ numbers₀ text₀ read₀ i₀ name numbers text read i = ?
+Inv-loop bytes name₀ numbers₀ text₀ read₀ i₀ name numbers text read i = Unit {0}
 
 abbrev μ-loop : tie.MeasureT-loop
-μ-loop bytes name₀ numbers₀ text₀ read₀ i₀ name numbers text read i = ?
+μ-loop bytes name₀ numbers₀ text₀ read₀ i₀ name numbers text read i = length bytes - i
 
--- src/main.rt:35:5
 loop-holds : tie.Need-loop-holds Inv-loop μ-loop
-loop-holds c = ?
+loop-holds c = search needs
 
--- src/main.rt:36:37
 shared-slice-read-read : tie.Need-shared-slice-read-read Inv-loop μ-loop
-shared-slice-read-read c = ?
+shared-slice-read-read c = search needs
 
--- src/main.rt:36:9
 read-requires : tie.Need-read-requires Inv-loop μ-loop
-read-requires c κs = ?
+read-requires c κs = search needs
 
--- src/main.rt:37:9
 add-i : tie.Need-add-i Inv-loop μ-loop
-add-i c = ?
+add-i c = search needs
 
--- src/main.rt:35:5
 loop-less : tie.Need-loop-less Inv-loop μ-loop
-loop-less c = ?
+loop-less c = search needs
 
--- src/main.rt:35:5
 loop-again : tie.Need-loop-again Inv-loop μ-loop
-loop-again c = ?
+loop-again c = search needs
 
--- src/main.rt:26:1
 returns : tie.Need-returns Inv-loop μ-loop
-returns c = ?
+returns c = search needs
 
 pub lines-spec : {M : Type 1} → statement M
 lines-spec =

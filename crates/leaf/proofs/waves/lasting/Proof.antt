@@ -34,9 +34,7 @@ loop-less : tie.Need-loop-less Inv-loop μ-loop
 loop-less c = search needs
 
 loop-again : tie.Need-loop-again Inv-loop μ-loop
-loop-again c =
-    let turn = c .before .before in
-    (omega arith, below-more (λ (k : ℕ). 0 < getD (turn .before .args .periods) k 0) (turn .loop .i) (turn .loop .inv .1) (omega (arith, c .if1 .left)))
+loop-again c = (omega arith, below-more _ _ (c .before .before .loop .inv .1) (omega (arith, c .if1 .left)))
 
 returns-2 : tie.Need-returns-2 Inv-loop μ-loop
 returns-2 c = λ e code h. c .before .loop .inv .1 code (omega arith)
