@@ -1,6 +1,8 @@
 // The answer to a question, by its name.
+use crate::commands;
 use crate::configuration;
 use crate::planes;
+use crate::refreshes;
 use crate::registers;
 use crate::temperature;
 use crate::text;
@@ -33,7 +35,11 @@ fn small(text: &mut [u8; text::ROOM], at: usize, name: &[u8], numbers: &[u64]) -
     if transfers != at {
         return transfers;
     }
-    planes::answer(text, at, name, numbers)
+    let planes = planes::answer(text, at, name, numbers);
+    if planes != at {
+        return planes;
+    }
+    commands::answer(text, at, name, numbers)
 }
 
 fn large(text: &mut [u8; text::ROOM], at: usize, name: &[u8], numbers: &[u64]) -> usize {
@@ -45,7 +51,11 @@ fn large(text: &mut [u8; text::ROOM], at: usize, name: &[u8], numbers: &[u64]) -
     if configuration != at {
         return configuration;
     }
-    wiring::answer(text, at, name, numbers)
+    let wiring = wiring::answer(text, at, name, numbers);
+    if wiring != at {
+        return wiring;
+    }
+    refreshes::answer(text, at, name, numbers)
 }
 
 fn named(text: &mut [u8; text::ROOM], at: usize, name: &[u8], numbers: &[u64]) -> usize {

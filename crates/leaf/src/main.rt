@@ -3,10 +3,12 @@
 use libc::STDIN_FILENO;
 
 mod answer;
+mod commands;
 mod configuration;
 mod hash;
 mod planes;
 mod question;
+mod refreshes;
 mod registers;
 mod take;
 mod temperature;

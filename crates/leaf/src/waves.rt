@@ -86,7 +86,7 @@ fn frame_rate_code(text: &mut [u8; text::ROOM], at: usize, numbers: &[u64]) -> u
 }
 
 // Whether every frame lasts.
-fn lasting(periods: [u64; 16]) -> bool
+pub fn lasting(periods: [u64; 16]) -> bool
     ensures { λ r. ⌜ (r ≡ true → (code : ℕ) → code < 16 → 0 < getD periods code 0) ⌝ }
 {
     let mut i: usize = 0;

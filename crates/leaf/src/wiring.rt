@@ -66,7 +66,7 @@ fn gates(text: &mut [u8; text::ROOM], at: usize, numbers: &[u64]) -> usize {
     text::number(text, at, hash_of(&gates, geometry.height as usize))
 }
 
-fn area(height: u16, width: u16) -> usize
+pub fn area(height: u16, width: u16) -> usize
     ensures { λ r. ⌜ r ≡ height * width ⌝ }
 {
     height as usize * width as usize
@@ -123,7 +123,7 @@ fn started(
 }
 
 // The planes of a seed and the gates of the geometry, lent to `started`.
-fn filled(luts: &mut [u8], geometry: PanelGeometry, scan: Scan, seed: u32) -> u64 {
+pub fn filled(luts: &mut [u8], geometry: PanelGeometry, scan: Scan, seed: u32) -> u64 {
     let mut red = [0u8; ram::PLANE_BYTES];
     let mut black_white = [0u8; ram::PLANE_BYTES];
     let mut gates = [0u16; config::RAM_GATES as usize];
