@@ -13,6 +13,7 @@ mod line;
 mod listing;
 mod random;
 mod record;
+mod records;
 mod replay;
 mod settings;
 mod tally;
@@ -30,6 +31,7 @@ const USAGE: &str = "usage: oracle replay < events
        oracle listing < setting
        oracle listings < settings
        oracle settings SEED COUNT
+       oracle records
        oracle figures";
 
 impl crate::Judge for Ssd1677 {
@@ -61,6 +63,7 @@ impl crate::Judge for Ssd1677 {
                 (Ok(seed), Ok(count)) => listing::generate(seed, count, &mut out),
                 _ => return usage(),
             },
+            ["records"] => records::run(&mut out),
             ["figures"] => figures::run(&mut out),
             _ => return usage(),
         };
