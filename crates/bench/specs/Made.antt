@@ -60,6 +60,7 @@ pub record Shown : Type 0 where
   pub states : List ℤ
   pub pixels : List ℕ
 
+-- the three as one
 abbrev pub shown : ℤ → List ℤ → List ℕ → Shown
 shown border states pixels = record { border = border; states = states; pixels = pixels }
 

@@ -13,6 +13,7 @@ pub record Run : Type 0 where
   pub counter : Counter
   pub plane : List ℕ
 
+-- the two as one
 abbrev pub run : Counter → List ℕ → Run
 run counter plane = record { counter = counter; plane = plane }
 

@@ -8,7 +8,7 @@ use lib.ListN.{length, take, drop, replicate}
 use lib.Seq.{take-length, drop-length, drop-drop}
 
 -- src copied over a part as long as itself leaves src
-over : (src part ys : List ℕ) → length part ≡ length src → ys ≡ take (length src) src ++ drop (length src) part → ys ≡ src
+pub over : (src part ys : List ℕ) → length part ≡ length src → ys ≡ take (length src) src ++ drop (length src) part → ys ≡ src
 over src part ys same e = e ∙ rw (take-length, ← same, drop-length, append-nil)
 
 -- the part from a to a + n of xs is src, where it was lent and came back as ys

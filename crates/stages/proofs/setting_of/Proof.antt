@@ -2,7 +2,7 @@
 use lib.ListN.{take, drop, length-drop, length-take, replicate}
 use native.Mathlib.Omega.{arith}
 use denote.Ref.{now}
-use Rattle.stages.proofs.Over.{over}
+use Rattle.diagnostic.proofs.Over.{over}
 use borrow.Author.Needs.{needs}
 use Rattle.stages.proofs.setting_of.Statement.{statement}
 use Rattle.stages.proofs.setting_of.Tie as tie
