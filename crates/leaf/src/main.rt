@@ -1,5 +1,5 @@
 // Answers the questions of oracle/README.md with the proved functions: a question a line on standard input, an answer a line on
-// standard output.
+// standard output. It knows a bad question by its name and the count of its numbers, and takes their sizes more freely than the oracle.
 use libc::STDIN_FILENO;
 
 mod answer;

@@ -1,5 +1,4 @@
 -- `leaf::refreshes::once` is safe: the tests give what `finish` asks.
-use lib.ListN.{length}
 use borrow.Author.Needs.{needs}
 use mathlib.Core.Path.{subst}
 use lib.IntN.{ℤ, pos}
