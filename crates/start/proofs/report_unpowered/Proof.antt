@@ -1,8 +1,8 @@
--- `reset::start::report_unpowered` meets its contract.
-use Rattle.reset.proofs.Cases.{has-power, lacks-analog, lacks-clock}
+-- `start::report_unpowered` meets its contract.
+use Rattle.start.proofs.Cases.{has-power, lacks-analog, lacks-clock}
 use borrow.Author.Needs.{needs}
-use Rattle.reset.proofs.start.report_unpowered.Statement.{statement}
-use Rattle.reset.proofs.start.report_unpowered.Tie as tie
+use Rattle.start.proofs.report_unpowered.Statement.{statement}
+use Rattle.start.proofs.report_unpowered.Tie as tie
 
 returns : tie.Need-returns
 returns c = has-power _ _ (c .before .if1 .taken) (c .if2 .taken)

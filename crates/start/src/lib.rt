@@ -3,7 +3,7 @@ ghost use mathlib.Core.Path.{_≡_};
 ghost use Prim.Native.Nat.{_%_};
 ghost use lib.ListN.{length};
 ghost use Rattle.chip.specs.Close.{withLog};
-ghost use Rattle.reset.specs.Start.{softReset, isPowered, unpowered, vcomSensed, pointed};
+ghost use Rattle.start.specs.Start.{softReset, isPowered, unpowered, vcomSensed, pointed};
 use device::Ssd1677;
 use device::part;
 use diagnostic::DiagnosticKind;
@@ -16,7 +16,7 @@ const SECOND: u64 = 1000000000;
 pub fn soft_reset(state: Ssd1677) -> Ssd1677
     ensures { λ r. ⌜ r ≡ softReset state ⌝ }
 {
-    let restored = crate::restore_registers(state);
+    let restored = reset::restore_registers(state);
     let config = restored.config;
     let timing = config.timing;
     let bus = chip::busy_for(restored.bus, restored.now, timing.soft_reset);
@@ -39,9 +39,9 @@ pub fn report_unpowered(state: Ssd1677, log: &mut [u8], stage: Stage) -> Ssd1677
         if state.analog {
             return state;
         }
-        return crate::report(state, log, DiagnosticKind::WithoutAnalog { stage });
+        return chip::report(state, log, DiagnosticKind::WithoutAnalog { stage });
     }
-    crate::report(state, log, DiagnosticKind::WithoutClock { stage })
+    chip::report(state, log, DiagnosticKind::WithoutClock { stage })
 }
 
 fn low_nibble(byte: u8) -> u8
@@ -76,7 +76,7 @@ pub fn point(state: Ssd1677, log: &mut [u8], command: u8) -> Ssd1677
     if at.within(window) {
         return state;
     }
-    crate::report(
+    chip::report(
         state,
         log,
         DiagnosticKind::CounterOutsideWindow {

@@ -10,7 +10,8 @@ use Rattle.device.specs.declared.Ssd1677.{Ssd1677}
 use Rattle.device.specs.Parts.{withBus}
 use Rattle.chip.specs.Moments.{busyFor}
 use Rattle.chip.specs.Close.{WithLog, withLog}
-use Rattle.reset.specs.Reset.{logged, restored}
+use Rattle.chip.specs.Report.{logged}
+use Rattle.reset.specs.Reset.{restored}
 
 -- BUSY high for a span from the clock on
 abbrev pub withBusyFor : Ssd1677 → ℕ → Ssd1677

@@ -1,9 +1,9 @@
--- `reset::start::sense_vcom` meets its contract.
-use Rattle.reset.proofs.Cases.{senses, senses-not}
+-- `start::sense_vcom` meets its contract.
+use Rattle.start.proofs.Cases.{senses, senses-not}
 use native.Mathlib.Omega.{arith}
 use borrow.Author.Needs.{needs}
-use Rattle.reset.proofs.start.sense_vcom.Statement.{statement}
-use Rattle.reset.proofs.start.sense_vcom.Tie as tie
+use Rattle.start.proofs.sense_vcom.Statement.{statement}
+use Rattle.start.proofs.sense_vcom.Tie as tie
 
 powered-requires : tie.Need-powered-requires
 powered-requires c κs = search needs

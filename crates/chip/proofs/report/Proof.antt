@@ -1,8 +1,8 @@
--- `reset::report` meets its contract.
-use Rattle.reset.proofs.Cases.{logs}
+-- `chip::report` meets its contract.
+use Rattle.chip.proofs.Cases.{logs}
 use borrow.Author.Needs.{needs}
-use Rattle.reset.proofs.report.Statement.{statement}
-use Rattle.reset.proofs.report.Tie as tie
+use Rattle.chip.proofs.report.Statement.{statement}
+use Rattle.chip.proofs.report.Tie as tie
 
 report-requires : tie.Need-report-requires
 report-requires c κs = search needs

@@ -1,8 +1,8 @@
--- `reset::start::soft_reset` meets its contract.
-use Rattle.reset.proofs.Cases.{resets}
+-- `start::soft_reset` meets its contract.
+use Rattle.start.proofs.Cases.{resets}
 use borrow.Author.Needs.{needs}
-use Rattle.reset.proofs.start.soft_reset.Statement.{statement}
-use Rattle.reset.proofs.start.soft_reset.Tie as tie
+use Rattle.start.proofs.soft_reset.Statement.{statement}
+use Rattle.start.proofs.soft_reset.Tie as tie
 
 restore-registers-requires : tie.Need-restore-registers-requires
 restore-registers-requires c κs = search needs

@@ -1,8 +1,8 @@
--- `reset::start::point` meets its contract.
-use Rattle.reset.proofs.Cases.{points, points-not}
+-- `start::point` meets its contract.
+use Rattle.start.proofs.Cases.{points, points-not}
 use borrow.Author.Needs.{needs}
-use Rattle.reset.proofs.start.point.Statement.{statement}
-use Rattle.reset.proofs.start.point.Tie as tie
+use Rattle.start.proofs.point.Statement.{statement}
+use Rattle.start.proofs.point.Tie as tie
 
 within-requires : tie.Need-within-requires
 within-requires c κs = search needs
