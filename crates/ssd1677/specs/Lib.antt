@@ -1,0 +1,2 @@
+-- The root of ssd1677's specs.
+pub mod Calls
