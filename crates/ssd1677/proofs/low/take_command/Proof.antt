@@ -1,10 +1,10 @@
--- `ssd1677::take_command` meets its contract.
+-- `ssd1677::low::take_command` meets its contract.
 use mathlib.Core.Path.{_∙_}
 use Rattle.activation.specs.Activation.{withBuffers, lent}
 use Rattle.ssd1677.proofs.Bytes.{still-activatable, takes}
 use borrow.Author.Needs.{needs}
-use Rattle.ssd1677.proofs.take_command.Statement.{statement}
-use Rattle.ssd1677.proofs.take_command.Tie as tie
+use Rattle.ssd1677.proofs.low.take_command.Statement.{statement}
+use Rattle.ssd1677.proofs.low.take_command.Tie as tie
 
 advance-requires : tie.Need-advance-requires
 advance-requires c κs = search needs

@@ -1,9 +1,9 @@
--- `ssd1677::set_reset` meets its contract.
+-- `ssd1677::line::set_reset` meets its contract.
 use Rattle.reset.specs.Reset.{withGlassLog}
 use Rattle.ssd1677.proofs.Moves.{line-ready, line-log, line-ready-then, line-moves, line-refused}
 use borrow.Author.Needs.{needs}
-use Rattle.ssd1677.proofs.set_reset.Statement.{statement}
-use Rattle.ssd1677.proofs.set_reset.Tie as tie
+use Rattle.ssd1677.proofs.line.set_reset.Statement.{statement}
+use Rattle.ssd1677.proofs.line.set_reset.Tie as tie
 
 glass-log-lent-requires : tie.Need-glass-log-lent-requires
 glass-log-lent-requires c κs = search needs

@@ -1,9 +1,9 @@
--- `ssd1677::write_data` meets its contract.
+-- `ssd1677::high::write_data` meets its contract.
 use Rattle.ssd1677.specs.Data.{withPlanes}
 use Rattle.ssd1677.proofs.Bytes.{data-ready, data-log, data-moves, data-refused}
 use borrow.Author.Needs.{needs}
-use Rattle.ssd1677.proofs.write_data.Statement.{statement}
-use Rattle.ssd1677.proofs.write_data.Tie as tie
+use Rattle.ssd1677.proofs.high.write_data.Statement.{statement}
+use Rattle.ssd1677.proofs.high.write_data.Tie as tie
 
 planes-log-lent-requires : tie.Need-planes-log-lent-requires
 planes-log-lent-requires c κs = search needs

@@ -1,9 +1,9 @@
--- `ssd1677::advance` meets its contract.
+-- `ssd1677::moment::advance` meets its contract.
 use Rattle.chip.specs.Advance.{withGlass}
 use Rattle.ssd1677.proofs.Moves.{clock-ready, clock-moves, clock-refused}
 use borrow.Author.Needs.{needs}
-use Rattle.ssd1677.proofs.advance.Statement.{statement}
-use Rattle.ssd1677.proofs.advance.Tie as tie
+use Rattle.ssd1677.proofs.moment.advance.Statement.{statement}
+use Rattle.ssd1677.proofs.moment.advance.Tie as tie
 
 glass-lent-requires : tie.Need-glass-lent-requires
 glass-lent-requires c κs = search needs

@@ -1,9 +1,9 @@
--- `ssd1677::write_command` meets its contract.
+-- `ssd1677::low::write_command` meets its contract.
 use Rattle.activation.specs.Activation.{withBuffers, lent}
 use Rattle.ssd1677.proofs.Bytes.{command-activatable, command-moves, command-refused}
 use borrow.Author.Needs.{needs}
-use Rattle.ssd1677.proofs.write_command.Statement.{statement}
-use Rattle.ssd1677.proofs.write_command.Tie as tie
+use Rattle.ssd1677.proofs.low.write_command.Statement.{statement}
+use Rattle.ssd1677.proofs.low.write_command.Tie as tie
 
 all-lent-requires : tie.Need-all-lent-requires
 all-lent-requires c κs = search needs
