@@ -1,15 +1,17 @@
 -- What each return of the code hands over, over plain variables. Assumes nothing.
 use Prim.Native.Nat.{ℕ, _≤_, _<_}
-use mathlib.Core.Path.{_≡_, refl, sym, subst}
+use mathlib.Core.Path.{_≡_, refl, sym, subst, _∙_}
 use mathlib.Core.Bool.{Bool, true, false}
 use mathlib.Core.List.{List}
+use lib.Dec.{eqb}
 use lib.Seq.{set-out}
-use borrow.Author.Tests.{lt-ltb, le-ltb, eq-eqb, ne-eqb, ltb-false}
+use borrow.Author.Tests.{lt-ltb, le-ltb, ltb-false}
 use Rattle.numbers.specs.Choice.{pick}
 use Rattle.ram.specs.declared.Counter.{Counter}
 use Rattle.ram.specs.declared.Place.{Place}
 use Rattle.ram.specs.declared.Place.the-variants.{At, Outside}
-use Rattle.ram.specs.Plane.{indexOf, isThere, putAt, wroteAt, writtenAt}
+use Rattle.ram.specs.declared.Plane.the-variants.{BlackWhite, Red}
+use Rattle.ram.specs.Plane.{planeOf, indexOf, isThere, putAt, wroteAt, writtenAt}
 use Rattle.ram.specs.Counter.{advancedOf}
 use Rattle.diagnostic.specs.declared.DiagnosticKind.the-variants.{DataWithoutCommand, ExtraData, RamOutOfRange}
 use Rattle.device.specs.declared.Active.{Active}
@@ -28,7 +30,7 @@ use Rattle.chip.specs.Close.{WithLog, withLog}
 use Rattle.chip.specs.Report.{logged}
 use Rattle.parameter.specs.Ram.{WithRam, withRam, onDevice}
 use Rattle.parameter.specs.Parameter.{parameterTaken}
-use Rattle.data.specs.Data.{counted, made, going, surplus, upTo, stepped, outOfRange, ramWritten, byKind, unasked, dataTaken}
+use Rattle.data.specs.Data.{counted, made, going, surplus, upTo, planeFor, put, stepped, outOfRange, ramWritten, byKind, unasked, dataTaken}
 
 pub goes-on : (d r : Ssd1677) (a b : Active) (bus : Bus) → b ≡ a → bus ≡ withCurrent (d .bus) (current.Active b) → r ≡ withBus d bus
     → r ≡ made (current.Active a) d
@@ -91,36 +93,37 @@ untouched p c byte h = by (indexOf c) h
     by (At i) h = set-out p i byte (ltb-false i _ h)
     by Outside h = refl
 
-module _ (byte : ℕ) (a : Active) (w : WithRam) (wrote : Bool) (plane : List ℕ) where
-  module _ (is : a .command ≡ 0x24) (found : wrote ≡ wroteAt (w .blackWhite) (w .device .regs .counter))
-      (put : plane ≡ writtenAt (w .blackWhite) (w .device .regs .counter) byte) where
-    pub puts-black-white : (r : Ssd1677) → wrote ≡ true → r ≡ made (current.Active (counted a (a .«extra_reported») (a .«range_reported»))) (stepped (w .device))
-        → withRam r plane (w .red) (w .log) ≡ ramWritten byte a w
-    unfolding ramWritten
-    puts-black-white r h e = rw (eq-eqb (a .command) 0x24 is, ← found, h, e, put)
+-- a byte at the counter of the plane that the command writes
+module _ (byte : ℕ) (a : Active) (w : WithRam) (wrote : Bool) (b d : List ℕ)
+    (found : wrote ≡ wroteAt (planeOf (w .blackWhite) (w .red) (planeFor (a .command))) (w .device .regs .counter))
+    (black-white : b ≡ pick (eqb (a .command) 0x24) (writtenAt (w .blackWhite) (w .device .regs .counter) byte) (w .blackWhite))
+    (red : d ≡ pick (eqb (a .command) 0x24) (w .red) (writtenAt (w .red) (w .device .regs .counter) byte)) where
+  pub puts : (c : Counter) (n : Active) (bus : Bus) (r : Ssd1677) → wrote ≡ true
+      → c ≡ advancedOf (w .device .regs .counter) (w .device .regs .window) (w .device .regs .entry)
+      → n ≡ counted a (a .«extra_reported») (a .«range_reported») → bus ≡ withCurrent (w .device .bus) (current.Active n)
+      → r ≡ withPointed (w .device) c bus → withRam r b d (w .log) ≡ ramWritten byte a w
+  unfolding ramWritten
+  puts c n bus r h e₁ e₂ e₃ e₄ = rw (← found, h) (by (eqb (a .command) 0x24) black-white red)
+    where
+      by : (t : Bool) → b ≡ pick t (writtenAt (w .blackWhite) (w .device .regs .counter) byte) (w .blackWhite)
+          → d ≡ pick t (w .red) (writtenAt (w .red) (w .device .regs .counter) byte)
+          → withRam r b d (w .log) ≡ going a (a .«extra_reported») (a .«range_reported») (onDevice stepped (put (pick t BlackWhite Red) byte w))
+      by true p q = rw (e₄, e₃, e₂, e₁, p, q)
+      by false p q = rw (e₄, e₃, e₂, e₁, p, q)
 
-    pub misses-black-white : (r : Ssd1677) (l : List ℕ) → wrote ≡ false
-        → withRam r plane (w .red) l ≡ going a (a .«extra_reported») true (onDevice stepped (outOfRange a (withRam (w .device) plane (w .red) (w .log))))
-        → withRam r plane (w .red) l ≡ ramWritten byte a w
-    unfolding ramWritten
-    misses-black-white r l h e =
-        let same : plane ≡ w .blackWhite = rw (put, untouched (w .blackWhite) (w .device .regs .counter) byte (rw (← found) h)) in
-        rw (eq-eqb (a .command) 0x24 is, ← found, h, e, same)
+  stays : wrote ≡ false → (b ≡ w .blackWhite) × (d ≡ w .red)
+  stays h = by (eqb (a .command) 0x24) (rw (← found) h) black-white red
+    where
+      by : (t : Bool) → wroteAt (planeOf (w .blackWhite) (w .red) (pick t BlackWhite Red)) (w .device .regs .counter) ≡ false
+          → b ≡ pick t (writtenAt (w .blackWhite) (w .device .regs .counter) byte) (w .blackWhite)
+          → d ≡ pick t (w .red) (writtenAt (w .red) (w .device .regs .counter) byte) → (b ≡ w .blackWhite) × (d ≡ w .red)
+      by true m p q = (p ∙ untouched (w .blackWhite) (w .device .regs .counter) byte m, q)
+      by false m p q = (p, q ∙ untouched (w .red) (w .device .regs .counter) byte m)
 
-  module _ (is : a .command ≡ 0x24 → ⊥) (found : wrote ≡ wroteAt (w .red) (w .device .regs .counter))
-      (put : plane ≡ writtenAt (w .red) (w .device .regs .counter) byte) where
-    pub puts-red : (r : Ssd1677) → wrote ≡ true → r ≡ made (current.Active (counted a (a .«extra_reported») (a .«range_reported»))) (stepped (w .device))
-        → withRam r (w .blackWhite) plane (w .log) ≡ ramWritten byte a w
-    unfolding ramWritten
-    puts-red r h e = rw (ne-eqb (a .command) 0x24 is, ← found, h, e, put)
-
-    pub misses-red : (r : Ssd1677) (l : List ℕ) → wrote ≡ false
-        → withRam r (w .blackWhite) plane l ≡ going a (a .«extra_reported») true (onDevice stepped (outOfRange a (withRam (w .device) (w .blackWhite) plane (w .log))))
-        → withRam r (w .blackWhite) plane l ≡ ramWritten byte a w
-    unfolding ramWritten
-    misses-red r l h e =
-        let same : plane ≡ w .red = rw (put, untouched (w .red) (w .device .regs .counter) byte (rw (← found) h)) in
-        rw (ne-eqb (a .command) 0x24 is, ← found, h, e, same)
+  pub misses : (z : WithRam) → wrote ≡ false
+      → z ≡ going a (a .«extra_reported») true (onDevice stepped (outOfRange a (withRam (w .device) b d (w .log)))) → z ≡ ramWritten byte a w
+  unfolding ramWritten
+  misses z h e = let s = stays h in rw (← found, h) (e ∙ rw (s .0, s .1))
 
 module _ (byte : ℕ) (w : WithRam) (p : Power) where
   pub reports-unasked : (k : WithLog) → p ≡ Running → k ≡ logged (DataWithoutCommand byte) (withLog (w .device) (w .log))

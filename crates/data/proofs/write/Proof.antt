@@ -1,5 +1,5 @@
 -- `data::write` meets its contract: by what is current, and by the kind of its command.
-use Rattle.data.proofs.Cases.{is-unasked, is-ignored, is-read, is-unsupported, is-reserved, is-stream, is-exact, is-between}
+use Rattle.data.proofs.Cases.{puts, misses, is-unasked, is-ignored, is-read, is-unsupported, is-reserved, is-stream, is-exact, is-between}
 use Rattle.parameter.specs.Ram.{WithRam, withRam}
 use borrow.Author.Needs.{needs}
 use Rattle.data.proofs.write.Statement.{statement}
@@ -18,8 +18,32 @@ enum-known-kind c = search needs
 enum-told : tie.Need-enum-told
 enum-told c = search needs
 
-write-ram-requires : tie.Need-write-ram-requires
-write-ram-requires c κs = search needs
+put-requires : tie.Need-put-requires
+put-requires c κs = search needs
+
+advanced-requires : tie.Need-advanced-requires
+advanced-requires c κs = search needs
+
+count-requires : tie.Need-count-requires
+count-requires c κs = search needs
+
+set-current-requires : tie.Need-set-current-requires
+set-current-requires c κs = search needs
+
+set-pointed-requires : tie.Need-set-pointed-requires
+set-pointed-requires c κs = search needs
+
+same-length : tie.Need-same-length
+same-length c = c .before .before .before .before .before .before .before .before .before .before .before .put .kept .0
+
+same-length-2 : tie.Need-same-length-2
+same-length-2 c = search needs
+
+returns : tie.Need-returns
+returns c = let s = c .before .before .before .before .before .before .before .before .before .before .before .before .before .before .before .before .before .before .before .before .before .before .before .before .before .before .before in is-stream (s .args .byte) (given s) _ _ _ (c .before .before .before .before .before .before .before .before .before .before .before .before .before .before .before .before .before .before .before .before .before .current .given .1) _ (c .before .before .before .before .before .before .before .before .before .before .before .before .before .before .before .before .before .before .kind .given .1) (c .before .before .before .before .before .before .before .before .before .before .before .before .before .before .before .enum-told .given .1) (puts (s .args .byte) _ (given s) _ _ _ (c .before .before .before .before .before .before .before .before .before .before .before .put .ensures .0) (c .before .before .before .before .before .before .before .before .before .before .before .put .ensures .1 .0) (c .before .before .before .before .before .before .before .before .before .before .before .put .ensures .1 .1) _ _ _ _ (c .before .before .before .before .before .before .if1 .taken) (c .before .before .before .advanced .ensures) (c .before .before .count .ensures) (c .before .set-current .ensures) (c .set-pointed .ensures))
+
+step-outside-requires : tie.Need-step-outside-requires
+step-outside-requires c κs = search needs
 
 enum-known-params : tie.Need-enum-known-params
 enum-known-params c = search needs
@@ -60,17 +84,8 @@ take-unasked-requires c κs = search needs
 enum-told-6 : tie.Need-enum-told-6
 enum-told-6 c = search needs
 
-same-length : tie.Need-same-length
-same-length c = search needs
-
-same-length-2 : tie.Need-same-length-2
-same-length-2 c = search needs
-
 same-length-3 : tie.Need-same-length-3
 same-length-3 c = search needs
-
-returns : tie.Need-returns
-returns c = let s = c .before .before .before .before .before .before .before .before .before .before .before .before .before .before .before .before .before .before .before .before .before .before in is-stream (s .args .byte) (given s) _ _ _ (c .before .before .before .before .before .before .before .before .before .before .before .before .before .before .before .before .current .given .1) _ (c .before .before .before .before .before .before .before .before .before .before .before .before .before .kind .given .1) (c .before .before .before .before .before .before .before .before .before .before .enum-told .given .1) (c .before .before .before .before .before .before .write-ram .ensures)
 
 same-length-4 : tie.Need-same-length-4
 same-length-4 c = search needs
@@ -78,11 +93,11 @@ same-length-4 c = search needs
 same-length-5 : tie.Need-same-length-5
 same-length-5 c = search needs
 
+returns-2 : tie.Need-returns-2
+returns-2 c = let s = c .before .before .before .before .before .before .before .before .before .before .before .before .before .before .before .before .before .before .before .before .before .before .before .before .before in is-stream (s .args .byte) (given s) _ _ _ (c .before .before .before .before .before .before .before .before .before .before .before .before .before .before .before .before .before .before .before .current .given .1) _ (c .before .before .before .before .before .before .before .before .before .before .before .before .before .before .before .before .kind .given .1) (c .before .before .before .before .before .before .before .before .before .before .before .before .before .enum-told .given .1) (misses (s .args .byte) _ (given s) _ _ _ (c .before .before .before .before .before .before .before .before .before .put .ensures .0) (c .before .before .before .before .before .before .before .before .before .put .ensures .1 .0) (c .before .before .before .before .before .before .before .before .before .put .ensures .1 .1) _ (c .before .before .before .before .if1 .left) (c .before .before .step-outside .ensures _ _))
+
 same-length-6 : tie.Need-same-length-6
 same-length-6 c = search needs
-
-returns-2 : tie.Need-returns-2
-returns-2 c = let s = c .before .before .before .before .before .before .before .before .before .before .before .before .before .before .before .before .before .before .before .before .before .before .before in is-exact (s .args .byte) (given s) _ _ _ (c .before .before .before .before .before .before .before .before .before .before .before .before .before .before .before .before .before .current .given .1) _ (c .before .before .before .before .before .before .before .before .before .before .before .before .before .before .kind .given .1) _ (c .before .before .before .before .before .before .before .before .before .before .before .params .given .1) (c .before .before .before .before .before .before .up-to .ensures)
 
 same-length-7 : tie.Need-same-length-7
 same-length-7 c = search needs
@@ -90,38 +105,47 @@ same-length-7 c = search needs
 same-length-8 : tie.Need-same-length-8
 same-length-8 c = search needs
 
+returns-3 : tie.Need-returns-3
+returns-3 c = let s = c .before .before .before .before .before .before .before .before .before .before .before .before .before .before .before .before .before .before .before .before .before .before .before in is-exact (s .args .byte) (given s) _ _ _ (c .before .before .before .before .before .before .before .before .before .before .before .before .before .before .before .before .before .current .given .1) _ (c .before .before .before .before .before .before .before .before .before .before .before .before .before .before .kind .given .1) _ (c .before .before .before .before .before .before .before .before .before .before .before .params .given .1) (c .before .before .before .before .before .before .up-to .ensures)
+
 same-length-9 : tie.Need-same-length-9
 same-length-9 c = search needs
-
-returns-3 : tie.Need-returns-3
-returns-3 c = let s = c .before .before .before .before .before .before .before .before .before .before .before .before .before .before .before .before .before .before .before .before .before .before .before in is-between (s .args .byte) (given s) _ _ _ (c .before .before .before .before .before .before .before .before .before .before .before .before .before .before .before .before .before .current .given .1) _ (c .before .before .before .before .before .before .before .before .before .before .before .before .before .before .kind .given .1) _ _ (c .before .before .before .before .before .before .before .before .before .before .before .params2 .given .1) (c .before .before .before .before .before .before .up-to2 .ensures)
 
 same-length-10 : tie.Need-same-length-10
 same-length-10 c = search needs
 
-returns-4 : tie.Need-returns-4
-returns-4 c = let s = c .before .before .before .before .before .before .before .before .before .before .before .before .before in is-read (s .args .byte) (given s) _ _ _ (c .before .before .before .before .before .before .before .current .given .1) (c .before .before .before .before .enum-told2 .given .1) (c .before .before .take-surplus .ensures (s .args .black-white .now) (s .args .red .now))
-
 same-length-11 : tie.Need-same-length-11
 same-length-11 c = search needs
 
-returns-5 : tie.Need-returns-5
-returns-5 c = let s = c .before .before .before .before .before .before .before .before .before .before .before .before .before in is-unsupported (s .args .byte) (given s) _ _ _ (c .before .before .before .before .before .before .before .current .given .1) (c .before .before .before .before .enum-told3 .given .1) (c .before .before .take-surplus2 .ensures (s .args .black-white .now) (s .args .red .now))
+returns-4 : tie.Need-returns-4
+returns-4 c = let s = c .before .before .before .before .before .before .before .before .before .before .before .before .before .before .before .before .before .before .before .before .before .before .before in is-between (s .args .byte) (given s) _ _ _ (c .before .before .before .before .before .before .before .before .before .before .before .before .before .before .before .before .before .current .given .1) _ (c .before .before .before .before .before .before .before .before .before .before .before .before .before .before .kind .given .1) _ _ (c .before .before .before .before .before .before .before .before .before .before .before .params2 .given .1) (c .before .before .before .before .before .before .up-to2 .ensures)
 
 same-length-12 : tie.Need-same-length-12
 same-length-12 c = search needs
 
-returns-6 : tie.Need-returns-6
-returns-6 c = let s = c .before .before .before .before .before .before .before .before .before .before .before .before .before in is-reserved (s .args .byte) (given s) _ _ _ (c .before .before .before .before .before .before .before .current .given .1) (c .before .before .before .before .enum-told4 .given .1) (c .before .before .take-surplus3 .ensures (s .args .black-white .now) (s .args .red .now))
+returns-5 : tie.Need-returns-5
+returns-5 c = let s = c .before .before .before .before .before .before .before .before .before .before .before .before .before in is-read (s .args .byte) (given s) _ _ _ (c .before .before .before .before .before .before .before .current .given .1) (c .before .before .before .before .enum-told2 .given .1) (c .before .before .take-surplus .ensures (s .args .black-white .now) (s .args .red .now))
 
 same-length-13 : tie.Need-same-length-13
 same-length-13 c = search needs
 
+returns-6 : tie.Need-returns-6
+returns-6 c = let s = c .before .before .before .before .before .before .before .before .before .before .before .before .before in is-unsupported (s .args .byte) (given s) _ _ _ (c .before .before .before .before .before .before .before .current .given .1) (c .before .before .before .before .enum-told3 .given .1) (c .before .before .take-surplus2 .ensures (s .args .black-white .now) (s .args .red .now))
+
+same-length-14 : tie.Need-same-length-14
+same-length-14 c = search needs
+
 returns-7 : tie.Need-returns-7
-returns-7 c = let s = c .before .before .before .before .before .before .before .before .before .before in is-unasked (s .args .byte) (given s) _ _ (c .before .before .before .before .enum-told5 .given .1) (c .before .before .take-unasked .ensures (s .args .black-white .now) (s .args .red .now))
+returns-7 c = let s = c .before .before .before .before .before .before .before .before .before .before .before .before .before in is-reserved (s .args .byte) (given s) _ _ _ (c .before .before .before .before .before .before .before .current .given .1) (c .before .before .before .before .enum-told4 .given .1) (c .before .before .take-surplus3 .ensures (s .args .black-white .now) (s .args .red .now))
+
+same-length-15 : tie.Need-same-length-15
+same-length-15 c = search needs
 
 returns-8 : tie.Need-returns-8
-returns-8 c = let s = c .before .before .before .before .before .before in is-ignored (s .args .byte) (given s) (given s) _ (c .enum-told6 .given .1)
+returns-8 c = let s = c .before .before .before .before .before .before .before .before .before .before in is-unasked (s .args .byte) (given s) _ _ (c .before .before .before .before .enum-told5 .given .1) (c .before .before .take-unasked .ensures (s .args .black-white .now) (s .args .red .now))
+
+returns-9 : tie.Need-returns-9
+returns-9 c = let s = c .before .before .before .before .before .before in is-ignored (s .args .byte) (given s) (given s) _ (c .enum-told6 .given .1)
 
 pub write-spec : {M : Type 1} → statement M
 write-spec =
@@ -130,7 +154,15 @@ write-spec =
     enum-known-current
     enum-known-kind
     enum-told
-    write-ram-requires
+    put-requires
+    advanced-requires
+    count-requires
+    set-current-requires
+    set-pointed-requires
+    same-length
+    same-length-2
+    returns
+    step-outside-requires
     enum-known-params
     up-to-requires
     enum-known-params-2
@@ -144,24 +176,24 @@ write-spec =
     enum-told-5
     take-unasked-requires
     enum-told-6
-    same-length
-    same-length-2
     same-length-3
-    returns
     same-length-4
     same-length-5
-    same-length-6
     returns-2
+    same-length-6
     same-length-7
     same-length-8
-    same-length-9
     returns-3
+    same-length-9
     same-length-10
-    returns-4
     same-length-11
-    returns-5
+    returns-4
     same-length-12
-    returns-6
+    returns-5
     same-length-13
+    returns-6
+    same-length-14
     returns-7
-    returns-8)
+    same-length-15
+    returns-8
+    returns-9)
