@@ -28,7 +28,7 @@ use Rattle.device.specs.declared.Ssd1677.{Ssd1677}
 use Rattle.device.specs.Parts.{withBus, withCurrent, withPointed}
 use Rattle.chip.specs.Close.{WithLog, withLog}
 use Rattle.chip.specs.Report.{logged}
-use Rattle.parameter.specs.Ram.{WithRam, withRam, onDevice}
+use Rattle.acts.specs.Ram.{WithRam, withRam, onDevice}
 use Rattle.parameter.specs.Parameter.{parameterTaken}
 use Rattle.data.specs.Data.{counted, made, going, surplus, upTo, planeFor, put, stepped, outOfRange, ramWritten, byKind, unasked, dataTaken}
 

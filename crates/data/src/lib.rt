@@ -11,7 +11,7 @@ ghost use Rattle.ram.specs.Plane.{planeOf, wroteAt, writtenAt};
 ghost use Rattle.diagnostic.specs.declared.DiagnosticKind.the-variants.{ExtraData};
 ghost use Rattle.chip.specs.Close.{withLog};
 ghost use Rattle.chip.specs.Report.{logged};
-ghost use Rattle.parameter.specs.Ram.{withRam, onDevice};
+ghost use Rattle.acts.specs.Ram.{withRam, onDevice};
 ghost use Rattle.data.specs.Data.{counted, made, going, surplus, upTo, stepped, outOfRange, planeFor, unasked, dataTaken};
 use device::Active;
 use device::Current;

@@ -1,6 +1,6 @@
 -- `data::write` meets its contract: by what is current, and by the kind of its command.
 use Rattle.data.proofs.Cases.{puts, misses, is-unasked, is-ignored, is-read, is-unsupported, is-reserved, is-stream, is-exact, is-between}
-use Rattle.parameter.specs.Ram.{WithRam, withRam}
+use Rattle.acts.specs.Ram.{WithRam, withRam}
 use borrow.Author.Needs.{needs}
 use Rattle.data.proofs.write.Statement.{statement}
 use Rattle.data.proofs.write.Tie as tie
