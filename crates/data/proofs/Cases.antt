@@ -1,6 +1,6 @@
 -- What each return of the code hands over, over plain variables. Assumes nothing.
-use Prim.Native.Nat.{ℕ, _≤_, _<_}
-use mathlib.Core.Path.{_≡_, refl, sym, subst, _∙_}
+use Prim.Native.Nat.{ℕ, _≤_, _<_, zero-le}
+use mathlib.Core.Path.{_≡_, refl, _∙_}
 use mathlib.Core.Bool.{Bool, true, false}
 use mathlib.Core.List.{List}
 use lib.Dec.{eqb}
@@ -20,7 +20,6 @@ use Rattle.device.specs.declared.Current.{Current}
 use Rattle.device.specs.declared.Current.the-variants as current
 use Rattle.device.specs.declared.Kind.{Kind}
 use Rattle.device.specs.declared.Kind.the-variants.{Write, Read, Unsupported, Reserved}
-use Rattle.device.specs.declared.Params.{Params}
 use Rattle.device.specs.declared.Params.the-variants.{Exactly, Between, Stream}
 use Rattle.device.specs.declared.Power.{Power}
 use Rattle.device.specs.declared.Power.the-variants.{Running, Asleep, InReset}
@@ -30,6 +29,7 @@ use Rattle.chip.specs.Close.{WithLog, withLog}
 use Rattle.chip.specs.Report.{logged}
 use Rattle.acts.specs.Ram.{WithRam, withRam, onDevice}
 use Rattle.parameter.specs.Parameter.{parameterTaken}
+use Rattle.data.specs.Most.{isStream, mostOf}
 use Rattle.data.specs.Data.{counted, made, going, surplus, upTo, planeFor, put, stepped, outOfRange, ramWritten, byKind, unasked, dataTaken}
 
 pub goes-on : (d r : Ssd1677) (a b : Active) (bus : Bus) → b ≡ a → bus ≡ withCurrent (d .bus) (current.Active b) → r ≡ withBus d bus
@@ -145,6 +145,20 @@ pub ignores : (byte : ℕ) (w v : WithRam) (bus : Bus) (r : Ssd1677) → v ≡ u
 unfolding dataTaken
 ignores byte w v bus r e₁ e₂ e₃ = rw (e₃, e₂, e₁)
 
+-- a kind that takes no parameters: every byte is surplus
+none-taken : (byte : ℕ) (a : Active) (w : WithRam) → upTo 0 byte a w ≡ surplus a w
+unfolding upTo
+none-taken byte a w = rw (le-ltb (a .received) 0 zero-le)
+
+by-kind : (byte : ℕ) (a : Active) (w z : WithRam) (k : Kind) → z ≡ pick (isStream k) (ramWritten byte a w) (upTo (mostOf k) byte a w) → z ≡ byKind byte a w k
+unfolding byKind
+by-kind byte a w z (Write (Exactly count)) e = e
+by-kind byte a w z (Write (Between least most)) e = e
+by-kind byte a w z (Write Stream) e = e
+by-kind byte a w z Read e = e ∙ none-taken byte a w
+by-kind byte a w z Unsupported e = e ∙ none-taken byte a w
+by-kind byte a w z Reserved e = e ∙ none-taken byte a w
+
 module _ (byte : ℕ) (w z : WithRam) (c : Current) where
   pub is-unasked : c ≡ current.Idle → z ≡ dataTaken byte w current.Idle → z ≡ dataTaken byte w c
   is-unasked h e = rw h e
@@ -153,32 +167,11 @@ module _ (byte : ℕ) (w z : WithRam) (c : Current) where
   unfolding dataTaken
   is-ignored h = rw h
 
-  module _ (a : Active) (is : c ≡ current.Active a) where
-    by-kind : (k : Kind) → a .kind ≡ k → z ≡ byKind byte a w k → z ≡ dataTaken byte w c
+  module _ (a : Active) (t : Bool) (is : c ≡ current.Active a) (tells : t ≡ isStream (a .kind)) where
+    pub is-stream : t ≡ true → z ≡ ramWritten byte a w → z ≡ dataTaken byte w c
     unfolding dataTaken
-    by-kind k h e = rw is (subst (λ (x : Kind). z ≡ byKind byte a w x) (sym h) e)
+    is-stream h e = rw is (by-kind byte a w z (a .kind) (rw (← tells, h) e))
 
-    pub is-read : a .kind ≡ Read → z ≡ surplus a w → z ≡ dataTaken byte w c
-    unfolding byKind
-    is-read h e = by-kind Read h e
-
-    pub is-unsupported : a .kind ≡ Unsupported → z ≡ surplus a w → z ≡ dataTaken byte w c
-    unfolding byKind
-    is-unsupported h e = by-kind Unsupported h e
-
-    pub is-reserved : a .kind ≡ Reserved → z ≡ surplus a w → z ≡ dataTaken byte w c
-    unfolding byKind
-    is-reserved h e = by-kind Reserved h e
-
-    module _ (p : Params) (writes : a .kind ≡ Write p) where
-      pub is-stream : p ≡ Stream → z ≡ ramWritten byte a w → z ≡ dataTaken byte w c
-      unfolding byKind
-      is-stream h e = by-kind (Write p) writes (rw h e)
-
-      pub is-exact : (most : ℕ) → p ≡ Exactly most → z ≡ upTo most byte a w → z ≡ dataTaken byte w c
-      unfolding byKind
-      is-exact most h e = by-kind (Write p) writes (rw h e)
-
-      pub is-between : (least most : ℕ) → p ≡ Between least most → z ≡ upTo most byte a w → z ≡ dataTaken byte w c
-      unfolding byKind
-      is-between least most h e = by-kind (Write p) writes (rw h e)
+    pub is-other : (most : ℕ) → t ≡ false → most ≡ mostOf (a .kind) → z ≡ upTo most byte a w → z ≡ dataTaken byte w c
+    unfolding dataTaken
+    is-other most h m e = rw is (by-kind byte a w z (a .kind) (rw (← tells, h, ← m) e))

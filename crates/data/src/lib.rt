@@ -12,6 +12,7 @@ ghost use Rattle.diagnostic.specs.declared.DiagnosticKind.the-variants.{ExtraDa
 ghost use Rattle.chip.specs.Close.{withLog};
 ghost use Rattle.chip.specs.Report.{logged};
 ghost use Rattle.acts.specs.Ram.{withRam, onDevice};
+ghost use Rattle.data.specs.Most.{isStream, mostOf};
 ghost use Rattle.data.specs.Data.{counted, made, going, surplus, upTo, stepped, outOfRange, planeFor, unasked, dataTaken};
 use device::Active;
 use device::Current;
@@ -22,6 +23,38 @@ use device::Ssd1677;
 use device::part;
 use diagnostic::DiagnosticKind;
 use ram::Counter;
+
+// Whether a command of the kind takes RAM data.
+fn is_stream(kind: Kind) -> bool
+    ensures { λ r. ⌜ r ≡ isStream kind ⌝ }
+{
+    match kind {
+        Kind::Write(params) => match params {
+            Params::Exactly(_) => false,
+            Params::Between(_, _) => false,
+            Params::Stream => true,
+        },
+        Kind::Read => false,
+        Kind::Unsupported => false,
+        Kind::Reserved => false,
+    }
+}
+
+// The most parameter bytes that a command of the kind takes.
+fn most_of(kind: Kind) -> u16
+    ensures { λ r. ⌜ r ≡ mostOf kind ⌝ }
+{
+    match kind {
+        Kind::Write(params) => match params {
+            Params::Exactly(count) => count,
+            Params::Between(_, count) => count,
+            Params::Stream => 0,
+        },
+        Kind::Read => 0,
+        Kind::Unsupported => 0,
+        Kind::Reserved => 0,
+    }
+}
 
 // The command with one byte more, and what it has reported.
 fn count(active: Active, extra: bool, range: bool) -> Active
@@ -187,31 +220,20 @@ pub fn write(
     match current {
         Current::Active(active) => {
             let kind = active.kind;
-            match kind {
-                Kind::Write(params) => match params {
-                    Params::Stream => {
-                        let at = state.regs.counter;
-                        if put(black_white, red, active.command, at, byte) {
-                            let window = state.regs.window;
-                            let entry = state.regs.entry;
-                            let counter = at.advanced(window, entry);
-                            let next = count(active, active.extra_reported, active.range_reported);
-                            let after = part::set_current(bus, Current::Active(next));
-                            return part::set_pointed(state, counter, after);
-                        }
-                        step_outside(state, log, active)
-                    }
-                    Params::Exactly(count) => {
-                        up_to(state, black_white, red, log, active, count, byte)
-                    }
-                    Params::Between(_, most) => {
-                        up_to(state, black_white, red, log, active, most, byte)
-                    }
-                },
-                Kind::Read => take_surplus(state, log, active),
-                Kind::Unsupported => take_surplus(state, log, active),
-                Kind::Reserved => take_surplus(state, log, active),
+            if is_stream(kind) {
+                let at = state.regs.counter;
+                if put(black_white, red, active.command, at, byte) {
+                    let window = state.regs.window;
+                    let entry = state.regs.entry;
+                    let counter = at.advanced(window, entry);
+                    let next = count(active, active.extra_reported, active.range_reported);
+                    let after = part::set_current(bus, Current::Active(next));
+                    return part::set_pointed(state, counter, after);
+                }
+                return step_outside(state, log, active);
             }
+            let most = most_of(kind);
+            up_to(state, black_white, red, log, active, most, byte)
         }
         Current::Idle => take_unasked(state, log, byte),
         Current::Ignoring => state,
