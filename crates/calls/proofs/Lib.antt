@@ -1,0 +1,6 @@
+-- The laws of calls: what every call keeps.
+pub mod Parts
+pub mod Accepted
+pub mod Line
+pub mod Kept
+pub mod Start
