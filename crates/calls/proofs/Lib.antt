@@ -4,3 +4,8 @@ pub mod Accepted
 pub mod Line
 pub mod Kept
 pub mod Start
+pub mod Clock
+pub mod Activated
+pub mod Begun
+pub mod Written
+pub mod Held

@@ -2,10 +2,11 @@
 -- Assumes nothing.
 use Prim.Native.Nat.{ℕ, zero, suc, zero-le, _≤_}
 use mathlib.Core.Path.{_≡_, refl, sym, ap, subst, _∙_}
-use mathlib.Core.Bool.{Bool, true, false, not}
+use mathlib.Core.Bool.{true, false}
 use mathlib.Core.List.{List, [], _∷_}
 use lib.IntN.{pos}
 use lib.ListN.{length, length-set}
+use borrow.Author.Tests.{not-false}
 use Rattle.numbers.specs.Saturation.{satZ, least, most}
 use Rattle.numbers.proofs.Hold.{at-most}
 use Rattle.numbers.proofs.Lin.{is-le, le-out, whole}
@@ -54,10 +55,6 @@ unfolding gatesStored
 gates-length g zero rows = refl
 gates-length g (suc n) rows = length-set (gatesStored g n rows) (physicalRow g n) n ∙ gates-length g n rows
 
-is-so : (b : Bool) → not b ≡ false → b ≡ true
-is-so true e = refl
-is-so false e = sym e
-
 module _ (c : Ssd1677Config) (otp : List ℕ) (b : Buffers) where
   module _ (accepts : isAccepted (firstOf (allTests c otp (lengthsIn b))) ≡ true) where
     tests : isAccepted (firstOf (startTests c otp)) ≡ true
@@ -65,7 +62,7 @@ module _ (c : Ssd1677Config) (otp : List ℕ) (b : Buffers) where
 
     fit : lengthsFit (c .panel) (lengthsIn b) ≡ true
     fit =
-        is-so (lengthsFit (c .panel) (lengthsIn b))
+        not-false (lengthsFit (c .panel) (lengthsIn b))
         (none-refuses (bufferTest (c .panel) (lengthsIn b)) [] (both (startTests c otp) (bufferTest (c .panel) (lengthsIn b) ∷ []) accepts .1) .0)
 
     lengths : FineLengths (c .panel) (lengthsIn b)
