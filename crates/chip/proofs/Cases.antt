@@ -6,6 +6,7 @@ use mathlib.Core.List.{List}
 use borrow.Author.Tests.{lt-ltb, le-ltb, le-leb, lt-leb}
 use Rattle.waveform.specs.declared.Until.the-variants.{Whole}
 use Rattle.diagnostic.specs.declared.Journal.{Journal}
+use Rattle.diagnostic.specs.declared.DiagnosticKind.{DiagnosticKind}
 use Rattle.diagnostic.specs.declared.DiagnosticKind.the-variants.{MissingData}
 use Rattle.diagnostic.specs.Log.{Entries, reported}
 use Rattle.panel.specs.declared.Display.{Display}
@@ -22,6 +23,7 @@ use Rattle.device.specs.Parts as part
 use Rattle.chip.specs.Moments.{afterNs, lowered, busyFor}
 use Rattle.chip.specs.Advance.{WithGlass, withGlass, stopped, endingOf, glassOf, isOver, ended, advanced}
 use Rattle.chip.specs.Close.{WithLog, withLog, entriesOf, expectedOf, missing, fresh, closed}
+use Rattle.chip.specs.Report.{logged}
 
 module _ (bus : Bus) (u : Deadline) (moment until : ℕ) (is : u ≡ At until) where
   pub falls : (r : Bus) → until ≤ moment → r ≡ withUntil bus Never → r ≡ lowered u bus moment
@@ -71,3 +73,8 @@ pub closes : (k : WithLog) (e : Entries) (j : Journal) (d : Ssd1677) (bus : Bus)
     → bus ≡ withCurrent (k .device .bus) Ignoring → r ≡ withBus d bus → withLog r (e .log) ≡ closed k
 unfolding closed
 closes k e j d bus r e₁ e₂ e₃ e₄ e₅ = rw (e₅, e₄, e₃, e₂, e₁)
+
+pub logs : (kind : DiagnosticKind) (k : WithLog) (e : Entries) (r : Ssd1677) → e ≡ reported (entriesOf k) (k .device .now) kind
+    → r ≡ withJournal (k .device) (e .journal) → withLog r (e .log) ≡ logged kind k
+unfolding logged
+logs kind k e r p q = rw (q, p)

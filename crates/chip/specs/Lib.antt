@@ -2,3 +2,4 @@
 pub mod Moments
 pub mod Advance
 pub mod Close
+pub mod Report

@@ -1,11 +1,15 @@
 // The chip's time: moments, BUSY, and what happens when the clock moves (mod.rs, `advance`, `after`, `ns_between`, `busy_for`).
 ghost use mathlib.Core.Path.{_≡_};
 ghost use Rattle.chip.specs.Moments.{afterNs, nsBetween, lowered, busyFor};
+ghost use lib.ListN.{length};
+ghost use Rattle.chip.specs.Close.{withLog};
+ghost use Rattle.chip.specs.Report.{logged};
 ghost use Rattle.chip.specs.Advance.{Ready, withGlass, stopped, ended, advanced};
 use device::Bus;
 use device::Deadline;
 use device::Ssd1677;
 use device::part;
+use diagnostic::DiagnosticKind;
 use panel::Display;
 use waveform::Until;
 
@@ -107,4 +111,13 @@ pub fn advance(
     let shown = end_display(moved, &mut states[..], luts, &mut pixels[..]);
     let bus = lower_busy(shown.bus, shown.now);
     part::set_bus(shown, bus)
+}
+
+// A diagnostic of the instant the clock shows.
+pub fn report(state: Ssd1677, log: &mut [u8], kind: DiagnosticKind) -> Ssd1677
+    requires { ⌜ length (now log) ≡ 16384 ⌝ }
+    ensures { λ r. ⌜ withLog r (now (log .exit)) ≡ logged kind (withLog state (now (log .entry))) ⌝ }
+{
+    let journal = diagnostic::report(state.journal, log, state.now, kind);
+    part::set_journal(state, journal)
 }

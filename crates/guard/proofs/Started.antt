@@ -14,7 +14,7 @@ use Rattle.guard.specs.State.{panelFine, periodsFine}
 use Rattle.guard.proofs.Accepted.{none-refuses}
 
 -- both of two lists accept
-both : (a b : List Test) → isAccepted (firstOf (a ++ b)) ≡ true → (isAccepted (firstOf a) ≡ true) × (isAccepted (firstOf b) ≡ true)
+pub both : (a b : List Test) → isAccepted (firstOf (a ++ b)) ≡ true → (isAccepted (firstOf a) ≡ true) × (isAccepted (firstOf b) ≡ true)
 unfolding firstOf
 both [] b e = (refl, e)
 both (t ∷ a) b e = by (none-refuses t (a ++ b) e) (both a b)

@@ -24,14 +24,9 @@ use Rattle.device.specs.Parts as part
 use Rattle.registers.specs.Reset.{resetOf}
 use Rattle.chip.specs.Moments.{nsBetween, busyFor}
 use Rattle.chip.specs.Advance.{WithGlass, withGlass, stopped, endingOf, glassOf}
-use Rattle.chip.specs.Close.{WithLog, withLog, entriesOf, closed}
-use Rattle.reset.specs.Reset.{logged, restored, WithGlassLog, withGlassLog, isDriving, cutShort, cut, inReset, asserted, released, byLine}
-use Rattle.reset.specs.Start.{softReset, isPowered, unpowered, vcomSensed, pointed}
-
-pub logs : (kind : DiagnosticKind) (k : WithLog) (e : Entries) (r : Ssd1677) → e ≡ reported (entriesOf k) (k .device .now) kind
-    → r ≡ withJournal (k .device) (e .journal) → withLog r (e .log) ≡ logged kind k
-unfolding logged
-logs kind k e r p q = rw (q, p)
+use Rattle.chip.specs.Close.{WithLog, withLog, closed}
+use Rattle.chip.specs.Report.{logged}
+use Rattle.reset.specs.Reset.{restored, WithGlassLog, withGlassLog, isDriving, cutShort, cut, inReset, asserted, released, byLine}
 
 pub restores : (d r : Ssd1677) (g : Registers) → g ≡ resetOf (d .config .«user_id»)
     → r ≡ withPowers d g false false (record { «hv_not_ready» = false; «vci_low» = false }) → r ≡ restored d
@@ -95,41 +90,3 @@ pub rises : (luts : List ℕ) (low : Bool) (w : WithGlassLog) (p : Power) (r : S
     → withGlassLog r (w .states) (w .pixels) (w .log) ≡ byLine luts low w p
 unfolding byLine
 rises luts low w p r e f g = rw (e, f, g)
-
-pub resets : (d a r : Ssd1677) (b : Bus) → a ≡ restored d → b ≡ busyFor (a .bus) (a .now) (a .config .timing .«soft_reset»)
-    → r ≡ withBus a b → r ≡ softReset d
-unfolding softReset
-resets d a r b p q s = rw (s, q, p)
-
-module _ (stage : Stage) (k : WithLog) where
-  pub has-power : k .device .clock ≡ true → k .device .analog ≡ true → k ≡ unpowered stage k
-  unfolding unpowered
-  has-power e f = took _ _ _ _ e (took _ _ _ _ f refl)
-
-  pub lacks-analog : (z : WithLog) → k .device .clock ≡ true → k .device .analog ≡ false → z ≡ logged (WithoutAnalog stage) k → z ≡ unpowered stage k
-  unfolding unpowered
-  lacks-analog z e f g = took _ _ _ _ e (passed _ _ _ _ f g)
-
-  pub lacks-clock : (z : WithLog) → k .device .clock ≡ false → z ≡ logged (WithoutClock stage) k → z ≡ unpowered stage k
-  unfolding unpowered
-  lacks-clock z e g = passed _ _ _ _ e g
-
-module _ (k : WithLog) (b : Bool) where
-  pub senses : (low : ℕ) (bus : Bus) (r : Ssd1677) → low ≡ k .device .regs .«vcom_sense» % 16 → b ≡ isPowered (k .device) → b ≡ true
-      → bus ≡ busyFor (k .device .bus) (k .device .now) ((low + 1) * 1000000000) → r ≡ withBus (k .device) bus → withLog r (k .log) ≡ vcomSensed k
-  unfolding vcomSensed
-  senses low bus r v e h f g = rw (← e, h, g, f, v)
-
-  pub senses-not : (z : WithLog) → b ≡ isPowered (k .device) → b ≡ false → z ≡ unpowered VcomSense k → z ≡ vcomSensed k
-  unfolding vcomSensed
-  senses-not z e h p = rw (← e, h) p
-
-module _ (command : ℕ) (k : WithLog) (b : Bool) where
-  pub points : b ≡ withinOf (k .device .regs .counter) (k .device .regs .window) → b ≡ true → k ≡ pointed command k
-  unfolding pointed
-  points e h = rw (← e, h)
-
-  pub points-not : (z : WithLog) → b ≡ withinOf (k .device .regs .counter) (k .device .regs .window) → b ≡ false
-      → z ≡ logged (CounterOutsideWindow command (k .device .regs .counter .x) (k .device .regs .counter .y)) k → z ≡ pointed command k
-  unfolding pointed
-  points-not z e h p = rw (← e, h) p

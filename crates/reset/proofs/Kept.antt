@@ -15,7 +15,8 @@ use Rattle.device.specs.declared.Power.{Power}
 use Rattle.device.specs.declared.Power.the-variants.{Running, Asleep, InReset}
 use Rattle.chip.specs.Advance.{Ready, WithGlass, withGlass}
 use Rattle.chip.specs.Close.{WithLog, withLog, closed}
-use Rattle.reset.specs.Reset.{logged, restored, WithGlassLog, onDevice, onLog, onGlass, isDriving, cutShort, dropped, cut, inReset, asserted, released, byLine}
+use Rattle.chip.specs.Report.{logged}
+use Rattle.reset.specs.Reset.{restored, WithGlassLog, onDevice, onLog, onGlass, isDriving, cutShort, dropped, cut, inReset, asserted, released, byLine}
 
 module _ (states : List ℤ) (luts pixels : List ℕ) where
   -- a report changes the journal alone

@@ -1,3 +1,2 @@
 -- The root of reset's specs.
 pub mod Reset
-pub mod Start

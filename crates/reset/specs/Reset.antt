@@ -6,28 +6,19 @@ use lib.Dec.{leb}
 use lib.IntN.{ℤ}
 use Rattle.numbers.specs.Choice.{pick}
 use Rattle.waveform.specs.declared.Until.the-variants.{Cut}
-use Rattle.diagnostic.specs.declared.DiagnosticKind.{DiagnosticKind}
 use Rattle.diagnostic.specs.declared.DiagnosticKind.the-variants.{ResetDuringDisplay}
-use Rattle.diagnostic.specs.Log.{Entries, reported}
 use Rattle.panel.specs.Finish.{finished}
 use Rattle.device.specs.declared.Ssd1677.{Ssd1677}
 use Rattle.device.specs.declared.Power.{Power}
 use Rattle.device.specs.declared.Power.the-variants.{Running, Asleep, InReset}
 use Rattle.device.specs.declared.Current.the-variants.{Idle, Ignoring}
 use Rattle.device.specs.declared.Deadline.the-variants.{Never}
-use Rattle.device.specs.Parts.{withBus, withDisplay, withJournal, withPowers}
+use Rattle.device.specs.Parts.{withBus, withDisplay, withPowers}
 use Rattle.registers.specs.Reset.{resetOf}
 use Rattle.chip.specs.Moments.{nsBetween, busyFor}
 use Rattle.chip.specs.Advance.{WithGlass, withGlass, stopped, endingOf, glassOf, published}
-use Rattle.chip.specs.Close.{WithLog, withLog, entriesOf, closed}
-
--- the journal and the log put back
-abbrev pub withEntries : WithLog → Entries → WithLog
-withEntries k e = withLog (withJournal (k .device) (e .journal)) (e .log)
-
--- a diagnostic of the instant the clock shows (mod.rs, `report`)
-unfoldable pub logged : DiagnosticKind → WithLog → WithLog
-logged kind k = withEntries k (reported (entriesOf k) (k .device .now) kind)
+use Rattle.chip.specs.Close.{WithLog, withLog, closed}
+use Rattle.chip.specs.Report.{logged}
 
 -- the registers at their reset values, the supplies off, the status bits cleared (mod.rs, `restore_registers`)
 unfoldable pub restored : Ssd1677 → Ssd1677

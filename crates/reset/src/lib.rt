@@ -2,8 +2,7 @@
 ghost use mathlib.Core.Path.{_≡_};
 ghost use lib.ListN.{length};
 ghost use Rattle.chip.specs.Advance.{Ready, withGlass};
-ghost use Rattle.chip.specs.Close.{withLog};
-ghost use Rattle.reset.specs.Reset.{logged, restored, withGlassLog, cutShort, cut, inReset, asserted, released, byLine};
+ghost use Rattle.reset.specs.Reset.{restored, withGlassLog, cutShort, cut, inReset, asserted, released, byLine};
 use device::Bus;
 use device::Current;
 use device::Deadline;
@@ -13,17 +12,6 @@ use device::Status;
 use device::part;
 use diagnostic::DiagnosticKind;
 use waveform::Until;
-
-pub mod start;
-
-// A diagnostic of the instant the clock shows.
-pub fn report(state: Ssd1677, log: &mut [u8], kind: DiagnosticKind) -> Ssd1677
-    requires { ⌜ length (now log) ≡ 16384 ⌝ }
-    ensures { λ r. ⌜ withLog r (now (log .exit)) ≡ logged kind (withLog state (now (log .entry))) ⌝ }
-{
-    let journal = diagnostic::report(state.journal, log, state.now, kind);
-    part::set_journal(state, journal)
-}
 
 // The registers at their reset values, the supplies off and the status bits cleared; the RAM stays.
 pub fn restore_registers(state: Ssd1677) -> Ssd1677
@@ -80,7 +68,7 @@ fn cut_display(
 {
     let display = state.display;
     if display.running & (display.started <= state.now) {
-        let noted = report(state, log, DiagnosticKind::ResetDuringDisplay);
+        let noted = chip::report(state, log, DiagnosticKind::ResetDuringDisplay);
         return finish_cut(noted, states, luts, pixels);
     }
     let off = chip::stop(display);

@@ -1,0 +1,3 @@
+-- The laws of power_on that belong to no one function.
+pub mod Cases
+pub mod Refused

@@ -1,0 +1,72 @@
+-- `power_on::new` meets its contract.
+use Rattle.power_on.proofs.Cases.{swings, starts, starts-not}
+use Rattle.power_on.specs.Start.{buffers}
+use mathlib.Core.Path.{sym, _∙_}
+use borrow.Author.Needs.{needs}
+use Rattle.power_on.proofs.new.Statement.{statement}
+use Rattle.power_on.proofs.new.Tie as tie
+
+all-lent-requires : tie.Need-all-lent-requires
+all-lent-requires c κs = search needs
+
+check-requires : tie.Need-check-requires
+check-requires c κs = search needs
+
+is-accepted-requires : tie.Need-is-accepted-requires
+is-accepted-requires c κs = search needs
+
+power-up-requires : tie.Need-power-up-requires
+power-up-requires c κs = swings (c .before .before .before .before .before .before .before .before .before .before .before .before .before .before .before .before .before .before .args .config) (c .before .before .before .before .before .before .before .before .before .before .before .before .before .before .before .before .before .before .args .otp .now) _ _ (c .before .before .before .before .before .before .before .before .before .check .ensures) (sym (c .before .before .before .before .before .before .before .before .is-accepted .ensures) ∙ c .before .before .before .before .before .before .before .if1 .taken)
+
+same-length : tie.Need-same-length
+same-length c = search needs
+
+same-length-2 : tie.Need-same-length-2
+same-length-2 c = search needs
+
+same-length-3 : tie.Need-same-length-3
+same-length-3 c = search needs
+
+same-length-4 : tie.Need-same-length-4
+same-length-4 c = search needs
+
+same-length-5 : tie.Need-same-length-5
+same-length-5 c = search needs
+
+same-length-6 : tie.Need-same-length-6
+same-length-6 c = search needs
+
+same-length-7 : tie.Need-same-length-7
+same-length-7 c = search needs
+
+returns : tie.Need-returns
+returns c =
+    let s = c .before .before .before .before .before .before .before .before .before .before .before .before .before .before .before .before .before .before .before .before .before .before .before .before .before .before .before .before .before .before .before .before .args in
+    starts (s .config) (s .otp .now) (buffers (s .states .now) (s .luts .now) (s .pixels .now) (s .black-white .now) (s .red .now) (s .gates .now) (s .log .now)) _ _ (c .before .before .before .before .before .before .before .before .before .before .before .before .before .before .before .before .before .before .before .before .before .before .before .before .all-lent .ensures) (c .before .before .before .before .before .before .before .before .before .before .before .before .before .before .before .before .before .before .before .before .before .before .before .check .ensures) _ _ (c .before .before .before .before .before .before .before .before .before .before .before .before .before .before .before .before .before .before .before .before .before .before .is-accepted .ensures) (c .before .before .before .before .before .before .before .before .before .before .before .before .before .before .before .before .before .before .before .before .before .if1 .taken) (c .before .before .before .before .before .before .before .before .before .before .before .before .before .power-up .ensures)
+
+unstarted-requires : tie.Need-unstarted-requires
+unstarted-requires c κs = search needs
+
+returns-2 : tie.Need-returns-2
+returns-2 c =
+    let s = c .before .before .before .before .before .before .before .before .before .before .before .before .args in
+    starts-not (s .config) (s .otp .now) (buffers (s .states .now) (s .luts .now) (s .pixels .now) (s .black-white .now) (s .red .now) (s .gates .now) (s .log .now)) _ _ (c .before .before .before .before .all-lent .ensures) (c .before .before .before .check .ensures) _ _ (c .before .before .is-accepted .ensures) (c .before .if1 .left) (c .unstarted .ensures)
+
+pub new-spec : {M : Type 1} → statement M
+new-spec =
+    tie.close
+    (tie.spec
+    all-lent-requires
+    check-requires
+    is-accepted-requires
+    power-up-requires
+    same-length
+    same-length-2
+    same-length-3
+    same-length-4
+    same-length-5
+    same-length-6
+    same-length-7
+    returns
+    unstarted-requires
+    returns-2)

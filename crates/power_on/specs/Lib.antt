@@ -1,0 +1,2 @@
+-- The root of power_on's specs.
+pub mod Start

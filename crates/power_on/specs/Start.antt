@@ -1,0 +1,148 @@
+-- The start (mod.rs, `new`): refused with 1, 2, 3, 4, 5, 12, 6, 11 in this order, or the chip at power-on.
+use Prim.Native.Nat.{ℕ}
+use mathlib.Core.Bool.{Bool, true, false, not}
+use mathlib.Core.List.{List, [], _∷_, _++_}
+use lib.IntN.{ℤ, pos}
+use lib.ListN.{length, replicate}
+use Rattle.numbers.specs.Choice.{pick}
+use Rattle.numbers.specs.Lists.{tab}
+use Rattle.glass.specs.declared.RefreshKind.the-variants.{PowerOn}
+use Rattle.config.specs.declared.ConfigError.{ConfigError}
+use Rattle.config.specs.declared.PanelGeometry.{PanelGeometry}
+use Rattle.config.specs.declared.Ssd1677Config.{Ssd1677Config}
+use Rattle.config.specs.Answer.{Answer, refused, isAccepted, Test, firstOf, answerOf}
+use Rattle.otp.specs.Table.{startTests}
+use Rattle.scan.specs.Gates.{gatesStored}
+use Rattle.panel.specs.declared.Display.{Display}
+use Rattle.panel.specs.declared.Panel.{Panel}
+use Rattle.panel.specs.Start.{panelAtPowerOn, powerOn}
+use Rattle.device.specs.declared.Power.the-variants.{Running}
+use Rattle.device.specs.declared.Current.the-variants.{Idle}
+use Rattle.device.specs.declared.Deadline.the-variants.{Never}
+use Rattle.device.specs.declared.Ssd1677.{Ssd1677}
+use Rattle.registers.specs.Reset.{resetOf}
+use Rattle.guard.specs.declared.lengths.Lengths.{Lengths}
+use Rattle.guard.specs.Lengths.{lengthsFit, allLent}
+use Rattle.power_on.specs.declared.StartError.{StartError}
+use Rattle.power_on.specs.declared.StartError.the-variants.{Parameters, Buffer}
+
+-- all that is lent to a start but the table
+pub record Buffers : Type 0 where
+  pub states : List ℤ
+  pub luts : List ℕ
+  pub pixels : List ℕ
+  pub blackWhite : List ℕ
+  pub red : List ℕ
+  pub gates : List ℕ
+  pub log : List ℕ
+
+-- the seven as one
+abbrev pub buffers : List ℤ → List ℕ → List ℕ → List ℕ → List ℕ → List ℕ → List ℕ → Buffers
+buffers s u p b r g l = record { states = s; luts = u; pixels = p; blackWhite = b; red = r; gates = g; log = l }
+
+-- the lengths of what is lent
+abbrev pub lengthsIn : Buffers → Lengths
+lengthsIn b =
+    allLent (length (b .states)) (length (b .luts)) (length (b .pixels)) (length (b .log)) (length (b .blackWhite)) (length (b .red)) (length (b .gates))
+
+-- 11: a buffer's length is not the one of the panel
+abbrev pub bufferTest : PanelGeometry → Lengths → Test
+bufferTest p l = record { number = 11; value = 0; refuses = not (lengthsFit p l) }
+
+-- 1, 2, 3, 4, 5, 12, 6, 11 (document 01)
+abbrev pub allTests : Ssd1677Config → List ℕ → Lengths → List Test
+allTests c otp l = startTests c otp ++ bufferTest (c .panel) l ∷ []
+
+-- 01's number and value for each case
+unfoldable pub startAnswerOf : StartError → Answer
+startAnswerOf (Parameters error) = answerOf error
+startAnswerOf Buffer = refused 11 0
+
+-- no display has been started
+abbrev pub noDisplay : Display
+noDisplay = record { running = false; started = 0; ends = 0; kind = PowerOn; setting = replicate 112 0; border = 0 }
+
+-- the chip with its supplies off, no command and nothing reported, behind a glass
+abbrev pub chipWith : Ssd1677Config → Panel → Ssd1677
+chipWith c panel =
+    record {
+      config = c;
+      now = 0;
+      regs = resetOf (c .«user_id»);
+      bus = record { power = Running; current = Idle; «busy_until» = Never };
+      clock = false;
+      analog = false;
+      status = record { «hv_not_ready» = false; «vci_low» = false };
+      panel = panel;
+      display = noDisplay;
+      journal = record { count = 0; dropped = 0; «reserved_reported» = false };
+    }
+
+-- the chip at power-on
+unfoldable pub poweredOn : Ssd1677Config → Ssd1677
+poweredOn c = chipWith c (panelAtPowerOn (c .panel) (c .optics))
+
+-- a glass that is none: its swing is 0
+abbrev pub noGlass : Panel
+noGlass =
+    record {
+      swing = pos 0;
+      border = pos 0;
+      image = record { width = 0; height = 0; border = 0; generation = 0; kind = PowerOn; interrupted = false; started = 0; at = 0 };
+    }
+
+-- what a refused start hands back: a state that every call refuses with 13 (`unstarted-refused` of proofs/Refused.antt)
+unfoldable pub unstarted : Ssd1677Config → Ssd1677
+unstarted c = chipWith c noGlass
+
+-- the planes and the log
+pub record Clean : Type 0 where
+  pub blackWhite : List ℕ
+  pub red : List ℕ
+  pub log : List ℕ
+
+-- the three as one
+abbrev pub clean : List ℕ → List ℕ → List ℕ → Clean
+clean b r l = record { blackWhite = b; red = r; log = l }
+
+-- so many bytes of 0x00 each
+unfoldable pub cleared : ℕ → ℕ → ℕ → Clean
+cleared b r l = clean (tab b (λ _. 0)) (tab r (λ _. 0)) (tab l (λ _. 0))
+
+-- the buffers at power-on: planes and log 0x00, chosen LUTs 255, the rest as `Panel::new` (document 01)
+unfoldable pub filled : Ssd1677Config → Buffers → Buffers
+filled c b =
+    let glass = powerOn (c .panel) (c .optics) (length (b .states)) (length (b .luts)) (length (b .pixels)) in
+    let empty = cleared (length (b .blackWhite)) (length (b .red)) (length (b .log)) in
+    buffers (glass .states) (glass .luts) (glass .pixels) (empty .blackWhite) (empty .red)
+    (gatesStored (c .panel) (c .panel .height) (b .gates))
+    (empty .log)
+
+-- a state and all that it was lent
+pub record Powered : Type 0 where
+  pub device : Ssd1677
+  pub buffers : Buffers
+
+-- the two as one
+abbrev pub powered : Ssd1677 → Buffers → Powered
+powered d b = record { device = d; buffers = b }
+
+-- the chip and its buffers at power-on
+unfoldable pub poweredUp : Ssd1677Config → Buffers → Powered
+poweredUp c b = powered (poweredOn c) (filled c b)
+
+-- what a start answers and leaves
+pub record Start : Type 0 where
+  pub answer : Answer
+  pub left : Powered
+
+-- the two as one
+abbrev pub start : Answer → Powered → Start
+start a p = record { answer = a; left = p }
+
+-- accepted: the chip and its buffers at power-on; refused: the unstarted state, and every buffer as it was
+abbrev pub startBy : Ssd1677Config → Buffers → Answer → Start
+startBy c b a = start a (pick (isAccepted a) (poweredUp c b) (powered (unstarted c) b))
+
+unfoldable pub started : Ssd1677Config → List ℕ → Buffers → Start
+started c otp b = startBy c b (firstOf (allTests c otp (lengthsIn b)))

@@ -1,0 +1,3 @@
+-- The root of query's specs.
+pub mod Outcome
+pub mod Queries

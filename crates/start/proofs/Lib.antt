@@ -1,0 +1,2 @@
+-- The laws of start that belong to no one function.
+pub mod Cases

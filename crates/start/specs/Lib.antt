@@ -1,0 +1,2 @@
+-- The root of start's specs.
+pub mod Start
