@@ -41,62 +41,58 @@ pub(super) fn grays(table: &Table) {
     }
 }
 
-fn scan_of(choice: Choice) -> Scan {
+fn scan_of(choice: &Choice) -> Scan {
     Scan {
         lines: choice.lines,
-        order: GateScan { sm: choice.sm, gd: false },
+        order: choice.order,
         red: PlaneOption::from_nibble(choice.options >> 4),
         black_white: PlaneOption::from_nibble(choice.options),
     }
 }
 
-fn panel_of(choice: Choice) -> Panel {
-    let geometry = PanelGeometry {
-        first_source: choice.first_source,
-        columns_reversed: choice.columns_reversed,
-        ..PanelGeometry::gdeq0426t82()
-    };
-    Panel::new(geometry, Optics::default())
+fn panel_of(choice: &Choice) -> Panel {
+    Panel::new(choice.geometry.clone(), Optics::default())
 }
 
-fn display_of(panel: &Panel, ram: &Ram, choice: Choice, waveform: &Waveform) -> Display {
+fn display_of(panel: &Panel, ram: &Ram, choice: &Choice, waveform: &Waveform) -> Display {
     let (border, kind) = (Some(Drive::Lut(1)), RefreshKind::Full);
     let times = (Cycles(0), Cycles(0));
     panel.start(ram, scan_of(choice), waveform.clone(), border, kind, times)
 }
 
+const SEQUENCE: GateScan = GateScan { sm: false, gd: false };
+const HALVES: GateScan = GateScan { sm: true, gd: false };
+
 const CHOICE: Choice = Choice {
-    width: 800,
-    height: 480,
-    first_source: 80,
-    columns_reversed: false,
+    geometry: PanelGeometry { first_source: 80, ..PanelGeometry::gdeq0426t82() },
     lines: 480,
-    sm: true,
+    order: HALVES,
     options: 0,
 };
 
 pub(super) fn starts(table: &Table) {
     let ram = memory::ram(1);
     let waveform = Waveform::from_setting(&longest(), &PERIODS);
+    let reversed = || PanelGeometry { columns_reversed: true, ..CHOICE.geometry };
     let choices = [
         ("columns in order", CHOICE),
-        ("columns reversed, red read as 0", Choice { columns_reversed: true, options: 0x40, ..CHOICE }),
-        ("columns in order, both planes inverse, SM 0", Choice { options: 0x88, sm: false, ..CHOICE }),
-        ("columns reversed, 300 lines", Choice { columns_reversed: true, lines: 300, ..CHOICE }),
+        ("columns reversed, red read as 0", Choice { geometry: reversed(), options: 0x40, ..CHOICE }),
+        ("columns in order, both planes inverse, SM 0", Choice { options: 0x88, order: SEQUENCE, ..CHOICE }),
+        ("columns reversed, 300 lines", Choice { geometry: reversed(), lines: 300, ..CHOICE }),
     ];
     for (what, choice) in choices {
-        let panel = panel_of(choice);
+        let panel = panel_of(&choice);
         let gates = inside::glass(&panel).gate_of_row;
         let mut luts = vec![0; PIXELS];
         let mut display = None;
         table.row(
             &format!("start, {what}"),
             (PIXELS, "pixel"),
-            || timed(|| display = Some(display_of(&panel, &ram, black_box(choice), &waveform))),
+            || timed(|| display = Some(display_of(&panel, &ram, black_box(&choice), &waveform))),
             || {
                 timed(|| {
                     let (red, black_white) = (ram.plane(Plane::Red), ram.plane(Plane::BlackWhite));
-                    proved::start(&mut luts, &gates, red, black_white, black_box(choice));
+                    proved::start(&mut luts, &gates, red, black_white, black_box(&choice));
                 })
             },
         );
@@ -106,13 +102,29 @@ pub(super) fn starts(table: &Table) {
 
 /// A panel whose states are of many kinds: displays of chance that were cut at different moments.
 fn used_panel() -> Panel {
-    let mut panel = panel_of(CHOICE);
+    let mut panel = panel_of(&CHOICE);
     let waveform = Waveform::from_setting(&gdeq0426t82_otp()[2].setting, &PERIODS);
     for seed in 0..8 {
-        let display = display_of(&panel, &memory::ram(10 + seed), CHOICE, &waveform);
+        let display = display_of(&panel, &memory::ram(10 + seed), &CHOICE, &waveform);
         panel.finish(&display, Cycles(0), Some((3 + seed) * 17_000_000));
     }
     panel
+}
+
+fn ending_of(setting: &[u8; 112], until: Option<u64>) -> Ending<'_> {
+    Ending {
+        setting,
+        periods: &PERIODS,
+        swing: SWING,
+        positive_drives_black: true,
+        register: 1,
+        partial: false,
+        size: (800, 480),
+        generation: 0,
+        started: 0,
+        at: 0,
+        until,
+    }
 }
 
 pub(super) fn finishes(table: &Table) {
@@ -129,9 +141,9 @@ pub(super) fn finishes(table: &Table) {
     ];
     for (what, setting, until) in rows {
         let waveform = Waveform::from_setting(setting, &PERIODS);
-        let display = display_of(&panel, &memory::ram(3), CHOICE, &waveform);
+        let display = display_of(&panel, &memory::ram(3), &CHOICE, &waveform);
         let luts = inside::luts(&display);
-        let ending = Ending { setting, periods: &PERIODS, swing: SWING, register: 1, until };
+        let ending = ending_of(setting, until);
         let mut after = panel.clone();
         let (mut states, mut pixels, mut border) = (Vec::new(), vec![0; PIXELS], 0);
         table.row(
@@ -144,7 +156,7 @@ pub(super) fn finishes(table: &Table) {
             || {
                 states.clone_from(&before.states);
                 timed(|| {
-                    border = proved::finish(&mut states, &luts, &mut pixels, before.border, black_box(ending));
+                    (border, _) = proved::finish(&mut states, &luts, &mut pixels, before.border, black_box(&ending));
                 })
             },
         );

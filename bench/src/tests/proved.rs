@@ -1,6 +1,10 @@
 //! The functions of crates/bench, from the archive that `rt staticlib bench` writes.
 
+use crate::ssd1677::{GateScan, PanelGeometry};
+
 mod archive {
+    use super::Published;
+
     unsafe extern "C" {
         pub fn proved_grays(
             states: *const i64,
@@ -19,6 +23,17 @@ mod archive {
             until: u64,
             out: &mut [i64; 3],
         ) -> bool;
+        pub fn proved_gates(
+            gates: *mut u16,
+            gates_len: usize,
+            width: u16,
+            height: u16,
+            first_source: u16,
+            columns_reversed: bool,
+            native_sm: bool,
+            native_gd: bool,
+            rows_reversed: bool,
+        );
         pub fn proved_start(
             luts: *mut u8,
             luts_len: usize,
@@ -32,8 +47,12 @@ mod archive {
             height: u16,
             first_source: u16,
             columns_reversed: bool,
+            native_sm: bool,
+            native_gd: bool,
+            rows_reversed: bool,
             lines: u16,
             sm: bool,
+            gd: bool,
             options: u8,
         ) -> bool;
         pub fn proved_finish(
@@ -48,9 +67,16 @@ mod archive {
             swing: i64,
             positive_drives_black: bool,
             register: u8,
+            partial: bool,
             border: i64,
+            width: u16,
+            height: u16,
+            generation: u64,
+            started: u64,
+            at: u64,
             cut: bool,
             until: u64,
+            header: &mut Published,
         ) -> i64;
         pub fn proved_auto_write(plane: *mut u8, plane_len: usize, parameter: u8);
         pub fn proved_write(
@@ -86,19 +112,34 @@ pub(super) fn transfer(
     out
 }
 
+/// The gate of every row, stored in a buffer.
+pub(super) fn gates(gates: &mut [u16], g: &PanelGeometry) {
+    unsafe {
+        archive::proved_gates(
+            gates.as_mut_ptr(),
+            gates.len(),
+            g.width,
+            g.height,
+            g.first_source,
+            g.columns_reversed,
+            g.native_scan.sm,
+            g.native_scan.gd,
+            g.rows_reversed,
+        );
+    }
+}
+
 /// What the choice of LUTs asks beside the buffers.
-#[derive(Clone, Copy)]
+#[derive(Clone)]
 pub(super) struct Choice {
-    pub(super) width: u16,
-    pub(super) height: u16,
-    pub(super) first_source: u16,
-    pub(super) columns_reversed: bool,
+    pub(super) geometry: PanelGeometry,
     pub(super) lines: u16,
-    pub(super) sm: bool,
+    pub(super) order: GateScan,
     pub(super) options: u8,
 }
 
-pub(super) fn start(luts: &mut [u8], gates: &[u16], red: &[u8], black_white: &[u8], c: Choice) {
+pub(super) fn start(luts: &mut [u8], gates: &[u16], red: &[u8], black_white: &[u8], c: &Choice) {
+    let g = &c.geometry;
     let done = unsafe {
         archive::proved_start(
             luts.as_mut_ptr(),
@@ -109,37 +150,53 @@ pub(super) fn start(luts: &mut [u8], gates: &[u16], red: &[u8], black_white: &[u
             red.len(),
             black_white.as_ptr(),
             black_white.len(),
-            c.width,
-            c.height,
-            c.first_source,
-            c.columns_reversed,
+            g.width,
+            g.height,
+            g.first_source,
+            g.columns_reversed,
+            g.native_scan.sm,
+            g.native_scan.gd,
+            g.rows_reversed,
             c.lines,
-            c.sm,
+            c.order.sm,
+            c.order.gd,
             c.options,
         )
     };
     assert!(done, "refused");
 }
 
-/// A display that ends: its setting and border register, with the periods and the cut.
+/// A published image's header: width, height, the border's grey, generation, kind, interrupted,
+/// started and at.
+pub(super) type Published = [u64; 8];
+
+/// A display that ends: what it is told, and the cut.
 #[derive(Clone, Copy)]
 pub(super) struct Ending<'a> {
     pub(super) setting: &'a [u8; 112],
     pub(super) periods: &'a [u64; 16],
     pub(super) swing: i64,
+    pub(super) positive_drives_black: bool,
     pub(super) register: u8,
+    pub(super) partial: bool,
+    pub(super) size: (u16, u16),
+    pub(super) generation: u64,
+    pub(super) started: u64,
+    pub(super) at: u64,
     pub(super) until: Option<u64>,
 }
 
-/// The border's state after the display.
+/// The border's state after the display, and the image's header.
 pub(super) fn finish(
     states: &mut [i64],
     luts: &[u8],
     pixels: &mut [u8],
     border: i64,
-    e: Ending<'_>,
-) -> i64 {
-    unsafe {
+    e: &Ending<'_>,
+) -> (i64, Published) {
+    // No header has this kind: a refused end leaves it.
+    let mut header = [9; 8];
+    let border = unsafe {
         archive::proved_finish(
             states.as_mut_ptr(),
             states.len(),
@@ -150,13 +207,22 @@ pub(super) fn finish(
             e.setting,
             e.periods,
             e.swing,
-            true,
+            e.positive_drives_black,
             e.register,
+            e.partial,
             border,
+            e.size.0,
+            e.size.1,
+            e.generation,
+            e.started,
+            e.at,
             e.until.is_some(),
             e.until.unwrap_or(0),
+            &mut header,
         )
-    }
+    };
+    assert!(header[4] != 9, "refused");
+    (border, header)
 }
 
 pub(super) fn auto_write(plane: &mut [u8], parameter: u8) {

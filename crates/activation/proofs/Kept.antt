@@ -1,7 +1,7 @@
 -- What an activation keeps, and that a display does not end before it starts. Assumes nothing.
 use Prim.Native.Nat.{ℕ, _+_, _≤_, min}
 use mathlib.Core.Path.{_≡_, refl, sym, subst, _∙_}
-use mathlib.Core.Bool.{Bool, true, false, _&&_}
+use mathlib.Core.Bool.{Bool, _&&_}
 use mathlib.Core.List.{List}
 use lib.IntN.{ℤ}
 use lib.ListN.{length}
@@ -19,13 +19,9 @@ use Rattle.chip.specs.Moments.{afterNs}
 use Rattle.chip.specs.Advance.{Ready, WithGlass, withGlass, endingOf, glassOf, isOver, ended, clocked, advanced}
 use Rattle.chip.specs.Advance as clock
 use Rattle.stages.specs.Run.{Step, noted}
+use Rattle.stages.proofs.Kept.{either}
 use Rattle.activation.specs.Display.{Displayed, scanOf, displayOf, unchanged, begun, shown}
 use Rattle.activation.specs.Activation.{settled, WithLuts, withLuts, Lent, staged, WithBuffers, stagedIn, activated}
-
--- what holds of both arms holds of the choice
-either : {A : Type 0} (P : A → Type 0) (b : Bool) (x y : A) → P x → P y → P (pick b x y)
-either P true x y p q = p
-either P false x y p q = q
 
 -- the stages leave the configuration and the glass as they were
 pub ready-after : (k : Lent) (s z : WithLuts) (states : List ℤ) (pixels : List ℕ) → z ≡ staged k s → length (z .luts) ≡ length (s .luts)
@@ -81,7 +77,7 @@ module _ (blackWhite red gates : List ℕ) (d : Ssd1677) (wanted two : Bool) (s 
       refl)
       refl
 
-luts-staged : (k : Lent) (s : WithLuts) → length (staged k s .luts) ≡ length (s .luts)
+pub luts-staged : (k : Lent) (s : WithLuts) → length (staged k s .luts) ≡ length (s .luts)
 unfolding staged
 luts-staged k s = luts-shown _ _ _ _ _ _ _ _
 

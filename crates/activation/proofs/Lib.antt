@@ -1,3 +1,4 @@
 -- The laws of activation that belong to no one function.
 pub mod Cases
 pub mod Kept
+pub mod Parts

@@ -74,9 +74,9 @@ module _ (luts gates red blackWhite width height first : ℕ) where
       (luts ≡ g .height * g .width)
       × ((gates ≡ g .height) × ((red ≡ 81600) × ((blackWhite ≡ 81600) × (g .«first_source» + g .width ≤ 960))))
 
-  pub scan-asked : (reversed : Bool) (g : PanelGeometry) → g ≡ geometryOf width height first reversed → scannable luts gates red blackWhite width height first ≡ true → Scans g
+  pub scan-asked : (columns sm gd rows : Bool) (g : PanelGeometry) → g ≡ geometryOf width height first columns sm gd rows → scannable luts gates red blackWhite width height first ≡ true → Scans g
   unfolding scannable
-  scan-asked reversed g made e =
+  scan-asked columns sm gd rows g made e =
       let glass = eqb luts (height * width) && eqb gates height in
       let planes = eqb red 81600 && eqb blackWhite 81600 in
       let four = left (glass && planes) (leb (first + width) 960) e in

@@ -14,6 +14,7 @@ ghost use lib.ListN.{length};
 ghost use Rattle.numbers.specs.Choice.{pick};
 ghost use Rattle.numbers.specs.Lists.{tab};
 ghost use Rattle.ram.specs.Plane.{autoWritten};
+ghost use Rattle.scan.specs.Gates.{gatesStored};
 ghost use Rattle.scan.specs.Luts.{lutOf};
 ghost use Rattle.waveform.specs.declared.Drive.the-variants.{Lut};
 ghost use Rattle.panel.specs.Pixels.{grays};
@@ -59,6 +60,32 @@ pub extern "C" fn proved_transfer(
     false
 }
 
+// The gate of every row, stored in a buffer of any length.
+#[no_mangle]
+pub extern "C" fn proved_gates(
+    gates: &mut [u16],
+    width: u16,
+    height: u16,
+    first_source: u16,
+    columns_reversed: bool,
+    native_sm: bool,
+    native_gd: bool,
+    rows_reversed: bool,
+)
+    ensures { λ _. ⌜ now (gates .exit) ≡ gatesStored (geometryOf width height «first_source» «columns_reversed» «native_sm» «native_gd» «rows_reversed») height (now (gates .entry)) ⌝ }
+{
+    let geometry = made::geometry_of(
+        width,
+        height,
+        first_source,
+        columns_reversed,
+        native_sm,
+        native_gd,
+        rows_reversed,
+    );
+    scan::gate_of_row(&mut gates[..], geometry);
+}
+
 // The LUT of every pixel.
 #[no_mangle]
 pub extern "C" fn proved_start(
@@ -70,12 +97,16 @@ pub extern "C" fn proved_start(
     height: u16,
     first_source: u16,
     columns_reversed: bool,
+    native_sm: bool,
+    native_gd: bool,
+    rows_reversed: bool,
     lines: u16,
     sm: bool,
+    gd: bool,
     options: u8,
 ) -> bool
     ensures { λ r. ⌜ r ≡ scannable (length (now (luts .entry))) (length (now (gates .entry))) (length (now (red .entry))) (length (now («black_white» .entry))) width height «first_source» ⌝ }
-    ensures { λ r. ⌜ now (luts .exit) ≡ pick r (tab (length (now (luts .entry))) (lutOf (now (gates .entry)) (now (red .entry)) (now («black_white» .entry)) (geometryOf width height «first_source» «columns_reversed») (scanOf lines sm options))) (now (luts .entry)) ⌝ }
+    ensures { λ r. ⌜ now (luts .exit) ≡ pick r (tab (length (now (luts .entry))) (lutOf (now (gates .entry)) (now (red .entry)) (now («black_white» .entry)) (geometryOf width height «first_source» «columns_reversed» «native_sm» «native_gd» «rows_reversed») (scanOf lines sm gd options))) (now (luts .entry)) ⌝ }
 {
     if asked::can_scan(
         luts.len(),
@@ -86,15 +117,23 @@ pub extern "C" fn proved_start(
         height,
         first_source,
     ) {
-        let geometry = made::geometry_of(width, height, first_source, columns_reversed);
-        let scan = made::scan_of(lines, sm, options);
+        let geometry = made::geometry_of(
+            width,
+            height,
+            first_source,
+            columns_reversed,
+            native_sm,
+            native_gd,
+            rows_reversed,
+        );
+        let scan = made::scan_of(lines, sm, gd, options);
         scan::start(&mut luts[..], gates, red, black_white, geometry, scan);
         return true;
     }
     false
 }
 
-// The end of a display: the border's state after it.
+// The end of a display: the border's state after it. The header is that of the image published.
 #[no_mangle]
 pub extern "C" fn proved_finish(
     states: &mut [i64],
@@ -105,27 +144,36 @@ pub extern "C" fn proved_finish(
     swing: i64,
     positive_drives_black: bool,
     register: u8,
+    partial: bool,
     border: i64,
+    width: u16,
+    height: u16,
+    generation: u64,
+    started: u64,
+    at: u64,
     cut: bool,
     until: u64,
+    header: &mut [u64; 8],
 ) -> i64
-    ensures { λ r. ⌜ shown r (now (states .exit)) (now (pixels .exit)) ≡ pick (finishable (now (periods .entry)) swing (length (now (states .entry))) (length (now (luts .entry))) (length (now (pixels .entry)))) (shownOf (finished (ending (displayOf (now (setting .entry)) register) «positive_drives_black» (now (periods .entry)) 0 (untilOf cut until)) (now (luts .entry)) (glass (panelOf swing border) (now (states .entry)) (now (pixels .entry))))) (shown border (now (states .entry)) (now (pixels .entry))) ⌝ }
+    ensures { λ r. ⌜ shown r (now (states .exit)) (now (pixels .exit)) (now (header .exit)) ≡ pick (finishable (now (periods .entry)) swing (length (now (states .entry))) (length (now (luts .entry))) (length (now (pixels .entry)))) (shownOf (finished (ending (displayOf (now (setting .entry)) register partial started) «positive_drives_black» (now (periods .entry)) at (untilOf cut until)) (now (luts .entry)) (glass (panelOf swing border width height generation) (now (states .entry)) (now (pixels .entry))))) (shown border (now (states .entry)) (now (pixels .entry)) (now (header .entry))) ⌝ }
 {
     if asked::can_finish(periods, swing, states.len(), luts.len(), pixels.len()) {
-        let panel = made::panel_of(swing, border);
-        let display = made::display_of(setting, register);
+        let panel = made::panel_of(swing, border, width, height, generation);
+        let display = made::display_of(setting, register, partial, started);
         let until = made::until_of(cut, until);
         let finished = panel::finish(
             panel,
             display,
             positive_drives_black,
             *periods,
-            0,
+            at,
             until,
             &mut states[..],
             luts,
             &mut pixels[..],
         );
+        let image = finished.image;
+        *header = made::header_of(image);
         return finished.border;
     }
     border

@@ -8,7 +8,7 @@ use device::Ssd1677;
 use panel::Display;
 
 // Whether the instant is before the deadline.
-fn is_pending(deadline: Deadline, time: u64) -> bool
+pub fn is_pending(deadline: Deadline, time: u64) -> bool
     ensures { λ r. ⌜ r ≡ pending deadline time ⌝ }
 {
     match deadline {

@@ -260,3 +260,7 @@ withCounter r newCounter =
       border = r .border;
       «read_ram_red» = r .«read_ram_red»;
     }
+
+-- what a byte of RAM data changes: the address counter and the bus
+abbrev pub withPointed : Ssd1677 → Counter → Bus → Ssd1677
+withPointed d newCounter newBus = withBus (withRegs d (withCounter (d .regs) newCounter)) newBus

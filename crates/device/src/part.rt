@@ -1,6 +1,6 @@
 // A state with one part put back.
 ghost use mathlib.Core.Path.{_≡_};
-ghost use Rattle.device.specs.Parts.{withNow, withConfig, withRegs, withBus, withStatus, withDisplay, withJournal, withGlass, withPowers, withWritten, withSlept, withActivated, withPower, withCurrent, withUntil, withLoaded, withCounter};
+ghost use Rattle.device.specs.Parts.{withNow, withConfig, withRegs, withBus, withStatus, withDisplay, withJournal, withGlass, withPowers, withWritten, withSlept, withActivated, withPower, withCurrent, withUntil, withLoaded, withCounter, withPointed};
 use crate::Bus;
 use crate::Current;
 use crate::Deadline;
@@ -204,5 +204,16 @@ pub fn set_counter(regs: Registers, counter: Counter) -> Registers
 {
     let mut next = regs;
     next.counter = counter;
+    next
+}
+
+// What a byte of RAM data changes: no other register is touched.
+pub fn set_pointed(state: Ssd1677, counter: Counter, bus: Bus) -> Ssd1677
+    ensures { λ r. ⌜ r ≡ withPointed state counter bus ⌝ }
+{
+    let mut next = state;
+    next.regs.counter.x = counter.x;
+    next.regs.counter.y = counter.y;
+    next.bus = bus;
     next
 }

@@ -1,2 +1,3 @@
 -- The laws of diagnostic that belong to no one function.
 pub mod Over
+pub mod Kept

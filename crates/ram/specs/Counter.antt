@@ -22,6 +22,11 @@ unfoldable pub stepOf : Bool → ℕ → ℕ → Next
 stepOf true at end = pick (ltb at end) (To (at + 1)) Past
 stepOf false at end = pick (ltb end at) (To (at - 1)) Past
 
+-- a step that is not there
+abbrev pub isPast : Next → Bool
+isPast (To next) = false
+isPast Past = true
+
 -- the counter's step in x, in bytes of eight pixels; ID0, bit 0 of the mode, says whether x increments (§8.2–8.5)
 abbrev pub byteStep : Counter → Window → Entry → Next
 byteStep c w e = stepOf (bitOf (e .0) 0) (c .x / 8) (w .«x_end» / 8)

@@ -7,11 +7,12 @@ ghost use mathlib.Core.Path.{_≡_};
 ghost use lib.ListN.{length};
 ghost use Rattle.numbers.specs.Choice.{bitOf};
 ghost use Rattle.numbers.specs.Lists.{tab};
-ghost use Rattle.ram.specs.Counter.{resetWindow, resetEntry, stepOf, between, withinOf, advancedOf};
+ghost use Rattle.ram.specs.Counter.{resetWindow, resetEntry, between, withinOf, advancedOf};
 ghost use Rattle.ram.specs.Plane.{planeOf, indexOf, readAt, wroteAt, writtenAt, bitAt};
 ghost use Rattle.ram.specs.Registers.{tenBits};
 
 mod auto;
+mod moves;
 
 pub use auto::auto_write;
 pub use config::RAM_GATES;
@@ -100,27 +101,11 @@ impl Entry {
     }
 }
 
-// Where one step along an axis leads.
+// Where one step along an axis leads, as the counter's definitions have it.
 pub enum Next {
     To(u16),
     // At or past the window's end.
     Past,
-}
-
-// One step along an axis, in units of that axis (bytes of X, rows of Y).
-fn step(at: u16, end: u16, increments: bool) -> Next
-    ensures { λ r. ⌜ r ≡ stepOf increments at end ⌝ }
-{
-    if increments {
-        if at < end {
-            return Next::To(at + 1);
-        }
-        return Next::Past;
-    }
-    if end < at {
-        return Next::To(at - 1);
-    }
-    Next::Past
 }
 
 // Whether `at` lies between `a` and `b`, whatever their order.
@@ -150,45 +135,30 @@ impl Counter {
         x & y
     }
 
-    // Where the counter goes after a byte of data, whatever the counter, window and mode.
+    // Where the counter goes after a byte of data, whatever the counter, window and mode. One axis moves, and the other only where
+    // the first is past its end; x and y come together once, so that no counter is put together and taken apart on each way.
     pub fn advanced(self, window: Window, entry: Entry) -> Counter
         ensures { λ r. ⌜ r ≡ advancedOf self window entry ⌝ }
     {
         let x_start = window.x_start;
-        let byte = step(self.x / 8, window.x_end / 8, entry.x_increments());
-        let row = step(self.y, window.y_end, entry.y_increments());
+        let mut x = self.x;
+        let mut y = self.y;
         if entry.y_first() {
-            match row {
-                Next::To(y) => Counter { x: self.x, y: y },
-                Next::Past => match byte {
-                    Next::To(column) => {
-                        let x = column * 8;
-                        Counter {
-                            x: x,
-                            y: window.y_start,
-                        }
-                    }
-                    Next::Past => Counter {
-                        x: x_start,
-                        y: window.y_start,
-                    },
-                },
+            if moves::is_past_y(self, window, entry) {
+                x = moves::x_or_start(self, window, entry);
+                y = window.y_start;
+            } else {
+                y = moves::next_y(self, window, entry);
             }
         } else {
-            match byte {
-                Next::To(column) => {
-                    let x = column * 8;
-                    Counter { x: x, y: self.y }
-                }
-                Next::Past => match row {
-                    Next::To(y) => Counter { x: x_start, y: y },
-                    Next::Past => Counter {
-                        x: x_start,
-                        y: window.y_start,
-                    },
-                },
+            if moves::is_past_x(self, window, entry) {
+                x = x_start;
+                y = moves::y_or_start(self, window, entry);
+            } else {
+                x = moves::next_x(self, window, entry);
             }
         }
+        Counter { x: x, y: y }
     }
 }
 

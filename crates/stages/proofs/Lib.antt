@@ -1,2 +1,3 @@
 -- The laws of stages that belong to no one function.
 pub mod Cases
+pub mod Kept

@@ -6,10 +6,10 @@ use lib.ListN.{length}
 use Rattle.numbers.proofs.Lin.{rd, back, field-back}
 use Rattle.panel.specs.declared.Panel.{Panel}
 use Rattle.panel.specs.Finish.{glass, ending, finished}
-use borrow.Author.Needs.{needs}
 use Rattle.bench.specs.Asked.{finishable}
 use Rattle.bench.specs.Made.{panelOf, shown, shownOf}
 use Rattle.bench.proofs.Passed.{gray-some, gray-long, finish-lasts, finish-grays, finish-luts}
+use borrow.Author.Needs.{needs}
 use Rattle.bench.proofs.proved_finish.Statement.{statement}
 use Rattle.bench.proofs.proved_finish.Tie as tie
 
@@ -42,6 +42,9 @@ finish-requires c κs =
       lasting = finish-lasts (a .periods .now) (rd (a .swing)) n l m e;
     }
 
+header-of-requires : tie.Need-header-of-requires
+header-of-requires c κs = search needs
+
 same-length : tie.Need-same-length
 same-length c = search needs
 
@@ -50,7 +53,7 @@ same-length-2 c = search needs
 
 returns : tie.Need-returns
 returns c =
-    let call = c .before .before .before .before in
+    let call = c .before .before .before .before .before .before in
     let until = call .before .before .before .before in
     let made = until .before .before in
     let test = made .before in
@@ -58,12 +61,12 @@ returns c =
     let a = s .args in
     let e = ap (λ (z : ℤ). finishable (a .periods .now) z (length (a .states .now)) (length (a .luts .now)) (length (a .pixels .now))) (sym (back (s .fits .swing)))
     ∙ sym (test .before .can-finish .ensures) ∙ test .if1 .taken in
-    let panel = made .panel-of .ensures ∙ (λ i. panelOf (back (s .fits .swing) i) (back (s .fits .border) i)) in
+    let panel = made .panel-of .ensures ∙ (λ i. panelOf (back (s .fits .swing) i) (back (s .fits .border) i) (a .width) (a .height) (a .generation)) in
     rw e
-    (ap (λ (z : ℤ). shown z (call .finish .last .1 .1 .1 .1 .1 .1 .0) (call .finish .last .1 .1 .1 .1 .1 .1 .1 .1 .0)) (field-back (call .finish .result .border) (c .struct-told .given .1 .0 .1))
+    ((λ i. shown (field-back (call .finish .result .border) (c .struct-told .given .1 .0 .1) i) (call .finish .last .1 .1 .1 .1 .1 .1 .0) (call .finish .last .1 .1 .1 .1 .1 .1 .1 .1 .0) (c .before .header-of .ensures i))
     ∙ ap shownOf
     (call .finish .ensures
-    ∙ (λ i. finished (ending (until .before .display-of .ensures i) (a .positive-drives-black) (a .periods .now) 0 (until .until-of .ensures i)) (a .luts .now) (glass (panel i) (a .states .now) (a .pixels .now)))))
+    ∙ (λ i. finished (ending (until .before .display-of .ensures i) (a .positive-drives-black) (a .periods .now) (a .at) (until .until-of .ensures i)) (a .luts .now) (glass (panel i) (a .states .now) (a .pixels .now)))))
 
 returns-2 : tie.Need-returns-2
 returns-2 c =
@@ -71,7 +74,19 @@ returns-2 c =
     let a = s .args in
     let e = ap (λ (z : ℤ). finishable (a .periods .now) z (length (a .states .now)) (length (a .luts .now)) (length (a .pixels .now))) (sym (back (s .fits .swing)))
     ∙ sym (c .before .can-finish .ensures) ∙ c .if1 .left in
-    rw e (ap (λ (z : ℤ). shown z (a .states .now) (a .pixels .now)) (back (s .fits .border)))
+    rw e (ap (λ (z : ℤ). shown z (a .states .now) (a .pixels .now) (a .header .now)) (back (s .fits .border)))
 
 pub proved-finish-spec : {M : Type 1} → statement M
-proved-finish-spec = tie.close (tie.spec can-finish-requires panel-of-requires display-of-requires until-of-requires finish-requires same-length same-length-2 returns returns-2)
+proved-finish-spec =
+    tie.close
+    (tie.spec
+    can-finish-requires
+    panel-of-requires
+    display-of-requires
+    until-of-requires
+    finish-requires
+    header-of-requires
+    same-length
+    same-length-2
+    returns
+    returns-2)

@@ -22,7 +22,7 @@ start-requires c κs =
     let test = c .before .before .before in
     let a = test .before .before .before .before .before .before .args in
     scan-asked (length (a .luts .now)) (length (a .gates .now)) (length (a .red .now)) (length (a .black-white .now)) (a .width) (a .height) (a .first-source)
-    (a .columns-reversed) (c .before .before .geometry-of .result) (c .before .before .geometry-of .ensures)
+    (a .columns-reversed) (a .native-sm) (a .native-gd) (a .rows-reversed) (c .before .before .geometry-of .result) (c .before .before .geometry-of .ensures)
     (sym (test .before .can-scan .ensures) ∙ test .if1 .taken)
 
 same-length : tie.Need-same-length

@@ -1,0 +1,2 @@
+-- The root of begin's specs.
+pub mod Begin

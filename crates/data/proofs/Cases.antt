@@ -1,0 +1,181 @@
+-- What each return of the code hands over, over plain variables. Assumes nothing.
+use Prim.Native.Nat.{ℕ, _≤_, _<_}
+use mathlib.Core.Path.{_≡_, refl, sym, subst}
+use mathlib.Core.Bool.{Bool, true, false}
+use mathlib.Core.List.{List}
+use lib.Seq.{set-out}
+use borrow.Author.Tests.{lt-ltb, le-ltb, eq-eqb, ne-eqb, ltb-false}
+use Rattle.numbers.specs.Choice.{pick}
+use Rattle.ram.specs.declared.Counter.{Counter}
+use Rattle.ram.specs.declared.Place.{Place}
+use Rattle.ram.specs.declared.Place.the-variants.{At, Outside}
+use Rattle.ram.specs.Plane.{indexOf, isThere, putAt, wroteAt, writtenAt}
+use Rattle.ram.specs.Counter.{advancedOf}
+use Rattle.diagnostic.specs.declared.DiagnosticKind.the-variants.{DataWithoutCommand, ExtraData, RamOutOfRange}
+use Rattle.device.specs.declared.Active.{Active}
+use Rattle.device.specs.declared.Bus.{Bus}
+use Rattle.device.specs.declared.Current.{Current}
+use Rattle.device.specs.declared.Current.the-variants as current
+use Rattle.device.specs.declared.Kind.{Kind}
+use Rattle.device.specs.declared.Kind.the-variants.{Write, Read, Unsupported, Reserved}
+use Rattle.device.specs.declared.Params.{Params}
+use Rattle.device.specs.declared.Params.the-variants.{Exactly, Between, Stream}
+use Rattle.device.specs.declared.Power.{Power}
+use Rattle.device.specs.declared.Power.the-variants.{Running, Asleep, InReset}
+use Rattle.device.specs.declared.Ssd1677.{Ssd1677}
+use Rattle.device.specs.Parts.{withBus, withCurrent, withPointed}
+use Rattle.chip.specs.Close.{WithLog, withLog}
+use Rattle.chip.specs.Report.{logged}
+use Rattle.parameter.specs.Ram.{WithRam, withRam, onDevice}
+use Rattle.parameter.specs.Parameter.{parameterTaken}
+use Rattle.data.specs.Data.{counted, made, going, surplus, upTo, stepped, outOfRange, ramWritten, byKind, unasked, dataTaken}
+
+pub goes-on : (d r : Ssd1677) (a b : Active) (bus : Bus) → b ≡ a → bus ≡ withCurrent (d .bus) (current.Active b) → r ≡ withBus d bus
+    → r ≡ made (current.Active a) d
+goes-on d r a b bus e₁ e₂ e₃ = rw (e₃, e₂, e₁)
+
+module _ (a : Active) (w : WithRam) where
+  pub is-surplus : (k : WithLog) (r : Ssd1677)
+      → k ≡ pick (a .«extra_reported») (withLog (w .device) (w .log)) (logged (ExtraData (a .command)) (withLog (w .device) (w .log)))
+      → r ≡ made (current.Active (counted a true (a .«range_reported»))) (k .device) → withRam r (w .blackWhite) (w .red) (k .log) ≡ surplus a w
+  unfolding surplus
+  is-surplus k r e f = by (a .«extra_reported») e
+    where
+      by : (b : Bool) → k ≡ pick b (withLog (w .device) (w .log)) (logged (ExtraData (a .command)) (withLog (w .device) (w .log)))
+          → withRam r (w .blackWhite) (w .red) (k .log)
+          ≡ going a true (a .«range_reported»)
+          (pick b w
+          (withRam
+          (logged (ExtraData (a .command)) (withLog (w .device) (w .log)) .device)
+          (w .blackWhite)
+          (w .red)
+          (logged (ExtraData (a .command)) (withLog (w .device) (w .log)) .log)))
+      by true e = rw (f, e)
+      by false e = rw (f, e)
+
+  pub takes : (most byte : ℕ) (t : WithRam) (r : Ssd1677) → a .received < most → t ≡ parameterTaken (a .command) (a .received) byte w
+      → r ≡ made (current.Active (counted a (a .«extra_reported») (a .«range_reported»))) (t .device)
+      → withRam r (t .blackWhite) (t .red) (t .log) ≡ upTo most byte a w
+  unfolding upTo
+  takes most byte t r h e f = rw (lt-ltb (a .received) most h, f, e)
+
+  pub takes-not : (most byte : ℕ) (z : WithRam) → most ≤ a .received → z ≡ surplus a w → z ≡ upTo most byte a w
+  unfolding upTo
+  takes-not most byte z h e = rw (le-ltb (a .received) most h) e
+
+  pub past : a .«range_reported» ≡ true → w ≡ outOfRange a w
+  unfolding outOfRange
+  past h = rw h
+
+  pub past-first : (k : WithLog) → a .«range_reported» ≡ false
+      → k ≡ logged (RamOutOfRange (a .command) (w .device .regs .counter .x) (w .device .regs .counter .y)) (withLog (w .device) (w .log))
+      → withRam (k .device) (w .blackWhite) (w .red) (k .log) ≡ outOfRange a w
+  unfolding outOfRange
+  past-first k h e = rw (h, e)
+
+  pub steps-outside : (v : WithRam) (r : Ssd1677) → v ≡ outOfRange a w
+      → r ≡ made (current.Active (counted a (a .«extra_reported») true)) (stepped (v .device))
+      → withRam r (v .blackWhite) (v .red) (v .log) ≡ going a (a .«extra_reported») true (onDevice stepped (outOfRange a w))
+  steps-outside v r e f = rw (f, e)
+
+pub steps : (d r : Ssd1677) (c : Counter) (a b : Active) (bus : Bus) → c ≡ advancedOf (d .regs .counter) (d .regs .window) (d .regs .entry) → b ≡ a
+    → bus ≡ withCurrent (d .bus) (current.Active b) → r ≡ withPointed d c bus → r ≡ made (current.Active a) (stepped d)
+steps d r c a b bus e₁ e₂ e₃ e₄ = rw (e₄, e₃, e₂, e₁)
+
+-- a write that does not find its byte leaves the plane
+pub untouched : (p : List ℕ) (c : Counter) (byte : ℕ) → wroteAt p c ≡ false → writtenAt p c byte ≡ p
+unfolding wroteAt writtenAt
+untouched p c byte h = by (indexOf c) h
+  where
+    by : (q : Place) → isThere p q ≡ false → putAt p q byte ≡ p
+    by (At i) h = set-out p i byte (ltb-false i _ h)
+    by Outside h = refl
+
+module _ (byte : ℕ) (a : Active) (w : WithRam) (wrote : Bool) (plane : List ℕ) where
+  module _ (is : a .command ≡ 0x24) (found : wrote ≡ wroteAt (w .blackWhite) (w .device .regs .counter))
+      (put : plane ≡ writtenAt (w .blackWhite) (w .device .regs .counter) byte) where
+    pub puts-black-white : (r : Ssd1677) → wrote ≡ true → r ≡ made (current.Active (counted a (a .«extra_reported») (a .«range_reported»))) (stepped (w .device))
+        → withRam r plane (w .red) (w .log) ≡ ramWritten byte a w
+    unfolding ramWritten
+    puts-black-white r h e = rw (eq-eqb (a .command) 0x24 is, ← found, h, e, put)
+
+    pub misses-black-white : (r : Ssd1677) (l : List ℕ) → wrote ≡ false
+        → withRam r plane (w .red) l ≡ going a (a .«extra_reported») true (onDevice stepped (outOfRange a (withRam (w .device) plane (w .red) (w .log))))
+        → withRam r plane (w .red) l ≡ ramWritten byte a w
+    unfolding ramWritten
+    misses-black-white r l h e =
+        let same : plane ≡ w .blackWhite = rw (put, untouched (w .blackWhite) (w .device .regs .counter) byte (rw (← found) h)) in
+        rw (eq-eqb (a .command) 0x24 is, ← found, h, e, same)
+
+  module _ (is : a .command ≡ 0x24 → ⊥) (found : wrote ≡ wroteAt (w .red) (w .device .regs .counter))
+      (put : plane ≡ writtenAt (w .red) (w .device .regs .counter) byte) where
+    pub puts-red : (r : Ssd1677) → wrote ≡ true → r ≡ made (current.Active (counted a (a .«extra_reported») (a .«range_reported»))) (stepped (w .device))
+        → withRam r (w .blackWhite) plane (w .log) ≡ ramWritten byte a w
+    unfolding ramWritten
+    puts-red r h e = rw (ne-eqb (a .command) 0x24 is, ← found, h, e, put)
+
+    pub misses-red : (r : Ssd1677) (l : List ℕ) → wrote ≡ false
+        → withRam r (w .blackWhite) plane l ≡ going a (a .«extra_reported») true (onDevice stepped (outOfRange a (withRam (w .device) (w .blackWhite) plane (w .log))))
+        → withRam r (w .blackWhite) plane l ≡ ramWritten byte a w
+    unfolding ramWritten
+    misses-red r l h e =
+        let same : plane ≡ w .red = rw (put, untouched (w .red) (w .device .regs .counter) byte (rw (← found) h)) in
+        rw (ne-eqb (a .command) 0x24 is, ← found, h, e, same)
+
+module _ (byte : ℕ) (w : WithRam) (p : Power) where
+  pub reports-unasked : (k : WithLog) → p ≡ Running → k ≡ logged (DataWithoutCommand byte) (withLog (w .device) (w .log))
+      → withRam (k .device) (w .blackWhite) (w .red) (k .log) ≡ unasked byte w p
+  unfolding unasked
+  reports-unasked k h e = rw (h, e)
+
+  pub sleeps : p ≡ Asleep → w ≡ unasked byte w p
+  unfolding unasked
+  sleeps h = rw h
+
+  pub resets : p ≡ InReset → w ≡ unasked byte w p
+  unfolding unasked
+  resets h = rw h
+
+pub ignores : (byte : ℕ) (w v : WithRam) (bus : Bus) (r : Ssd1677) → v ≡ unasked byte w (w .device .bus .power)
+    → bus ≡ withCurrent (v .device .bus) current.Ignoring → r ≡ withBus (v .device) bus
+    → withRam r (v .blackWhite) (v .red) (v .log) ≡ dataTaken byte w current.Idle
+unfolding dataTaken
+ignores byte w v bus r e₁ e₂ e₃ = rw (e₃, e₂, e₁)
+
+module _ (byte : ℕ) (w z : WithRam) (c : Current) where
+  pub is-unasked : c ≡ current.Idle → z ≡ dataTaken byte w current.Idle → z ≡ dataTaken byte w c
+  is-unasked h e = rw h e
+
+  pub is-ignored : c ≡ current.Ignoring → w ≡ dataTaken byte w c
+  unfolding dataTaken
+  is-ignored h = rw h
+
+  module _ (a : Active) (is : c ≡ current.Active a) where
+    by-kind : (k : Kind) → a .kind ≡ k → z ≡ byKind byte a w k → z ≡ dataTaken byte w c
+    unfolding dataTaken
+    by-kind k h e = rw is (subst (λ (x : Kind). z ≡ byKind byte a w x) (sym h) e)
+
+    pub is-read : a .kind ≡ Read → z ≡ surplus a w → z ≡ dataTaken byte w c
+    unfolding byKind
+    is-read h e = by-kind Read h e
+
+    pub is-unsupported : a .kind ≡ Unsupported → z ≡ surplus a w → z ≡ dataTaken byte w c
+    unfolding byKind
+    is-unsupported h e = by-kind Unsupported h e
+
+    pub is-reserved : a .kind ≡ Reserved → z ≡ surplus a w → z ≡ dataTaken byte w c
+    unfolding byKind
+    is-reserved h e = by-kind Reserved h e
+
+    module _ (p : Params) (writes : a .kind ≡ Write p) where
+      pub is-stream : p ≡ Stream → z ≡ ramWritten byte a w → z ≡ dataTaken byte w c
+      unfolding byKind
+      is-stream h e = by-kind (Write p) writes (rw h e)
+
+      pub is-exact : (most : ℕ) → p ≡ Exactly most → z ≡ upTo most byte a w → z ≡ dataTaken byte w c
+      unfolding byKind
+      is-exact most h e = by-kind (Write p) writes (rw h e)
+
+      pub is-between : (least most : ℕ) → p ≡ Between least most → z ≡ upTo most byte a w → z ≡ dataTaken byte w c
+      unfolding byKind
+      is-between least most h e = by-kind (Write p) writes (rw h e)

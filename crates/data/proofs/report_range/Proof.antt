@@ -1,0 +1,21 @@
+-- `data::report_range` meets its contract.
+use Rattle.data.proofs.Cases.{past, past-first}
+use Rattle.parameter.specs.Ram.{WithRam, withRam}
+use borrow.Author.Needs.{needs}
+use Rattle.data.proofs.report_range.Statement.{statement}
+use Rattle.data.proofs.report_range.Tie as tie
+
+returns : tie.Need-returns
+returns c = λ b d. past (c .before .before .args .active) (withRam (c .before .before .args .state) b d (c .before .before .args .log .now)) (c .if1 .taken)
+
+report-requires : tie.Need-report-requires
+report-requires c κs = search needs
+
+same-length : tie.Need-same-length
+same-length c = search needs
+
+returns-2 : tie.Need-returns-2
+returns-2 c = λ b d. past-first (c .before .before .before .before .before .before .before .args .active) (withRam (c .before .before .before .before .before .before .before .args .state) b d (c .before .before .before .before .before .before .before .args .log .now)) _ (c .before .before .before .before .before .if1 .left) (c .before .before .report .ensures)
+
+pub report-range-spec : {M : Type 1} → statement M
+report-range-spec = tie.close (tie.spec returns report-requires same-length returns-2)

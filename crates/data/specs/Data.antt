@@ -1,0 +1,109 @@
+-- A data byte, once the clock has moved (mod.rs, `write_data` and `write_ram`).
+use Prim.Native.Nat.{ℕ, _+_, min}
+use mathlib.Core.Bool.{Bool, true, false, _||_, not}
+use mathlib.Core.List.{List}
+use lib.Dec.{eqb, ltb}
+use Rattle.numbers.specs.Choice.{pick}
+use Rattle.numbers.specs.Saturation.{largest}
+use Rattle.ram.specs.declared.Plane.{Plane}
+use Rattle.ram.specs.declared.Plane.the-variants.{BlackWhite, Red}
+use Rattle.ram.specs.Counter.{advancedOf}
+use Rattle.ram.specs.Plane.{planeOf, wroteAt, writtenAt}
+use Rattle.diagnostic.specs.declared.DiagnosticKind.the-variants.{DataWithoutCommand, ExtraData, RamOutOfRange}
+use Rattle.device.specs.declared.Active.{Active}
+use Rattle.device.specs.declared.Current.{Current}
+use Rattle.device.specs.declared.Current.the-variants as current
+use Rattle.device.specs.declared.Kind.{Kind}
+use Rattle.device.specs.declared.Kind.the-variants.{Write, Read, Unsupported, Reserved}
+use Rattle.device.specs.declared.Params.the-variants.{Exactly, Between, Stream}
+use Rattle.device.specs.declared.Power.{Power}
+use Rattle.device.specs.declared.Power.the-variants.{Running, Asleep, InReset}
+use Rattle.device.specs.declared.Ssd1677.{Ssd1677}
+use Rattle.device.specs.Parts.{withBus, withCurrent, withCounter, withRegs}
+use Rattle.chip.specs.Report.{logged}
+use Rattle.parameter.specs.Ram.{WithRam, withRam, onDevice, onLog}
+use Rattle.parameter.specs.Parameter.{parameterTaken}
+
+-- the command with one byte more, the count stopping at 65,535 (document 01), and what it has reported
+abbrev pub counted : Active → Bool → Bool → Active
+counted a extra range =
+    record {
+      command = a .command;
+      kind = a .kind;
+      received = min (a .received + 1) (largest 16);
+      read = a .read;
+      «extra_reported» = extra;
+      «range_reported» = range;
+      «nothing_reported» = a .«nothing_reported»;
+    }
+
+-- the current command
+abbrev pub made : Current → Ssd1677 → Ssd1677
+made c d = withBus d (withCurrent (d .bus) c)
+
+-- a command that a byte more has come to
+abbrev pub going : Active → Bool → Bool → WithRam → WithRam
+going a extra range w = onDevice (made (current.Active (counted a extra range))) w
+
+-- 25 for more bytes than the command takes, once a command
+unfoldable pub surplus : Active → WithRam → WithRam
+surplus a w =
+    going a true (a .«range_reported») (pick (a .«extra_reported») w (onLog (logged (ExtraData (a .command))) w))
+
+-- a byte of a command that takes so many at most
+unfoldable pub upTo : ℕ → ℕ → Active → WithRam → WithRam
+upTo most byte a w =
+    pick (ltb (a .received) most)
+    (going a (a .«extra_reported») (a .«range_reported») (parameterTaken (a .command) (a .received) byte w))
+    (surplus a w)
+
+-- 0x24 writes the black-white plane, 0x26 the red one
+abbrev pub planeFor : ℕ → Plane
+planeFor command = pick (eqb command 0x24) BlackWhite Red
+
+-- a byte written at the counter of a plane
+abbrev pub put : Plane → ℕ → WithRam → WithRam
+put BlackWhite byte w = withRam (w .device) (writtenAt (w .blackWhite) (w .device .regs .counter) byte) (w .red) (w .log)
+put Red byte w = withRam (w .device) (w .blackWhite) (writtenAt (w .red) (w .device .regs .counter) byte) (w .log)
+
+-- the plane has the counter's byte
+abbrev pub isInside : Plane → WithRam → Bool
+isInside plane w = wroteAt (planeOf (w .blackWhite) (w .red) plane) (w .device .regs .counter)
+
+-- the counter steps, by the window and the data-entry mode
+abbrev pub stepped : Ssd1677 → Ssd1677
+stepped d = withRegs d (withCounter (d .regs) (advancedOf (d .regs .counter) (d .regs .window) (d .regs .entry)))
+
+-- 31 past the RAM, once a command
+unfoldable pub outOfRange : Active → WithRam → WithRam
+outOfRange a w =
+    pick (a .«range_reported») w
+    (onLog (logged (RamOutOfRange (a .command) (w .device .regs .counter .x) (w .device .regs .counter .y))) w)
+
+-- a byte of 0x24 or 0x26: put at the counter, or 31; the counter steps in either case
+unfoldable pub ramWritten : ℕ → Active → WithRam → WithRam
+ramWritten byte a w =
+    pick (isInside (planeFor (a .command)) w)
+    (going a (a .«extra_reported») (a .«range_reported») (onDevice stepped (put (planeFor (a .command)) byte w)))
+    (going a (a .«extra_reported») true (onDevice stepped (outOfRange a w)))
+
+-- by what the active command is
+unfoldable pub byKind : ℕ → Active → WithRam → Kind → WithRam
+byKind byte a w (Write (Exactly count)) = upTo count byte a w
+byKind byte a w (Write (Between least most)) = upTo most byte a w
+byKind byte a w (Write Stream) = ramWritten byte a w
+byKind byte a w Read = surplus a w
+byKind byte a w Unsupported = surplus a w
+byKind byte a w Reserved = surplus a w
+
+-- 24 for a byte with no command before it, of a chip that runs
+unfoldable pub unasked : ℕ → WithRam → Power → WithRam
+unasked byte w Running = onLog (logged (DataWithoutCommand byte)) w
+unasked byte w Asleep = w
+unasked byte w InReset = w
+
+-- by the command that the byte belongs to; 24 comes once, since later bytes are ignored
+unfoldable pub dataTaken : ℕ → WithRam → Current → WithRam
+dataTaken byte w current.Idle = onDevice (made current.Ignoring) (unasked byte w (w .device .bus .power))
+dataTaken byte w current.Ignoring = w
+dataTaken byte w (current.Active a) = byKind byte a w (a .kind)

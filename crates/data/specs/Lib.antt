@@ -1,0 +1,2 @@
+-- The root of data's specs.
+pub mod Data

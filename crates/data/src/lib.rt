@@ -1,0 +1,217 @@
+// A data byte, once the clock has moved (mod.rs, `write_data` and `write_ram`).
+ghost use mathlib.Core.Path.{_≡_};
+ghost use mathlib.Core.Bool.{true};
+ghost use mathlib.Core.List.{List};
+ghost use Prim.Native.Nat.{ℕ};
+ghost use lib.ListN.{length};
+ghost use Rattle.device.specs.declared.Current.the-variants as current;
+ghost use Rattle.numbers.specs.Choice.{pick};
+ghost use Rattle.diagnostic.specs.declared.DiagnosticKind.the-variants.{ExtraData};
+ghost use Rattle.chip.specs.Close.{withLog};
+ghost use Rattle.chip.specs.Report.{logged};
+ghost use Rattle.parameter.specs.Ram.{withRam, onDevice};
+ghost use Rattle.data.specs.Data.{counted, made, going, surplus, upTo, stepped, outOfRange, ramWritten, unasked, dataTaken};
+use device::Active;
+use device::Current;
+use device::Kind;
+use device::Params;
+use device::Power;
+use device::Ssd1677;
+use device::part;
+use diagnostic::DiagnosticKind;
+
+// The command with one byte more, and what it has reported.
+fn count(active: Active, extra: bool, range: bool) -> Active
+    ensures { λ r. ⌜ r ≡ counted active extra range ⌝ }
+{
+    let received = numbers::saturating_add_u16(active.received, 1);
+    let mut next = active;
+    next.received = received;
+    next.extra_reported = extra;
+    next.range_reported = range;
+    next
+}
+
+// The command stays the current one, with a byte more.
+fn go_on(state: Ssd1677, active: Active, extra: bool, range: bool) -> Ssd1677
+    ensures { λ r. ⌜ r ≡ made (current.Active (counted active extra range)) state ⌝ }
+{
+    let next = count(active, extra, range);
+    let bus = part::set_current(state.bus, Current::Active(next));
+    part::set_bus(state, bus)
+}
+
+// 25, unless the command has reported it.
+fn report_extra(state: Ssd1677, log: &mut [u8], active: Active) -> Ssd1677
+    requires { ⌜ length (now log) ≡ 16384 ⌝ }
+    ensures { λ r. ⌜ withLog r (now (log .exit)) ≡ pick (active .«extra_reported») (withLog state (now (log .entry))) (logged (ExtraData (active .command)) (withLog state (now (log .entry)))) ⌝ }
+{
+    if active.extra_reported {
+        return state;
+    }
+    let command = active.command;
+    chip::report(state, log, DiagnosticKind::ExtraData { command })
+}
+
+// More bytes than the command takes, whatever the planes.
+fn take_surplus(state: Ssd1677, log: &mut [u8], active: Active) -> Ssd1677
+    requires { ⌜ length (now log) ≡ 16384 ⌝ }
+    ensures { λ r. ⌜ ((b d : List ℕ) → withRam r b d (now (log .exit)) ≡ surplus active (withRam state b d (now (log .entry)))) ⌝ }
+{
+    let noted = report_extra(state, log, active);
+    go_on(noted, active, true, active.range_reported)
+}
+
+// A byte of a command that takes `most` at most.
+fn up_to(
+    state: Ssd1677,
+    black_white: &mut [u8],
+    red: &mut [u8],
+    log: &mut [u8],
+    active: Active,
+    most: u16,
+    byte: u8,
+) -> Ssd1677
+    requires { ⌜ length (now log) ≡ 16384 ⌝ }
+    ensures { λ r. ⌜ withRam r (now («black_white» .exit)) (now (red .exit)) (now (log .exit)) ≡ upTo most byte active (withRam state (now («black_white» .entry)) (now (red .entry)) (now (log .entry))) ⌝ }
+{
+    let index = active.received;
+    if index < most {
+        let command = active.command;
+        let taken = parameter::parameter(state, black_white, red, log, command, index, byte);
+        return go_on(taken, active, active.extra_reported, active.range_reported);
+    }
+    take_surplus(state, log, active)
+}
+
+// The counter steps. Only the counter and the bus are stored, since a frame is 48,000 such bytes.
+fn step(state: Ssd1677, active: Active, range: bool) -> Ssd1677
+    ensures { λ r. ⌜ r ≡ made (current.Active (counted active (active .«extra_reported») range)) (stepped state) ⌝ }
+{
+    let at = state.regs.counter;
+    let window = state.regs.window;
+    let entry = state.regs.entry;
+    let counter = at.advanced(window, entry);
+    let next = count(active, active.extra_reported, range);
+    let bus = part::set_current(state.bus, Current::Active(next));
+    part::set_pointed(state, counter, bus)
+}
+
+// 31, unless the command has reported it, whatever the planes.
+fn report_range(state: Ssd1677, log: &mut [u8], active: Active) -> Ssd1677
+    requires { ⌜ length (now log) ≡ 16384 ⌝ }
+    ensures { λ r. ⌜ ((b d : List ℕ) → withRam r b d (now (log .exit)) ≡ outOfRange active (withRam state b d (now (log .entry)))) ⌝ }
+{
+    if active.range_reported {
+        return state;
+    }
+    let command = active.command;
+    let at = state.regs.counter;
+    chip::report(
+        state,
+        log,
+        DiagnosticKind::RamOutOfRange {
+            command,
+            x: at.x,
+            y: at.y,
+        },
+    )
+}
+
+// Past the RAM the counter steps all the same.
+fn step_outside(state: Ssd1677, log: &mut [u8], active: Active) -> Ssd1677
+    requires { ⌜ length (now log) ≡ 16384 ⌝ }
+    ensures { λ r. ⌜ ((b d : List ℕ) → withRam r b d (now (log .exit)) ≡ going active (active .«extra_reported») true (onDevice stepped (outOfRange active (withRam state b d (now (log .entry)))))) ⌝ }
+{
+    let noted = report_range(state, log, active);
+    step(noted, active, true)
+}
+
+// A data byte of 0x24 or 0x26, at the counter.
+fn write_ram(
+    state: Ssd1677,
+    black_white: &mut [u8],
+    red: &mut [u8],
+    log: &mut [u8],
+    active: Active,
+    byte: u8,
+) -> Ssd1677
+    requires { ⌜ length (now log) ≡ 16384 ⌝ }
+    ensures { λ r. ⌜ withRam r (now («black_white» .exit)) (now (red .exit)) (now (log .exit)) ≡ ramWritten byte active (withRam state (now («black_white» .entry)) (now (red .entry)) (now (log .entry))) ⌝ }
+{
+    let at = state.regs.counter;
+    if active.command == 0x24 {
+        if ram::write(black_white, at, byte) {
+            return step(state, active, active.range_reported);
+        }
+        return step_outside(state, log, active);
+    }
+    if ram::write(red, at, byte) {
+        return step(state, active, active.range_reported);
+    }
+    step_outside(state, log, active)
+}
+
+// 24 for a byte with no command before it, of a chip that runs, whatever the planes.
+fn report_unasked(state: Ssd1677, log: &mut [u8], byte: u8) -> Ssd1677
+    requires { ⌜ length (now log) ≡ 16384 ⌝ }
+    ensures { λ r. ⌜ ((b d : List ℕ) → withRam r b d (now (log .exit)) ≡ unasked byte (withRam state b d (now (log .entry))) (state .bus .power)) ⌝ }
+{
+    let old = state.bus;
+    let power = old.power;
+    match power {
+        Power::Running => chip::report(
+            state,
+            log,
+            DiagnosticKind::DataWithoutCommand { data: byte },
+        ),
+        Power::Asleep => state,
+        Power::InReset => state,
+    }
+}
+
+// No command is current, and later bytes are ignored.
+fn take_unasked(state: Ssd1677, log: &mut [u8], byte: u8) -> Ssd1677
+    requires { ⌜ length (now log) ≡ 16384 ⌝ }
+    ensures { λ r. ⌜ ((b d : List ℕ) → withRam r b d (now (log .exit)) ≡ dataTaken byte (withRam state b d (now (log .entry))) current.Idle) ⌝ }
+{
+    let noted = report_unasked(state, log, byte);
+    let bus = part::set_current(noted.bus, Current::Ignoring);
+    part::set_bus(noted, bus)
+}
+
+// A byte with D/C# high, written by the MCU.
+pub fn write(
+    state: Ssd1677,
+    black_white: &mut [u8],
+    red: &mut [u8],
+    log: &mut [u8],
+    byte: u8,
+) -> Ssd1677
+    requires { ⌜ length (now log) ≡ 16384 ⌝ }
+    ensures { λ r. ⌜ withRam r (now («black_white» .exit)) (now (red .exit)) (now (log .exit)) ≡ dataTaken byte (withRam state (now («black_white» .entry)) (now (red .entry)) (now (log .entry))) (state .bus .current) ⌝ }
+{
+    let bus = state.bus;
+    let current = bus.current;
+    match current {
+        Current::Active(active) => {
+            let kind = active.kind;
+            match kind {
+                Kind::Write(params) => match params {
+                    Params::Stream => write_ram(state, black_white, red, log, active, byte),
+                    Params::Exactly(count) => {
+                        up_to(state, black_white, red, log, active, count, byte)
+                    }
+                    Params::Between(_, most) => {
+                        up_to(state, black_white, red, log, active, most, byte)
+                    }
+                },
+                Kind::Read => take_surplus(state, log, active),
+                Kind::Unsupported => take_surplus(state, log, active),
+                Kind::Reserved => take_surplus(state, log, active),
+            }
+        }
+        Current::Idle => take_unasked(state, log, byte),
+        Current::Ignoring => state,
+    }
+}

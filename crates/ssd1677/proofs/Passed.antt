@@ -1,0 +1,59 @@
+-- What a call that is accepted has: what its callees ask. Assumes nothing.
+use Prim.Native.Nat.{ℕ}
+use mathlib.Core.Path.{_≡_, refl, sym, ap, _∙_}
+use mathlib.Core.Bool.{Bool, true, false}
+use mathlib.Core.List.{List}
+use native.Mathlib.Omega.{arith}
+use lib.IntN.{ℤ}
+use lib.ListN.{length}
+use Rattle.chip.specs.Advance.{Ready}
+use Rattle.device.specs.declared.Ssd1677.{Ssd1677}
+use Rattle.guard.specs.declared.lengths.Lengths.{Lengths}
+use Rattle.guard.specs.declared.lengths.Lent.{Lent}
+use Rattle.guard.specs.declared.lengths.Lent.the-variants.{Of}
+use Rattle.guard.specs.declared.Refusal.{Refusal}
+use Rattle.guard.specs.declared.Refusal.the-variants.{Accepted, Buffer, Table, State}
+use Rattle.guard.specs.Lengths.{lengthsFit, lengthsOf}
+use Rattle.guard.specs.State.{stateFine}
+use Rattle.guard.specs.Refusals.{accepts, guarded, guardedWithTable}
+use Rattle.guard.proofs.Accepted.{accepted-state, accepted-lengths, table-state, table-lengths, fine-state, fine-lengths}
+
+never : false ≡ true → ⊥
+never e = let z : _≡_ {A = ℕ} 0 1 = cc in omega arith
+
+pub only-accepted : (r : Refusal) → accepts r ≡ true → r ≡ Accepted
+only-accepted Accepted e = refl
+only-accepted Buffer e = absurd (never e)
+only-accepted Table e = absurd (never e)
+only-accepted State e = absurd (never e)
+
+module _ (d : Ssd1677) (states : List ℤ) (luts pixels : List ℕ) (log black red gates : Lent)
+    (fine : stateFine d ≡ true)
+    (fit : lengthsFit (d .config .panel) (lengthsOf (length states) (length luts) (length pixels) log black red gates) ≡ true) where
+  abbrev lengths : Lengths
+  lengths = lengthsOf (length states) (length luts) (length pixels) log black red gates
+
+  -- what finishing a display asks
+  pub ready-fine : Ready d states luts pixels
+  ready-fine =
+      let f = fine-state d fine in
+      let g = fine-lengths (d .config .panel) lengths fit in
+      record { luts-long = g .luts ∙ sym (g .states); pixels-long = g .pixels ∙ sym (g .states); some = f .swing; lasting = f .periods }
+
+  -- the log has its length
+  pub log-fine : (n : ℕ) → log ≡ Of n → n ≡ 16384
+  log-fine n e = fine-lengths (d .config .panel) lengths fit .log n e
+
+module _ (d : Ssd1677) (l : Lengths) (r : Refusal) (b : Bool) (is : r ≡ guarded d l) (t : b ≡ accepts r) (h : b ≡ true) where
+  pub state-passed : stateFine d ≡ true
+  state-passed = accepted-state d l (sym is ∙ only-accepted r (sym t ∙ h))
+
+  pub lengths-passed : lengthsFit (d .config .panel) l ≡ true
+  lengths-passed = accepted-lengths d l (sym is ∙ only-accepted r (sym t ∙ h))
+
+module _ (d : Ssd1677) (l : Lengths) (otp : List ℕ) (r : Refusal) (b : Bool) (is : r ≡ guardedWithTable d l otp) (t : b ≡ accepts r) (h : b ≡ true) where
+  pub table-state-passed : stateFine d ≡ true
+  table-state-passed = table-state d l otp (sym is ∙ only-accepted r (sym t ∙ h))
+
+  pub table-lengths-passed : lengthsFit (d .config .panel) l ≡ true
+  table-lengths-passed = table-lengths d l otp (sym is ∙ only-accepted r (sym t ∙ h))

@@ -1,0 +1,24 @@
+-- The calls that move the clock and the reset line (mod.rs, `advance` and `set_reset`): refused, or done in the order of the Rust.
+use Prim.Native.Nat.{ℕ}
+use mathlib.Core.Bool.{Bool}
+use mathlib.Core.List.{List}
+use lib.ListN.{length}
+use Rattle.chip.specs.Advance.{WithGlass, advanced}
+use Rattle.reset.specs.Reset.{WithGlassLog, onGlass, byLine}
+use Rattle.guard.specs.Lengths.{glassLent, glassLogLent}
+use Rattle.guard.specs.Refusals.{guarded}
+use Rattle.query.specs.Outcome.{Outcome, unless}
+
+-- advance
+unfoldable pub clockMoved : List ℕ → ℕ → WithGlass → Outcome WithGlass
+clockMoved luts time g =
+    unless (guarded (g .device) (glassLent (length (g .states)) (length luts) (length (g .pixels)))) g (advanced luts time g)
+
+-- the clock moves, then the line is put low or high
+unfoldable pub lineTaken : List ℕ → ℕ → Bool → WithGlassLog → WithGlassLog
+lineTaken luts time low w = let a = onGlass (advanced luts time) w in byLine luts low a (a .device .bus .power)
+
+-- set_reset
+unfoldable pub lineMoved : List ℕ → ℕ → Bool → WithGlassLog → Outcome WithGlassLog
+lineMoved luts time low w =
+    unless (guarded (w .device) (glassLogLent (length (w .states)) (length luts) (length (w .pixels)) (length (w .log)))) w (lineTaken luts time low w)
