@@ -17,7 +17,7 @@ use Rattle.chip.specs.Close.{withLog, closed}
 use Rattle.chip.specs.Report.{logged}
 use Rattle.reset.specs.Reset.{restored, WithGlassLog, withGlassLog, onDevice, onLog, onGlass, isDriving, cutShort, dropped, cut, inReset, asserted, released, byLine}
 use Rattle.activation.specs.Activation.{withBuffers}
-use Rattle.parameter.specs.Ram.{withRam}
+use Rattle.acts.specs.Ram.{withRam}
 use Rattle.power_on.specs.Start.{Buffers, poweredOn, unstarted, Powered, powered, poweredUp, started}
 use Rattle.config.specs.Answer.{isAccepted}
 use Rattle.ssd1677.specs.Calls.{lineTaken}

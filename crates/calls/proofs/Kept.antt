@@ -20,7 +20,7 @@ use Rattle.reset.proofs.Kept.{ready-closed, ready-line}
 use Rattle.activation.specs.Activation.{withBuffers}
 use Rattle.activation.proofs.Kept.{ready-advanced}
 use Rattle.begin.proofs.Kept.{config-begun, swing-begun, states-begun, luts-begun, pixels-begun, log-begun, count-begun, bounded-begun, current-begun}
-use Rattle.parameter.specs.Ram.{withRam}
+use Rattle.acts.specs.Ram.{withRam}
 use Rattle.data.specs.Data.{counted}
 use Rattle.data.proofs.Kept.{data-leaves, current-kept}
 use Rattle.ssd1677.specs.Calls.{lineTaken}

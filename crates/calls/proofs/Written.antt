@@ -16,7 +16,7 @@ use Rattle.device.specs.declared.Params.the-variants.{Exactly, Between, Stream}
 use Rattle.device.specs.declared.Power.{Power}
 use Rattle.device.specs.declared.Power.the-variants.{Running, Asleep, InReset}
 use Rattle.chip.specs.Report.{logged}
-use Rattle.parameter.specs.Ram.{WithRam, onDevice, onLog}
+use Rattle.acts.specs.Ram.{WithRam, onDevice, onLog}
 use Rattle.data.specs.Data.{made, going, surplus, upTo, byKind, unasked, dataTaken}
 use Rattle.data.proofs.Kept.{data-leaves}
 use Rattle.calls.specs.Sound.{takesNone, inert, UnderWay, Held}
