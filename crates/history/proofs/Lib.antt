@@ -1,0 +1,8 @@
+-- The laws of history: every list of calls beside the reckoning.
+pub mod Blind
+pub mod Steps
+pub mod Written
+pub mod Stages
+pub mod Display
+pub mod Begun
+pub mod Core
