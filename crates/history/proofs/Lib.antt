@@ -6,3 +6,8 @@ pub mod Stages
 pub mod Display
 pub mod Begun
 pub mod Core
+pub mod Shows
+pub mod Line
+pub mod Once
+pub mod Moved
+pub mod Taken
