@@ -11,3 +11,6 @@ pub mod Line
 pub mod Once
 pub mod Moved
 pub mod Taken
+pub mod Calls
+pub mod Start
+pub mod History
