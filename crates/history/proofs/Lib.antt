@@ -14,3 +14,4 @@ pub mod Taken
 pub mod Calls
 pub mod Start
 pub mod History
+pub mod Held
