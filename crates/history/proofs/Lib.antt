@@ -15,3 +15,5 @@ pub mod Calls
 pub mod Start
 pub mod History
 pub mod Held
+pub mod Exists
+pub mod Order
