@@ -18,8 +18,10 @@ use Rattle.query.specs.Outcome.{Outcome, outcome, unless, stateGuarded}
 use Rattle.query.specs.Queries.{withAmbient, ambientSet, WithCount, withCount, emptied, diagnosticsTaken}
 use Rattle.ssd1677.specs.Calls.{clockMoved, lineTaken, lineMoved}
 use Rattle.ssd1677.specs.Command.{commandTaken, commandWritten}
+use Rattle.ram.specs.declared.Byte.the-variants.{Nothing}
 use Rattle.ssd1677.specs.Data.{WithPlanes, dataIn, dataWritten}
-use Rattle.calls.specs.World.{World, Call, advance, set-reset, write-command, write-data, set-ambient, take-diagnostics, putDevice, putGlass, putGlassLog, putBuffers, putPlanes, glassOf, glassLogOf, buffersOf, planesOf, lentOf, back, called, taken}
+use Rattle.ssd1677.specs.Read.{WithRead, withRead, readIn, dataRead}
+use Rattle.calls.specs.World.{World, Call, advance, set-reset, write-command, write-data, read-data, set-ambient, take-diagnostics, putDevice, putGlass, putGlassLog, putBuffers, putPlanes, glassOf, glassLogOf, buffersOf, planesOf, lentOf, back, called, taken}
 use Rattle.calls.specs.Sound.{lengthsIn}
 use Rattle.history.specs.Runs.{Lent, another, its-own, Beside}
 
@@ -42,7 +44,7 @@ module _ {A : Type 0} (put : A → World) (given done : A) where
 
 -- ---- by call
 pub accepted-taken : (otp : List ℕ) (w v : World) (call : Call) → outcome 0 v ≡ called otp w call → v ≡ taken otp w call
-unfolding clockMoved lineMoved commandWritten dataWritten ambientSet diagnosticsTaken
+unfolding clockMoved lineMoved commandWritten dataWritten dataRead ambientSet diagnosticsTaken
 accepted-taken otp w v (advance time) e =
     decides (putGlass w) (glassOf w) (advanced (w .luts) time (glassOf w))
     (guarded (w .device) (glassLent (length (w .states)) (length (w .luts)) (length (w .pixels)))) v e
@@ -55,6 +57,9 @@ accepted-taken otp w v (write-command time command) e =
 accepted-taken otp w v (write-data time byte) e =
     decides (putPlanes w) (planesOf w) (dataIn (w .luts) time byte (planesOf w))
     (guarded (w .device) (planesLogLent (length (w .states)) (length (w .luts)) (length (w .pixels)) (length (w .log)) (length (w .blackWhite)) (length (w .red)))) v e
+accepted-taken otp w v (read-data time) e =
+    decides (λ (r : WithRead). putGlassLog w (r .left)) (withRead (glassLogOf w) Nothing) (readIn (w .luts) (w .blackWhite) (w .red) time (glassLogOf w))
+    (guarded (w .device) (planesLogLent (length (w .states)) (length (w .luts)) (length (w .pixels)) (length (w .log)) (length (w .blackWhite)) (length (w .red)))) v e
 accepted-taken otp w v (set-ambient register) e =
     decides (putDevice w) (w .device) (withConfig (w .device) (withAmbient (w .device .config) register))
     (stateGuarded (w .device)) v e
@@ -63,7 +68,7 @@ accepted-taken otp w v take-diagnostics e =
     (stateGuarded (w .device)) v e
 
 pub refused-same : (otp : List ℕ) (w v : World) (number : ℕ) (call : Call) → (number ≡ 0 → ⊥) → outcome number v ≡ called otp w call → v ≡ w
-unfolding clockMoved lineMoved commandWritten dataWritten ambientSet diagnosticsTaken
+unfolding clockMoved lineMoved commandWritten dataWritten dataRead ambientSet diagnosticsTaken
 refused-same otp w v number (advance time) n e =
     declines (putGlass w) (glassOf w) (advanced (w .luts) time (glassOf w))
     (guarded (w .device) (glassLent (length (w .states)) (length (w .luts)) (length (w .pixels)))) number v n e
@@ -75,6 +80,9 @@ refused-same otp w v number (write-command time command) n e =
     (guardedWithTable (w .device) (lengthsIn w) otp) number v n e
 refused-same otp w v number (write-data time byte) n e =
     declines (putPlanes w) (planesOf w) (dataIn (w .luts) time byte (planesOf w))
+    (guarded (w .device) (planesLogLent (length (w .states)) (length (w .luts)) (length (w .pixels)) (length (w .log)) (length (w .blackWhite)) (length (w .red)))) number v n e
+refused-same otp w v number (read-data time) n e =
+    declines (λ (r : WithRead). putGlassLog w (r .left)) (withRead (glassLogOf w) Nothing) (readIn (w .luts) (w .blackWhite) (w .red) time (glassLogOf w))
     (guarded (w .device) (planesLogLent (length (w .states)) (length (w .luts)) (length (w .pixels)) (length (w .log)) (length (w .blackWhite)) (length (w .red)))) number v n e
 refused-same otp w v number (set-ambient register) n e =
     declines (putDevice w) (w .device) (withConfig (w .device) (withAmbient (w .device .config) register))

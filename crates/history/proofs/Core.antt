@@ -10,7 +10,7 @@ use Rattle.device.specs.declared.Power.{Power}
 use Rattle.device.specs.declared.Power.the-variants.{Running, Asleep, InReset}
 use Rattle.device.specs.declared.Ssd1677.{Ssd1677}
 use Rattle.chip.specs.Advance.{WithGlass, withGlass, advanced}
-use Rattle.chip.specs.Close.{closed}
+use Rattle.chip.specs.Close.{WithLog, withLog, closed}
 use Rattle.chip.specs.Report.{logged}
 use Rattle.reset.specs.Reset.{WithGlassLog, withGlassLog, onDevice, onLog, onGlass, restored, isDriving, cutShort, dropped, cut, inReset, asserted, released, byLine}
 use Rattle.activation.specs.Activation.{WithBuffers, withBuffers, Lent}
@@ -20,11 +20,14 @@ use Rattle.begin.specs.Begin as begin
 use Rattle.ssd1677.specs.Calls.{lineTaken}
 use Rattle.ssd1677.specs.Command.{arrived, commandTaken}
 use Rattle.ssd1677.specs.Data.{WithPlanes, withPlanes, dataIn}
-use Rattle.calls.specs.World.{World, Call, advance, set-reset, write-command, write-data, set-ambient, take-diagnostics, putGlass, putGlassLog, putBuffers, putPlanes, glassOf, glassLogOf, buffersOf, planesOf, lentOf, taken}
+use Rattle.ssd1677.specs.Read.{readIn}
+use Rattle.reading.specs.Reading.{readTaken}
+use Rattle.calls.specs.World.{World, Call, advance, set-reset, write-command, write-data, read-data, set-ambient, take-diagnostics, putGlass, putGlassLog, putBuffers, putPlanes, glassOf, glassLogOf, buffersOf, planesOf, lentOf, taken}
 use Rattle.history.specs.Reckon.{Core, coreOf, bare, stepped}
-use Rattle.history.proofs.Blind.{plain, plainGlass, plainGlassLog, plainRam, plainBuffers, plainPlanes, Blind, blind-then}
+use Rattle.history.proofs.Blind.{plain, plainLog, plainGlass, plainGlassLog, plainRam, plainBuffers, plainPlanes, Blind, blind-then}
 use Rattle.history.proofs.Steps.{quiet-closed}
 use Rattle.history.proofs.Written.{quiet-data}
+use Rattle.history.proofs.Read.{quiet-read}
 use Rattle.history.proofs.Begun.{blind-advanced, quiet-log, blind-begun}
 
 -- ---- the reset line
@@ -93,6 +96,23 @@ blind-data luts time byte w =
     bare-byte : WithGlass → WithRam
     bare-byte g = plainRam (dataTaken byte (withRam (plain (g .device)) (w .blackWhite) (w .red) []) (g .device .bus .current))
 
+-- ---- a read
+blind-read : (luts blackWhite red : List ℕ) (time : ℕ) → Blind plainGlassLog plainGlassLog (λ w. readIn luts blackWhite red time w .left)
+unfolding readIn
+blind-read luts blackWhite red time w =
+    let g = advanced luts time (withGlass (w .device) (w .states) (w .pixels)) in
+    let h = advanced luts time (withGlass (plain (w .device)) [] []) in
+    ap put
+    (quiet-read blackWhite red (g .device .bus .power) .blind (withLog (g .device) (w .log))
+    ∙ ap bare-read (blind-advanced luts time (withGlass (w .device) (w .states) (w .pixels)))
+    ∙ sym (quiet-read blackWhite red (h .device .bus .power) .blind (withLog (h .device) [])))
+  where
+    put : WithLog → WithGlassLog
+    put k = withGlassLog (k .device) [] [] (k .log)
+
+    bare-read : WithGlass → WithLog
+    bare-read g = plainLog (readTaken blackWhite red (withLog (plain (g .device)) []) (g .device .bus .power) .left)
+
 -- ---- every call
 pub core-taken : (otp : List ℕ) (w : World) (call : Call) → coreOf (taken otp w call) ≡ stepped otp (coreOf w) call
 core-taken otp w (advance time) =
@@ -103,5 +123,7 @@ core-taken otp w (write-command time command) =
     ap (λ (b : WithBuffers). coreOf (putBuffers (bare (coreOf w)) b)) (blind-command (lentOf otp w) time command (buffersOf w))
 core-taken otp w (write-data time byte) =
     ap (λ (p : WithPlanes). coreOf (putPlanes (bare (coreOf w)) p)) (blind-data (w .luts) time byte (planesOf w))
+core-taken otp w (read-data time) =
+    ap (λ (g : WithGlassLog). coreOf (putGlassLog (bare (coreOf w)) g)) (blind-read (w .luts) (w .blackWhite) (w .red) time (glassLogOf w))
 core-taken otp w (set-ambient register) = refl
 core-taken otp w take-diagnostics = refl

@@ -14,12 +14,14 @@ use Rattle.chip.specs.Advance.{WithGlass}
 use Rattle.reset.specs.Reset.{WithGlassLog}
 use Rattle.activation.specs.Activation.{WithBuffers}
 use Rattle.ssd1677.specs.Data.{WithPlanes}
+use Rattle.ssd1677.specs.Read.{WithRead}
 use Rattle.power_on.specs.Start.{Start, start, powered, buffers, startAnswerOf, started}
-use Rattle.calls.specs.World.{World, Call, advance, set-reset, write-command, write-data, set-ambient, take-diagnostics, putDevice, putGlass, putGlassLog, putBuffers, putPlanes, back, called}
+use Rattle.calls.specs.World.{World, Call, advance, set-reset, write-command, write-data, read-data, set-ambient, take-diagnostics, putDevice, putGlass, putGlassLog, putBuffers, putPlanes, back, called}
 use Rattle.ssd1677.proofs.advance.Reads as advance-reads
 use Rattle.ssd1677.proofs.set_reset.Reads as reset-reads
 use Rattle.ssd1677.proofs.write_command.Reads as command-reads
 use Rattle.ssd1677.proofs.write_data.Reads as data-reads
+use Rattle.ssd1677.proofs.read_data.Reads as read-reads
 use Rattle.query.proofs.set_ambient.Reads as ambient-reads
 use Rattle.query.proofs.take_diagnostics.Reads as diagnostics-reads
 use Rattle.power_on.proofs.new.Reads as new-reads
@@ -76,6 +78,27 @@ held-data κs a r s q otp g =
     (putPlanes
     (world (a .0) (now (a .1 .0)) (now (a .1 .1 .0)) (now (a .1 .1 .1 .0)) (now (a .1 .1 .1 .1 .0)) (now (a .1 .1 .1 .1 .1 .0)) g
     (now (a .1 .1 .1 .1 .1 .1 .0))))
+    o)
+    q
+
+-- state, states, LUTs, pixels, black-white, red, log, time; the byte is the caller's
+pub held-read : (κs : Lfts 6) (a : _) (r : _) (s : _) → read-reads.Learnt κs a r s → (otp g : List ℕ)
+    → outcome (numberOf (r .refusal))
+    (world (r .state) (now (s .1 .0)) (now (a .1 .1 .0)) (now (s .1 .1 .1 .0)) (now (a .1 .1 .1 .1 .0)) (now (a .1 .1 .1 .1 .1 .0)) g
+    (now (s .1 .1 .1 .1 .1 .1 .0)))
+    ≡ called otp
+    (world (a .0) (now (a .1 .0)) (now (a .1 .1 .0)) (now (a .1 .1 .1 .0)) (now (a .1 .1 .1 .1 .0)) (now (a .1 .1 .1 .1 .1 .0)) g
+    (now (a .1 .1 .1 .1 .1 .1 .0)))
+    (read-data (a .1 .1 .1 .1 .1 .1 .1 .0))
+held-read κs a r s q otp g =
+    ap
+    (λ (o : Outcome WithRead).
+    back
+    (λ (x : WithRead).
+    putGlassLog
+    (world (a .0) (now (a .1 .0)) (now (a .1 .1 .0)) (now (a .1 .1 .1 .0)) (now (a .1 .1 .1 .1 .0)) (now (a .1 .1 .1 .1 .1 .0)) g
+    (now (a .1 .1 .1 .1 .1 .1 .0)))
+    (x .left))
     o)
     q
 

@@ -5,6 +5,7 @@ pub mod Written
 pub mod Stages
 pub mod Display
 pub mod Begun
+pub mod Read
 pub mod Core
 pub mod Shows
 pub mod Line

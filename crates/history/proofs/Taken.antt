@@ -12,7 +12,7 @@ use Rattle.device.specs.declared.Power.{Power}
 use Rattle.device.specs.declared.Power.the-variants.{Running, Asleep, InReset}
 use Rattle.busy.specs.Busy.{pending}
 use Rattle.chip.specs.Advance.{WithGlass, advanced}
-use Rattle.chip.specs.Close.{closed}
+use Rattle.chip.specs.Close.{withLog, closed}
 use Rattle.reset.specs.Reset.{WithGlassLog, onGlass, byLine}
 use Rattle.activation.specs.Activation.{WithBuffers}
 use Rattle.acts.specs.Ram.{withRam}
@@ -21,11 +21,13 @@ use Rattle.begin.specs.Begin as begin
 use Rattle.ssd1677.specs.Calls.{lineTaken}
 use Rattle.ssd1677.specs.Command.{arrived, commandTaken}
 use Rattle.ssd1677.specs.Data.{dataIn}
-use Rattle.calls.specs.World.{World, Call, advance, set-reset, write-command, write-data, set-ambient, take-diagnostics, glassOf, glassLogOf, buffersOf, lentOf, taken}
+use Rattle.ssd1677.specs.Read.{readIn}
+use Rattle.calls.specs.World.{World, Call, advance, set-reset, write-command, write-data, read-data, set-ambient, take-diagnostics, glassOf, glassLogOf, buffersOf, lentOf, taken}
 use Rattle.history.specs.Reckon.{Core, coreOf, Worked, reached, cutShort, falls, activates, atOnce, stepped, worked, numberOver}
 use Rattle.history.proofs.Blind.{Seen, seenBy, seenGlass, seenBuffers, behind}
 use Rattle.history.proofs.Steps.{quiet-closed}
 use Rattle.history.proofs.Written.{quiet-data}
+use Rattle.history.proofs.Read.{quiet-read}
 use Rattle.history.proofs.Begun.{quiet-log, still-begun}
 use Rattle.history.proofs.Core.{core-taken}
 use Rattle.history.proofs.Shows.{Shows, over, over-join, endsIn, advance-shows}
@@ -162,6 +164,16 @@ module _ (otp : List ℕ) (w : World) (number : ℕ → ℕ) (h : Shows (seen w)
       (quiet-data byte (g time .device .bus .current) .still (withRam (g time .device) (w .blackWhite) (w .red) (w .log)))))
       (moves time)
 
+  -- ---- a read
+  reads : (time : ℕ) → Shows (seen (taken otp w (read-data time))) (over c (worked otp (coreOf w) (read-data time)) number)
+  unfolding readIn worked reached
+  reads time =
+      subst (λ (s : Seen). Shows s (over c (first time) number))
+      (sym
+      (ap (behind (g time .states) (g time .pixels))
+      (quiet-read (w .blackWhite) (w .red) (g time .device .bus .power) .still (withLog (g time .device) (w .log)))))
+      (moves time)
+
 -- ---- every call
 pub shows-taken : (otp : List ℕ) (w : World) (number : ℕ → ℕ) → Shows (seen w) number → (call : Call)
     → Shows (seen (taken otp w call)) (over (w .device .config) (worked otp (coreOf w) call) number)
@@ -170,6 +182,7 @@ shows-taken otp w number h (advance time) = moves otp w number h time
 shows-taken otp w number h (set-reset time low) = resets otp w number h time low
 shows-taken otp w number h (write-command time command) = commands otp w number h time command (eqb command 0x20) refl
 shows-taken otp w number h (write-data time byte) = writes otp w number h time byte
+shows-taken otp w number h (read-data time) = reads otp w number h time
 shows-taken otp w number h (set-ambient register) =
     record { swing = h .swing; some = h .some; ends = h .ends; states = h .states; within = h .within; pixels = h .pixels }
 shows-taken otp w number h take-diagnostics =

@@ -22,7 +22,7 @@ use Rattle.device.specs.declared.Power.the-variants.{Running, Asleep, InReset}
 use Rattle.device.specs.declared.Ssd1677.{Ssd1677}
 use Rattle.busy.specs.Busy.{pending}
 use Rattle.activation.specs.Activation.{withLuts, WithLuts, staged}
-use Rattle.calls.specs.World.{World, Call, advance, set-reset, write-command, write-data, set-ambient, take-diagnostics, lentOf, taken}
+use Rattle.calls.specs.World.{World, Call, advance, set-reset, write-command, write-data, read-data, set-ambient, take-diagnostics, lentOf, taken}
 
 -- ---- what it keeps, but for the whole numbers
 -- clock, registers, planes, reset line, sleep, command, busy work, refresh under way, and what decides these
@@ -154,6 +154,7 @@ worked otp c (set-reset time low) = reached time c ++ pick (falls low (c .bus .p
 worked otp c (write-command time command) =
     reached time c ++ pick (activates (max (c .now) time) command c) (atOnce otp (stepped otp c (advance time))) []
 worked otp c (write-data time byte) = reached time c
+worked otp c (read-data time) = reached time c
 worked otp c (set-ambient register) = []
 worked otp c take-diagnostics = []
 
