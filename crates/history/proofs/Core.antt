@@ -8,7 +8,6 @@ use Rattle.numbers.specs.Choice.{pick}
 use Rattle.diagnostic.specs.declared.DiagnosticKind.the-variants.{ResetDuringDisplay}
 use Rattle.device.specs.declared.Power.{Power}
 use Rattle.device.specs.declared.Power.the-variants.{Running, Asleep, InReset}
-use Rattle.device.specs.declared.Ssd1677.{Ssd1677}
 use Rattle.chip.specs.Advance.{WithGlass, withGlass, advanced}
 use Rattle.chip.specs.Close.{closed}
 use Rattle.chip.specs.Report.{logged}
@@ -21,8 +20,8 @@ use Rattle.ssd1677.specs.Calls.{lineTaken}
 use Rattle.ssd1677.specs.Command.{arrived, commandTaken}
 use Rattle.ssd1677.specs.Data.{WithPlanes, withPlanes, dataIn}
 use Rattle.calls.specs.World.{World, Call, advance, set-reset, write-command, write-data, set-ambient, take-diagnostics, putGlass, putGlassLog, putBuffers, putPlanes, glassOf, glassLogOf, buffersOf, planesOf, lentOf, taken}
-use Rattle.history.specs.Reckon.{Core, coreOf, bare, stepped}
-use Rattle.history.proofs.Blind.{plain, plainGlass, plainGlassLog, plainRam, plainBuffers, plainPlanes, Blind, blind-then}
+use Rattle.history.specs.Reckon.{coreOf, bare, stepped}
+use Rattle.history.proofs.Blind.{plain, plainGlassLog, plainRam, plainBuffers, plainPlanes, Blind, blind-then}
 use Rattle.history.proofs.Steps.{quiet-closed}
 use Rattle.history.proofs.Written.{quiet-data}
 use Rattle.history.proofs.Begun.{blind-advanced, quiet-log, blind-begun}

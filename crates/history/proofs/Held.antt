@@ -8,14 +8,14 @@ use denote.Ref.{now}
 use contract.Lifetimes.{Lfts}
 use Rattle.guard.specs.Refusals.{numberOf}
 use Rattle.query.specs.Outcome.{Outcome, outcome}
-use Rattle.query.specs.Queries.{WithCount, withCount}
+use Rattle.query.specs.Queries.{WithCount}
 use Rattle.device.specs.declared.Ssd1677.{Ssd1677}
 use Rattle.chip.specs.Advance.{WithGlass}
 use Rattle.reset.specs.Reset.{WithGlassLog}
 use Rattle.activation.specs.Activation.{WithBuffers}
 use Rattle.ssd1677.specs.Data.{WithPlanes}
-use Rattle.power_on.specs.Start.{Start, start, powered, buffers, startAnswerOf, started}
-use Rattle.calls.specs.World.{World, Call, advance, set-reset, write-command, write-data, set-ambient, take-diagnostics, putDevice, putGlass, putGlassLog, putBuffers, putPlanes, back, called}
+use Rattle.power_on.specs.Start.{start, powered, buffers, startAnswerOf, started}
+use Rattle.calls.specs.World.{World, advance, set-reset, write-command, write-data, set-ambient, take-diagnostics, putDevice, putGlass, putGlassLog, putBuffers, putPlanes, back, called}
 use Rattle.ssd1677.proofs.advance.Reads as advance-reads
 use Rattle.ssd1677.proofs.set_reset.Reads as reset-reads
 use Rattle.ssd1677.proofs.write_command.Reads as command-reads
