@@ -1,6 +1,6 @@
 -- The clock's move and a command's start: what the core keeps of them does not look at the glass, the journal or the log, and a command
 -- other than 0x20 leaves the glass. Assumes nothing.
-use Prim.Native.Nat.{ℕ, max}
+use Prim.Native.Nat.{ℕ}
 use mathlib.Core.Path.{_≡_, refl, sym, ap, _∙_}
 use mathlib.Core.Bool.{Bool, true, false, _||_}
 use mathlib.Core.List.{List, []}
@@ -24,7 +24,7 @@ use Rattle.reset.specs.Reset.{restored}
 use Rattle.start.specs.Start.{softReset, vcomSensed, pointed}
 use Rattle.activation.specs.Activation.{WithLuts, withLuts, Lent, WithBuffers, withBuffers, stagedIn, arrived, joined, activated}
 use Rattle.begin.specs.Begin.{onDevice, onLog, made, run, byKind, isHeldOff, begun}
-use Rattle.history.proofs.Blind.{plainLog, plainGlass, plainBuffers, seenBuffers, behind, Seen, Blind, Quiet, blind-then, blind-pick}
+use Rattle.history.proofs.Blind.{plainGlass, plainBuffers, seenBuffers, behind, Blind, Quiet, blind-then, blind-pick}
 use Rattle.history.proofs.Steps.{QuietLog, quiet-logged, quiet-sensed, quiet-pointed}
 use Rattle.history.proofs.Stages.{plainLuts}
 use Rattle.history.proofs.Display.{staged-plain}

@@ -1,18 +1,15 @@
 -- What an answer tells of a call, by the contract of its entry point: one that is accepted leaves what its definition says; one that is
 -- refused leaves every part that it was handed, so that a run beside it stays as it was. Assumes nothing.
 use Prim.Native.Nat.{ℕ, suc}
-use mathlib.Core.Path.{_≡_, refl, sym, ap, _∙_}
+use mathlib.Core.Path.{_≡_, ap, _∙_}
 use mathlib.Core.List.{List}
 use native.Mathlib.Omega.{arith}
 use lib.ListN.{length}
 use Rattle.guard.specs.declared.Refusal.{Refusal}
 use Rattle.guard.specs.declared.Refusal.the-variants.{Accepted, Buffer, Table, State}
-use Rattle.guard.specs.Lengths.{glassLent, glassLogLent, planesLogLent, allLent}
+use Rattle.guard.specs.Lengths.{glassLent, glassLogLent, planesLogLent}
 use Rattle.guard.specs.Refusals.{guarded, guardedWithTable}
-use Rattle.chip.specs.Advance.{WithGlass, advanced}
-use Rattle.reset.specs.Reset.{WithGlassLog}
-use Rattle.activation.specs.Activation.{WithBuffers}
-use Rattle.device.specs.declared.Ssd1677.{Ssd1677}
+use Rattle.chip.specs.Advance.{advanced}
 use Rattle.device.specs.Parts.{withConfig, withJournal}
 use Rattle.query.specs.Outcome.{Outcome, outcome, unless, stateGuarded}
 use Rattle.query.specs.Queries.{withAmbient, ambientSet, WithCount, withCount, emptied, diagnosticsTaken}

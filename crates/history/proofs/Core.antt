@@ -8,7 +8,6 @@ use Rattle.numbers.specs.Choice.{pick}
 use Rattle.diagnostic.specs.declared.DiagnosticKind.the-variants.{ResetDuringDisplay}
 use Rattle.device.specs.declared.Power.{Power}
 use Rattle.device.specs.declared.Power.the-variants.{Running, Asleep, InReset}
-use Rattle.device.specs.declared.Ssd1677.{Ssd1677}
 use Rattle.chip.specs.Advance.{WithGlass, withGlass, advanced}
 use Rattle.chip.specs.Close.{WithLog, withLog, closed}
 use Rattle.chip.specs.Report.{logged}

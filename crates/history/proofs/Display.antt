@@ -1,13 +1,11 @@
 -- The display of 0x20 and all its stages: what the core keeps of them does not look at the glass, the journal or the log. Assumes nothing.
-use Prim.Native.Nat.{ℕ, _≤_, _+_, min}
+use Prim.Native.Nat.{ℕ}
 use mathlib.Core.Path.{_≡_, refl, sym, ap, _∙_}
 use mathlib.Core.Bool.{Bool, true, false, _&&_}
 use mathlib.Core.List.{List, []}
-use native.Mathlib.Omega.{arith}
 use lib.ListN.{length, getD}
 use Rattle.numbers.specs.Choice.{pick, bitOf}
 use Rattle.numbers.specs.Lists.{tab}
-use Rattle.numbers.specs.Saturation.{largest}
 use Rattle.waveform.specs.Setting.{waveformOf}
 use Rattle.waveform.specs.Duration.{durationOf}
 use Rattle.scan.specs.Luts.{lutOf}
@@ -15,14 +13,13 @@ use Rattle.diagnostic.specs.declared.DiagnosticKind.{DiagnosticKind}
 use Rattle.diagnostic.specs.declared.DiagnosticKind.the-variants.{WithoutClock, WithoutAnalog, RamPingPong}
 use Rattle.diagnostic.specs.declared.Stage.the-variants as stage
 use Rattle.device.specs.declared.Ssd1677.{Ssd1677}
-use Rattle.chip.specs.Moments.{afterNs}
 use Rattle.stages.specs.declared.Control.{Control}
 use Rattle.stages.specs.declared.Run.{Run}
 use Rattle.stages.specs.Run.{controlOf, Step, step, withClock, withAnalog, noted, waited}
 use Rattle.stages.specs.Stages.{loaded}
 use Rattle.activation.specs.Display.{Displayed, displayed, scanOf, unchanged, displayOf, warned, begun, shown}
-use Rattle.activation.specs.Activation.{WithLuts, withLuts, Lent, runOf, analogOff, clockOff, settled, before, during, after, staged}
-use Rattle.history.proofs.Blind.{plain, Blind, blind-then, blind-pick}
+use Rattle.activation.specs.Activation.{WithLuts, withLuts, Lent, runOf, analogOff, clockOff, settled, during, after, staged}
+use Rattle.history.proofs.Blind.{Blind, blind-then, blind-pick}
 use Rattle.history.proofs.Stages.{plainStep, plainDisplayed, plainLuts, unbused, blind-loaded}
 
 -- a diagnostic leaves what counts

@@ -8,7 +8,7 @@ use denote.Ref.{now}
 use contract.Lifetimes.{Lfts}
 use Rattle.guard.specs.Refusals.{numberOf}
 use Rattle.query.specs.Outcome.{Outcome, outcome}
-use Rattle.query.specs.Queries.{WithCount, withCount}
+use Rattle.query.specs.Queries.{WithCount}
 use Rattle.device.specs.declared.Ssd1677.{Ssd1677}
 use Rattle.chip.specs.Advance.{WithGlass}
 use Rattle.reset.specs.Reset.{WithGlassLog}

@@ -1,17 +1,15 @@
 -- The reset line beside the whole numbers: a fall works in what the cut let the refresh under way finish, and nothing of one whose driving
 -- had not begun. Assumes nothing.
-use Prim.Native.Nat.{ℕ, _≤_, _<_, _-_, max}
-use mathlib.Core.Path.{_≡_, refl, sym, ap, subst, _∙_}
+use Prim.Native.Nat.{ℕ, _<_, _-_, max}
+use mathlib.Core.Path.{_≡_, refl, sym, ap, _∙_}
 use mathlib.Core.Bool.{Bool, true, false, _&&_}
 use mathlib.Core.List.{List, [], _∷_}
 use native.Mathlib.Omega.{arith}
-use lib.Dec.{leb, ltb}
-use borrow.Author.Tests.{leb-true, leb-false, lt-ltb, le-ltb}
+use lib.Dec.{leb}
+use borrow.Author.Tests.{leb-false}
 use Rattle.numbers.specs.Choice.{pick}
-use Rattle.numbers.specs.Saturation.{largest}
-use Rattle.numbers.proofs.Cases.{left, right}
+use Rattle.numbers.proofs.Cases.{left}
 use Rattle.waveform.specs.declared.Until.the-variants.{Whole}
-use Rattle.panel.specs.declared.Display.{Display}
 use Rattle.panel.specs.Finish.{finished}
 use Rattle.diagnostic.specs.declared.DiagnosticKind.the-variants.{ResetDuringDisplay}
 use Rattle.device.specs.declared.Bus.{Bus}
@@ -20,16 +18,14 @@ use Rattle.device.specs.declared.Deadline.the-variants.{Never, At}
 use Rattle.device.specs.declared.Power.{Power}
 use Rattle.device.specs.declared.Power.the-variants.{Running, Asleep, InReset}
 use Rattle.device.specs.declared.Ssd1677.{Ssd1677}
-use Rattle.busy.specs.Busy.{pending}
 use Rattle.chip.specs.Moments.{nsBetween, lowered}
 use Rattle.chip.specs.Advance.{WithGlass, withGlass, isOver, clocked, quieted, published, endingOf, glassOf, ended, advanced}
 use Rattle.chip.specs.Close.{closed}
 use Rattle.chip.specs.Report.{logged}
-use Rattle.reset.specs.Reset.{WithGlassLog, withGlassLog, onDevice, onLog, onGlass, restored, isDriving, cutShort, dropped, cut, inReset, asserted, released, byLine}
-use Rattle.history.specs.Reckon.{Core, coreOf, Part, upTo, Worked, refresh, falls, numberOver}
-use Rattle.history.specs.Reckon as reckon
-use Rattle.history.proofs.Blind.{Seen, seenGlass, seenGlassLog}
-use Rattle.history.proofs.Shows.{Shows, over, finish-shows}
+use Rattle.reset.specs.Reset.{WithGlassLog, onDevice, onLog, onGlass, restored, isDriving, cutShort, dropped, cut, inReset, asserted, released, byLine}
+use Rattle.history.specs.Reckon.{upTo, Worked, refresh, falls, numberOver}
+use Rattle.history.proofs.Blind.{seenGlassLog}
+use Rattle.history.proofs.Shows.{Marks, Shows, over, finish-shows}
 
 -- ---- what the clock's move leaves of the device
 -- a refresh that is under way afterwards has not reached its end
@@ -103,7 +99,7 @@ power-moved luts time g =
 abbrev pub cutIn : List ℕ → Ssd1677 → List Worked
 cutIn luts d = pick (isDriving d) (refresh luts (d .display) (upTo (d .now - d .display .started)) ∷ []) []
 
-asserted-shows : (luts : List ℕ) (w : WithGlassLog) (number : ℕ → ℕ) → (w .device .display .running ≡ true → w .device .now < w .device .display .ends)
+asserted-shows : (luts : List ℕ) (w : WithGlassLog) (number : Marks) → (w .device .display .running ≡ true → w .device .now < w .device .display .ends)
     → Shows (seenGlassLog w) number → Shows (seenGlassLog (asserted luts w)) (over (w .device .config) (cutIn luts (w .device)) number)
 unfolding asserted inReset restored cut cutShort closed logged nsBetween numberOver
 asserted-shows luts w number before h = by (isDriving (w .device)) refl
@@ -122,11 +118,11 @@ asserted-shows luts w number before h = by (isDriving (w .device)) refl
     by true e =
         let soon = before (left (d .display .running) (leb (d .display .started) (d .now)) e) in
         let r = finish-shows luts (withGlass (v .device) (v .states) (v .pixels)) (d .now) (upTo (d .now - d .display .started)) number (omega (arith, soon, h .ends))
-        (record { swing = h .swing; some = h .some; ends = h .ends; states = h .states; within = h .within; pixels = h .pixels }) in
-        record { swing = r .swing; some = r .some; ends = r .ends; states = r .states; within = r .within; pixels = r .pixels }
-    by false e = record { swing = h .swing; some = h .some; ends = h .ends; states = h .states; within = h .within; pixels = h .pixels }
+        h in
+        r
+    by false e = record { swing = h .swing; some = h .some; ends = h .ends; states = h .states; within = h .within; pixels = h .pixels; generation = h .generation }
 
-pub line-shows : (luts : List ℕ) (low : Bool) (w : WithGlassLog) (number : ℕ → ℕ) (power : Power)
+pub line-shows : (luts : List ℕ) (low : Bool) (w : WithGlassLog) (number : Marks) (power : Power)
     → (w .device .display .running ≡ true → w .device .now < w .device .display .ends) → Shows (seenGlassLog w) number
     → Shows (seenGlassLog (byLine luts low w power)) (over (w .device .config) (pick (falls low power) (cutIn luts (w .device)) []) number)
 unfolding byLine released numberOver
@@ -134,6 +130,6 @@ line-shows luts true w number InReset before h = h
 line-shows luts true w number Running before h = asserted-shows luts w number before h
 line-shows luts true w number Asleep before h = asserted-shows luts w number before h
 line-shows luts false w number InReset before h =
-    record { swing = h .swing; some = h .some; ends = h .ends; states = h .states; within = h .within; pixels = h .pixels }
+    h
 line-shows luts false w number Running before h = h
 line-shows luts false w number Asleep before h = h

@@ -1,27 +1,22 @@
 -- What the reckoning says of a moment, told of the state before the clock moved and of the state after it. Assumes nothing.
-use Prim.Native.Nat.{ℕ, _≤_, _<_, _-_, max}
-use mathlib.Core.Path.{_≡_, refl, sym, ap, subst, _∙_}
-use mathlib.Core.Bool.{Bool, true, false, _&&_, not}
-use mathlib.Core.List.{List, [], _∷_, _++_}
-use native.Mathlib.Omega.{arith}
-use lib.Dec.{eqb, leb, ltb}
-use borrow.Author.Tests.{leb-true, leb-false, lt-ltb, le-ltb, eqb-true}
+use Prim.Native.Nat.{ℕ, _-_, max}
+use mathlib.Core.Path.{_≡_, refl, sym, ap, _∙_}
+use mathlib.Core.Bool.{Bool, true, false, _&&_}
+use mathlib.Core.List.{List, [], _∷_}
+use lib.Dec.{leb, ltb}
+use borrow.Author.Tests.{leb-true, leb-false, lt-ltb, le-ltb}
 use Rattle.numbers.specs.Choice.{pick}
 use Rattle.numbers.proofs.Cases.{right}
 use Rattle.waveform.specs.declared.Until.the-variants.{Whole}
-use Rattle.config.specs.declared.Ssd1677Config.{Ssd1677Config}
 use Rattle.panel.specs.Finish.{finished}
 use Rattle.device.specs.declared.Bus.{Bus}
 use Rattle.device.specs.declared.Deadline.{Deadline}
 use Rattle.device.specs.declared.Deadline.the-variants.{Never, At}
-use Rattle.device.specs.declared.Power.{Power}
-use Rattle.device.specs.declared.Power.the-variants.{Running, Asleep, InReset}
 use Rattle.device.specs.declared.Ssd1677.{Ssd1677}
 use Rattle.busy.specs.Busy.{pending}
 use Rattle.chip.specs.Moments.{lowered}
-use Rattle.chip.specs.Advance.{WithGlass, withGlass, isOver, clocked, quieted, published, endingOf, ended, advanced}
+use Rattle.chip.specs.Advance.{WithGlass, isOver, clocked, quieted, published, endingOf, ended, advanced}
 use Rattle.chip.specs.Advance as chip
-use Rattle.reset.specs.Reset.{isDriving}
 use Rattle.history.specs.Reckon.{upTo, Worked, refresh}
 use Rattle.history.proofs.Line.{cutIn, bus-moved, now-moved}
 

@@ -1,27 +1,24 @@
 -- 0x20 beside the whole numbers: a refresh whose end the clock has already reached is worked in at once. Assumes nothing.
-use Prim.Native.Nat.{ℕ, _≤_, _+_, max, min}
-use mathlib.Core.Path.{_≡_, refl, sym, ap, subst, _∙_}
+use Prim.Native.Nat.{ℕ, _≤_, max}
+use mathlib.Core.Path.{_≡_, sym, ap, subst, _∙_}
 use mathlib.Core.Bool.{Bool, true, false, _&&_, not}
 use mathlib.Core.List.{List, [], _∷_}
 use native.Mathlib.Omega.{arith}
-use lib.Dec.{eqb, leb}
+use lib.Dec.{leb}
 use Rattle.numbers.specs.Choice.{pick}
 use Rattle.numbers.specs.Rows.{lookup}
 use Rattle.numbers.specs.Saturation.{largest}
 use Rattle.diagnostic.specs.declared.DiagnosticKind.the-variants.{WhileBusy, WhileAsleep, WhileInReset, WithoutClock, WithoutAnalog}
 use Rattle.diagnostic.specs.declared.Stage.the-variants as stage
-use Rattle.device.specs.declared.Kind.{Kind}
 use Rattle.device.specs.declared.Kind.the-variants.{Write}
 use Rattle.device.specs.declared.Params.the-variants.{Exactly}
 use Rattle.device.specs.declared.Power.{Power}
 use Rattle.device.specs.declared.Power.the-variants.{Running, Asleep, InReset}
 use Rattle.device.specs.declared.Ssd1677.{Ssd1677}
-use Rattle.command.specs.declared.Known.the-variants.{Of}
 use Rattle.command.specs.Table.{rows, kindOf}
 use Rattle.busy.specs.Busy.{pending}
 use Rattle.chip.specs.Moments.{afterNs}
-use Rattle.chip.specs.Advance.{WithGlass, withGlass}
-use Rattle.stages.specs.declared.Control.{Control}
+use Rattle.chip.specs.Advance.{withGlass}
 use Rattle.stages.specs.Run.{controlOf, Step, noted}
 use Rattle.activation.specs.Display.{Displayed, displayOf, begun, shown, unchanged}
 use Rattle.activation.specs.Activation.{WithLuts, withLuts, Lent, WithBuffers, settled, before, during, staged, stagedIn, activated}
@@ -31,8 +28,8 @@ use Rattle.history.specs.Reckon.{coreOf, deviceOf, all, Worked, refresh,
 use Rattle.history.proofs.Blind.{seenBuffers}
 use Rattle.history.proofs.Stages.{unbused}
 use Rattle.history.proofs.Display.{during-plain}
-use Rattle.history.proofs.Begun.{quiet-made, told, still-told}
-use Rattle.history.proofs.Shows.{Shows, over, endsIn, advance-shows}
+use Rattle.history.proofs.Begun.{told, still-told}
+use Rattle.history.proofs.Shows.{Marks, Shows, over, endsIn, advance-shows}
 
 -- ---- the stages and the end of the display
 shown-ends : (blackWhite red gates : List ℕ) (d : Ssd1677) (wanted two : Bool) (s : Step) (luts : List ℕ) → d .display .ends ≤ largest 64
@@ -89,7 +86,7 @@ reaches Running busy = not busy
 reaches Asleep busy = false
 reaches InReset busy = false
 
-module _ (k : Lent) (number : ℕ → ℕ) where
+module _ (k : Lent) (number : Marks) where
   staged-shows : (w : WithBuffers) → Shows (seenBuffers w) number
       → Shows (seenBuffers (activated k w)) (over (w .device .config) (endsIn (stagedIn k w .luts) (stagedIn k w .device .now) (stagedIn k w .device)) number)
   unfolding activated staged settled
@@ -102,6 +99,7 @@ module _ (k : Lent) (number : ℕ → ℕ) where
         states = h .states;
         within = h .within;
         pixels = h .pixels;
+        generation = h .generation;
       })
 
   activated-shows : (w : WithBuffers) → Shows (seenBuffers w) number
@@ -125,4 +123,4 @@ module _ (k : Lent) (number : ℕ → ℕ) where
       by true = subst (λ s. Shows s number) (sym (still-told k 0x20 (WhileBusy 0x20) w)) h
       by false =
           activated-shows (begin.onDevice (begin.made 0x20 (Write (Exactly 0))) w)
-          (record { swing = h .swing; some = h .some; ends = h .ends; states = h .states; within = h .within; pixels = h .pixels })
+          h

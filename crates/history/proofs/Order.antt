@@ -1,6 +1,6 @@
 -- Two pixels whose LUTs are equal in every refresh that a list of calls works in keep the order of their states. Assumes nothing.
 use Prim.Native.Nat.{ℕ, suc, _-_, _≤_, _<_, min}
-use mathlib.Core.Path.{_≡_, refl, ap, subst}
+use mathlib.Core.Path.{_≡_, refl, subst}
 use mathlib.Core.Bool.{Bool, true, false, cond}
 use mathlib.Core.List.{List, [], _∷_}
 use native.Mathlib.Omega.{arith}
@@ -78,8 +78,8 @@ module _ (i j : ℕ) where
       order-kept otp calls (reckonCall otp r call) (a .1) (over-keeps (r .core .config) (worked otp (r .core) call) (r .number i) (r .number j) (a .0) h)
 
   -- and of the lent states, after every run
-  pub order : {otp : List ℕ} {w u : World} {calls : List Call} (r : Reckoning) → Runs otp w calls u → Kept w r → Alike otp (r .core) calls
+  pub order : {otp : List ℕ} {w u : World} {calls : List Call} (r : Reckoning) (count : ℕ) → Runs otp w calls u → Kept w r count → Alike otp (r .core) calls
       → r .number i ≤ r .number j → i < length (u .states) → j < length (u .states) → getD (u .states) i (pos 0) ≤ℤ getD (u .states) j (pos 0)
-  order {otp = otp} {calls = calls} r runs k a h in-i in-j =
-      let s = run-kept r runs k .shows in
+  order {otp = otp} {calls = calls} r count runs k a h in-i in-j =
+      let s = run-kept r count runs k .shows in
       rw (s .states i in-i, s .states j in-j) (le-in _ _ (omega (whole, order-kept otp calls r a h)))

@@ -1,39 +1,31 @@
 -- The stages of 0x20: the display, the chosen LUTs and all else that the core keeps do not look at the glass, the journal or the log, and the
 -- display and the LUTs not at the bus either. Assumes nothing.
-use Prim.Native.Nat.{ℕ, _≤_, _+_, _%_, min}
-use mathlib.Core.Path.{_≡_, refl, sym, ap, _∙_}
+use Prim.Native.Nat.{ℕ, _%_}
+use mathlib.Core.Path.{_≡_, refl}
 use mathlib.Core.Bool.{Bool, true, false, _&&_, not}
 use mathlib.Core.List.{List, []}
-use native.Mathlib.Omega.{arith}
 use lib.Dec.{eqb}
-use lib.IntN.{pos}
-use lib.ListN.{length, getD}
-use Rattle.numbers.specs.Choice.{pick, bitOf}
-use Rattle.numbers.specs.Saturation.{largest}
-use Rattle.waveform.specs.Setting.{waveformOf}
-use Rattle.waveform.specs.Duration.{durationOf}
+use lib.ListN.{length}
+use Rattle.numbers.specs.Choice.{pick}
 use Rattle.config.specs.declared.Ssd1677Config.{Ssd1677Config}
 use Rattle.config.specs.declared.DisplayMode.{DisplayMode}
 use Rattle.config.specs.declared.ExternalSensor.{ExternalSensor}
 use Rattle.config.specs.declared.ExternalSensor.the-variants.{Absent, Reads}
 use Rattle.diagnostic.specs.declared.DiagnosticKind.{DiagnosticKind}
-use Rattle.diagnostic.specs.declared.DiagnosticKind.the-variants.{WithoutClock, WithoutAnalog, NoWaveform, NoExternalSensor, RamPingPong}
+use Rattle.diagnostic.specs.declared.DiagnosticKind.the-variants.{WithoutClock, NoWaveform, NoExternalSensor}
 use Rattle.diagnostic.specs.declared.Stage.the-variants.{AnalogOn, TemperatureLoad, LutLoad}
-use Rattle.diagnostic.specs.declared.Stage.the-variants as stage
-use Rattle.panel.specs.declared.Display.{Display}
 use Rattle.device.specs.declared.Current.the-variants.{Ignoring}
 use Rattle.device.specs.declared.Deadline.the-variants.{Never}
 use Rattle.device.specs.declared.Power.the-variants.{InReset}
 use Rattle.device.specs.declared.Ssd1677.{Ssd1677}
 use Rattle.device.specs.Parts.{withBus}
 use Rattle.otp.specs.Table.{entryBytes}
-use Rattle.chip.specs.Moments.{afterNs}
 use Rattle.stages.specs.declared.Control.{Control}
 use Rattle.stages.specs.declared.Run.{Run}
-use Rattle.stages.specs.Run.{controlOf, Step, step, withClock, withAnalog, withFound, withTemperature, withLut, withJournal, through, noted, waited}
+use Rattle.stages.specs.Run.{Step, step, withClock, withAnalog, withFound, withTemperature, withLut, withJournal, through, noted, waited}
 use Rattle.stages.specs.Stages.{clockOn, analogOn, byExternal, sensed, temperatureLoaded, modeOf, settingIn, entryFor, lutFound, lutLoaded, loaded}
-use Rattle.activation.specs.Display.{Displayed, displayed, unchanged, displayOf, warned, begun, shown}
-use Rattle.activation.specs.Activation.{WithLuts, withLuts, Lent, runOf, analogOff, clockOff, settled, before, during, after, staged}
+use Rattle.activation.specs.Display.{Displayed, displayed}
+use Rattle.activation.specs.Activation.{WithLuts, withLuts}
 use Rattle.history.proofs.Blind.{plain, Blind, blind-then, blind-pick}
 
 -- ---- what counts of a run, of a display's start and of the stages

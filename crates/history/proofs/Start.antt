@@ -1,32 +1,31 @@
 -- At first: an accepted start gives every pixel the whole number of the starting grey, and shows the grey of it. Assumes nothing.
-use Prim.Native.Nat.{ℕ, _*_, _/_, _≤_, _<_, min}
+use Prim.Native.Nat.{ℕ, _≤_, _<_, min}
 use mathlib.Core.Path.{_≡_, refl, sym, ap, subst, _∙_}
-use mathlib.Core.Bool.{Bool, true, false, not}
+use mathlib.Core.Bool.{Bool, true, false}
 use mathlib.Core.List.{List, [], _∷_, _++_}
 use native.Mathlib.Omega.{arith}
 use lib.Dec.{ltb}
 use lib.IntN.{ℤ, pos}
-use lib.ListN.{length, getD}
+use lib.ListN.{length}
 use borrow.Author.Tests.{ltb-true, ltb-false, not-false}
 use Rattle.numbers.specs.Lists.{tab}
 use Rattle.numbers.specs.Saturation.{satZ, least, most}
 use Rattle.numbers.proofs.Hold.{clamp-high, clamp-mid}
 use Rattle.numbers.proofs.Painted.{length-tab, getD-tab}
 use Rattle.numbers.proofs.Quot.{level-le}
-use Rattle.glass.specs.declared.Optics.{Optics}
 use Rattle.glass.specs.Greys.{levelZ, grayZ}
 use Rattle.glass.proofs.Grey.{level-is}
 use Rattle.config.specs.declared.Ssd1677Config.{Ssd1677Config}
-use Rattle.config.specs.Answer.{Answer, Test, isAccepted, firstOf}
+use Rattle.config.specs.Answer.{Test, isAccepted, firstOf}
 use Rattle.otp.specs.Table.{startTests}
 use Rattle.panel.specs.Start as panel
 use Rattle.guard.specs.Lengths.{lengthsFit}
 use Rattle.guard.proofs.Accepted.{none-refuses, fine-lengths}
 use Rattle.power_on.specs.Start.{Buffers, Powered, lengthsIn, bufferTest, allTests, poweredOn, filled, poweredUp, started}
 use Rattle.power_on.proofs.Cases.{swings}
-use Rattle.calls.specs.World.{World, worldOf}
+use Rattle.calls.specs.World.{worldOf}
 use Rattle.history.specs.Reckon.{swingOf, firstNumber}
-use Rattle.history.proofs.Shows.{Shows}
+use Rattle.history.proofs.Shows.{Marks, Shows}
 use Rattle.history.proofs.Taken.{seen}
 
 -- the swing that the panel has is the S of the reckoning
@@ -46,6 +45,10 @@ swing-is n = by (ltb 9223372036854775807 n) refl
 -- the state of the starting grey is the first whole number
 first-is : (c : Ssd1677Config) → panel.firstState (c .optics) ≡ pos (firstNumber c)
 first-is c = ap (levelZ (c .optics .«initial_gray»)) (swing-is (c .optics .«full_swing»)) ∙ sym (level-is (c .optics .«initial_gray») (swingOf c))
+
+-- every pixel's first number, and no refresh
+abbrev pub at-first : Ssd1677Config → Marks
+at-first c = record { of = λ _. firstNumber c; count = 0 }
 
 -- ---- what an accepted start has found
 last-of : (ts : List Test) (t : Test) → isAccepted (firstOf (ts ++ t ∷ [])) ≡ true → t .refuses ≡ false
@@ -73,7 +76,7 @@ module _ (c : Ssd1677Config) (otp : List ℕ) (b : Buffers) (ok : isAccepted (st
 
   -- ---- the glass that it leaves
   module _ (byte : c .optics .«initial_gray» ≤ 255) where
-    powered-shows : Shows (seen (worldOf (poweredUp c b))) (λ _. firstNumber c)
+    powered-shows : Shows (seen (worldOf (poweredUp c b))) (at-first c)
     unfolding poweredUp poweredOn filled panel.powerOn panel.panelAtPowerOn
     powered-shows =
         record {
@@ -86,14 +89,15 @@ module _ (c : Ssd1677Config) (otp : List ℕ) (b : Buffers) (ok : isAccepted (st
               getD-tab (length (b .pixels)) (λ _. grayZ (panel.firstState (c .optics)) (panel.swingOf (c .optics))) i 0 (omega (arith, long, in-states i l))
               ∙ ap (λ (s : ℤ). grayZ (panel.firstState (c .optics)) s) (swing-is (c .optics .«full_swing»))
               ∙ ap (λ (x : ℤ). grayZ x (pos (swingOf c))) (first-is c);
+          generation = refl;
         }
       where
         in-states : (i : ℕ) → i < length (tab (length (b .states)) (λ _. panel.firstState (c .optics))) → i < length (b .states)
         in-states i l = omega (arith, length-tab (length (b .states)) (λ _. panel.firstState (c .optics)))
 
-    pub start-shows : Shows (seen (worldOf (started c otp b .left))) (λ _. firstNumber (started c otp b .left .device .config))
+    pub start-shows : Shows (seen (worldOf (started c otp b .left))) (at-first (started c otp b .left .device .config))
     unfolding poweredUp poweredOn
-    start-shows = subst (λ (p : Powered). Shows (seen (worldOf p)) (λ _. firstNumber (p .device .config))) (sym left-is) (at-first)
+    start-shows = subst (λ (p : Powered). Shows (seen (worldOf p)) (at-first (p .device .config))) (sym left-is) goes
       where
-        at-first : Shows (seen (worldOf (poweredUp c b))) (λ _. firstNumber (poweredUp c b .device .config))
-        at-first = powered-shows
+        goes : Shows (seen (worldOf (poweredUp c b))) (at-first (poweredUp c b .device .config))
+        goes = powered-shows

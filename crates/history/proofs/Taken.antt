@@ -2,7 +2,7 @@
 -- reckoning says, and each pixel shows the grey of it. Assumes nothing.
 use Prim.Native.Nat.{ℕ, max}
 use mathlib.Core.Path.{_≡_, refl, sym, ap, subst, _∙_}
-use mathlib.Core.Bool.{Bool, true, false, _&&_, not}
+use mathlib.Core.Bool.{Bool, true, false}
 use mathlib.Core.List.{List, [], _++_}
 use lib.Dec.{eqb}
 use borrow.Author.Tests.{eqb-true}
@@ -16,7 +16,6 @@ use Rattle.chip.specs.Close.{withLog, closed}
 use Rattle.reset.specs.Reset.{WithGlassLog, onGlass, byLine}
 use Rattle.activation.specs.Activation.{WithBuffers}
 use Rattle.acts.specs.Ram.{withRam}
-use Rattle.data.specs.Data.{dataTaken}
 use Rattle.begin.specs.Begin as begin
 use Rattle.ssd1677.specs.Calls.{lineTaken}
 use Rattle.ssd1677.specs.Command.{arrived, commandTaken}
@@ -30,7 +29,7 @@ use Rattle.history.proofs.Written.{quiet-data}
 use Rattle.history.proofs.Read.{quiet-read}
 use Rattle.history.proofs.Begun.{quiet-log, still-begun}
 use Rattle.history.proofs.Core.{core-taken}
-use Rattle.history.proofs.Shows.{Shows, over, over-join, endsIn, advance-shows}
+use Rattle.history.proofs.Shows.{Marks, Shows, over, over-join, count-join, endsIn, advance-shows}
 use Rattle.history.proofs.Line.{cutIn, not-over, config-moved, power-moved, line-shows}
 use Rattle.history.proofs.Moved.{cutAt, cut-moved, pending-moved}
 use Rattle.history.proofs.Once.{onceIn, at-once, reaches, activation-shows}
@@ -39,9 +38,10 @@ abbrev pub seen : World → Seen
 seen w = seenBy (w .device) (w .states) (w .pixels)
 
 -- first some refreshes, then others
-joins : (s : Seen) (c d : Ssd1677Config) (us vs : List Worked) (number : ℕ → ℕ) → d ≡ c → Shows s (over d vs (over c us number)) → Shows s (over c (us ++ vs) number)
+joins : (s : Seen) (c d : Ssd1677Config) (us vs : List Worked) (number : Marks) → d ≡ c → Shows s (over d vs (over c us number)) → Shows s (over c (us ++ vs) number)
 joins s c d us vs number e h =
-    let same : over c vs (over c us number) ≡ over c (us ++ vs) number = λ j i. sym (over-join c i (number i) us vs) j in
+    let same : over c vs (over c us number) ≡ over c (us ++ vs) number =
+    λ j. record { of = λ i. sym (over-join c i (number .of i) us vs) j; count = sym (count-join (number .count) us vs) j } in
     subst (Shows s) same (subst (λ (x : Ssd1677Config). Shows s (over x vs (over c us number))) e h)
 
 -- what the reckoning says of 0x20 is what reaches the chip
@@ -74,7 +74,7 @@ reaches-is t x = by (x .bus .power)
 reaches-not : (t command : ℕ) (x : Core) → eqb command 0x20 ≡ false → activates t command x ≡ false
 reaches-not t command x e = rw e
 
-module _ (otp : List ℕ) (w : World) (number : ℕ → ℕ) (h : Shows (seen w) number) where
+module _ (otp : List ℕ) (w : World) (number : Marks) (h : Shows (seen w) number) where
   -- the glass after the clock's move
   abbrev g : ℕ → WithGlass
   g time = advanced (w .luts) time (glassOf w)
@@ -175,7 +175,7 @@ module _ (otp : List ℕ) (w : World) (number : ℕ → ℕ) (h : Shows (seen w)
       (moves time)
 
 -- ---- every call
-pub shows-taken : (otp : List ℕ) (w : World) (number : ℕ → ℕ) → Shows (seen w) number → (call : Call)
+pub shows-taken : (otp : List ℕ) (w : World) (number : Marks) → Shows (seen w) number → (call : Call)
     → Shows (seen (taken otp w call)) (over (w .device .config) (worked otp (coreOf w) call) number)
 unfolding worked reached numberOver
 shows-taken otp w number h (advance time) = moves otp w number h time
@@ -184,6 +184,5 @@ shows-taken otp w number h (write-command time command) = commands otp w number 
 shows-taken otp w number h (write-data time byte) = writes otp w number h time byte
 shows-taken otp w number h (read-data time) = reads otp w number h time
 shows-taken otp w number h (set-ambient register) =
-    record { swing = h .swing; some = h .some; ends = h .ends; states = h .states; within = h .within; pixels = h .pixels }
-shows-taken otp w number h take-diagnostics =
-    record { swing = h .swing; some = h .some; ends = h .ends; states = h .states; within = h .within; pixels = h .pixels }
+    record { swing = h .swing; some = h .some; ends = h .ends; states = h .states; within = h .within; pixels = h .pixels; generation = h .generation }
+shows-taken otp w number h take-diagnostics = h

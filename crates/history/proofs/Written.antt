@@ -23,7 +23,7 @@ use Rattle.acts.specs.Reserved.{checked}
 use Rattle.acts.specs.Acts.{asleep, emptied, sleeps, slept, hvReady, vciSensed}
 use Rattle.parameter.specs.Parameter.{registerTaken, writing, autoFilled, autoTaken, parameterTaken}
 use Rattle.data.specs.Data.{made, going, surplus, upTo, planeFor, put, isInside, stepped, outOfRange, ramWritten, byKind, unasked, dataTaken}
-use Rattle.history.proofs.Blind.{plainLog, plainRam, Seen, seenRam, Quiet, quiet-then, quiet-pick}
+use Rattle.history.proofs.Blind.{plainRam, seenRam, Quiet, quiet-then, quiet-pick}
 use Rattle.history.proofs.Steps.{QuietLog, quiet-logged, quiet-checked, quiet-hv, quiet-vci, quiet-register}
 
 -- of the state, the planes and the log
@@ -70,9 +70,6 @@ quiet-slept byte =
 quiet-filled : (command byte : ℕ) → QuietRam (autoFilled command byte)
 quiet-filled command byte =
     pickRam (λ _. eqb command 0x46) _ _ (λ w. refl) (record { blind = λ w. refl; still = λ w. refl }) (record { blind = λ w. refl; still = λ w. refl })
-
-abbrev checkedIn : ℕ → ℕ → Bool → WithRam → WithRam
-checkedIn command byte b = onLog (checked b command byte)
 
 -- 30 or not, and BUSY
 quiet-auto : (command byte : ℕ) → QuietRam (autoTaken command byte)

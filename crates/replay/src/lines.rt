@@ -59,7 +59,7 @@ fn sized(
     let lut_count = held(area, luts.len());
     let pixel_count = held(area, pixels.len());
     let rows = held(geometry.height as usize, gates.len());
-    let bytes = held(session.otp, otp.len());
+    let bytes = held(session.table, otp.len());
     calls::asked(
         now,
         line,
@@ -88,6 +88,7 @@ pub fn take(
     gates: &mut [u16; run::ROWS],
     log: &mut [u8; run::LOG],
     otp: &mut [u8; run::OTP],
+    table: &mut [u8; run::OTP],
     fields: &mut [u64; run::FIELDS],
     text: &mut [u8; text::ROOM],
 ) -> Run {
@@ -97,7 +98,7 @@ pub fn take(
     }
     let line = line::parse(bytes);
     let state = now.state;
-    let prepared = prepare::prepare(prepare::counted(read), line, otp, fields, text);
+    let prepared = prepare::prepare(prepare::counted(read), line, otp, table, fields, text);
     let session = say::flushed(prepared, text);
     let geometry = panel(line, state, fields);
     sized(
@@ -111,7 +112,7 @@ pub fn take(
         red,
         gates,
         log,
-        otp,
+        table,
         fields,
         text,
     )

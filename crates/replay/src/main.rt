@@ -35,6 +35,7 @@ fn each(
     gates: &mut [u16; run::ROWS],
     log: &mut [u8; run::LOG],
     otp: &mut [u8; run::OTP],
+    table: &mut [u8; run::OTP],
     fields: &mut [u64; run::FIELDS],
     text: &mut [u8; text::ROOM],
 ) -> Run {
@@ -53,6 +54,7 @@ fn each(
             gates,
             log,
             otp,
+            table,
             fields,
             text,
         );
@@ -71,6 +73,7 @@ fn chunk(
     gates: &mut [u16; run::ROWS],
     log: &mut [u8; run::LOG],
     otp: &mut [u8; run::OTP],
+    table: &mut [u8; run::OTP],
     fields: &mut [u64; run::FIELDS],
     text: &mut [u8; text::ROOM],
 ) -> Input {
@@ -87,6 +90,7 @@ fn chunk(
         gates,
         log,
         otp,
+        table,
         fields,
         text,
     );
@@ -132,6 +136,7 @@ fn all(
     gates: &mut [u16; run::ROWS],
     log: &mut [u8; run::LOG],
     otp: &mut [u8; run::OTP],
+    table: &mut [u8; run::OTP],
     fields: &mut [u64; run::FIELDS],
     text: &mut [u8; text::ROOM],
 ) {
@@ -161,6 +166,7 @@ fn all(
             gates,
             log,
             otp,
+            table,
             fields,
             text,
         );
@@ -180,6 +186,7 @@ fn main() {
     let mut gates = [0u16; run::ROWS];
     let mut log = [0u8; run::LOG];
     let mut otp = [0u8; run::OTP];
+    let mut table = [0u8; run::OTP];
     let mut fields = [0u64; run::FIELDS];
     let mut text = [0u8; text::ROOM];
     all(
@@ -191,6 +198,7 @@ fn main() {
         &mut gates,
         &mut log,
         &mut otp,
+        &mut table,
         &mut fields,
         &mut text,
     );

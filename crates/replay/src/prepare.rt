@@ -73,10 +73,27 @@ fn repeat(session: Session, count: u64) -> Session {
     next
 }
 
+fn copy(otp: &[u8; run::OTP], table: &mut [u8; run::OTP]) {
+    let mut i: usize = 0;
+    while i < run::OTP {
+        table[i] = otp[i];
+        i += 1;
+    }
+}
+
+// A device keeps the table of its start, whatever lines set later.
+fn keep(session: Session, otp: &[u8; run::OTP], table: &mut [u8; run::OTP]) -> Session {
+    copy(otp, table);
+    let mut next = session;
+    next.table = session.otp;
+    next
+}
+
 pub fn prepare(
     session: Session,
     line: Line,
     otp: &mut [u8; run::OTP],
+    table: &mut [u8; run::OTP],
     fields: &mut [u64; run::FIELDS],
     text: &mut [u8; text::ROOM],
 ) -> Session {
@@ -92,7 +109,7 @@ pub fn prepare(
             session
         }
         Line::Otp(place, byte) => set_otp(session, otp, place, byte),
-        Line::Start => session,
+        Line::Start => keep(session, otp, table),
         Line::TakeDiagnostics => session,
         Line::Bad => bad(session, text),
     }

@@ -22,8 +22,9 @@ pub struct Session {
     // A count waits for the next data or read line.
     pub waits: bool,
     pub count: u64,
-    // Bytes of the table.
+    // Bytes of the OTP as lines have set it, and of the table that the last start took.
     pub otp: usize,
+    pub table: usize,
     // The place of the next byte of text.
     pub at: usize,
     // After a bad line nothing is taken any more.
@@ -42,6 +43,7 @@ pub fn fresh() -> Session {
         waits: false,
         count: 0,
         otp: 0,
+        table: 0,
         at: 0,
         ended: false,
     }
