@@ -9,7 +9,7 @@ use Rattle.waveform.specs.Setting.{codesOf, frameRateOf, groupCodesOf, waveform
 use Rattle.waveform.specs.Voltages.{levelsOf, sourceLevel, vcomSwing}
 use Rattle.waveform.specs.Phases.{joined, phaseOf}
 use Rattle.waveform.specs.Duration.{groupNs, groupsNs}
-use Rattle.listing.specs.Columns.{symbolAt, columnOf}
+use Rattle.column.specs.Columns.{symbolAt, columnOf}
 use Rattle.listing.specs.Listing.{drivesOf, headOf, lineOf, phaseText, groupText, linesOf, listingOf, textOf}
 
 -- LUT 1 at VSL and LUT 2 at VSH1 for 19 frames, then 6 frames of rest; 15 V, 5 V, -15 V

@@ -1,4 +1,3 @@
 -- The root of listing's proofs.
-pub mod Appended
-pub mod Columns
 pub mod Figures
+pub mod Joined

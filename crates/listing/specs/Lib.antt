@@ -1,3 +1,2 @@
 -- The root of listing's specs.
-pub mod Columns
 pub mod Listing

@@ -12,15 +12,11 @@ use Rattle.waveform.specs.declared.Waveform.{Waveform}
 use Rattle.waveform.specs.Setting.{waveformOf}
 use Rattle.waveform.specs.Phases.{joined, noGroup, phaseOf}
 use Rattle.waveform.specs.Duration.{durationOf}
-use Rattle.listing.specs.Columns.{natural, whole, Buffer, buffer}
+use Rattle.column.specs.Columns.{natural, whole, lineEnd, Buffer, buffer}
 
 -- the period of every frame-rate code, in nanoseconds: the listing's own
 abbrev pub period : ℕ
 period = 20000000
-
--- LF
-abbrev pub lineEnd : List ℕ
-lineEnd = 10 ∷ []
 
 -- the drive of a LUT in a phase: source less VCOM, in millivolts before the panel's sign
 abbrev pub driveOf : Levels → Group → ℕ → ℕ → ℤ

@@ -1,5 +1,4 @@
 // The listing of a setting (document 01, "Listing"): a line for each phase with frames, then how long the display runs.
-mod column;
 mod line;
 
 ghost use mathlib.Core.Path.{_≡_};
@@ -7,7 +6,7 @@ ghost use Prim.Native.Nat.{_≤_};
 ghost use lib.ListN.{length, replicate};
 ghost use Rattle.waveform.specs.Setting.{waveformOf};
 ghost use Rattle.waveform.specs.Voltages.{AllListable};
-ghost use Rattle.listing.specs.Columns.{buffer, appended};
+ghost use Rattle.column.specs.Columns.{buffer, appended};
 ghost use Rattle.listing.specs.Listing.{period, linesOf, listingOf, notASetting, listed};
 use waveform::Waveform;
 

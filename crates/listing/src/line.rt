@@ -1,5 +1,4 @@
 // The lines of a listing.
-use crate::column;
 use waveform::Drive;
 use waveform::Driving;
 use waveform::Group;
@@ -8,7 +7,7 @@ ghost use mathlib.Core.Path.{_≡_};
 ghost use Prim.Native.Nat.{_+_, _<_, _≤_};
 ghost use lib.ListN.{length};
 ghost use Rattle.waveform.specs.Voltages.{AllListable};
-ghost use Rattle.listing.specs.Columns.{buffer, appended};
+ghost use Rattle.column.specs.Columns.{buffer, appended};
 ghost use Rattle.listing.specs.Listing.{driveOf, drivesOf, headOf, lineOf, phaseText, groupText};
 
 // The period of every frame-rate code, in nanoseconds: the listing's own.

@@ -6,9 +6,9 @@ use mathlib.Core.List.{List}
 use lib.ListN.{length, getD}
 use Rattle.waveform.specs.declared.Waveform.{Waveform}
 use Rattle.waveform.specs.Phases.{joined, noGroup}
-use Rattle.listing.specs.Columns.{buffer, appended}
+use Rattle.column.specs.Columns.{buffer, appended}
 use Rattle.listing.specs.Listing.{groupText, linesOf}
-use Rattle.listing.proofs.Appended.{joined-none, joined-more}
+use Rattle.listing.proofs.Joined.{joined-none, joined-more}
 use borrow.Author.Needs.{needs}
 use Rattle.listing.proofs.lines.Statement.{statement}
 use Rattle.listing.proofs.lines.Tie as tie

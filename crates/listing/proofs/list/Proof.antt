@@ -10,9 +10,9 @@ use Rattle.waveform.specs.declared.Waveform.{Waveform}
 use Rattle.waveform.specs.Setting.{waveformOf}
 use Rattle.waveform.specs.Voltages.{AllListable}
 use Rattle.waveform.proofs.Decoded.{levels-listable}
-use Rattle.listing.specs.Columns.{Buffer, buffer, appended}
+use Rattle.column.specs.Columns.{Buffer, buffer, appended}
 use Rattle.listing.specs.Listing.{period, listingOf, notASetting, textOf, listed}
-use Rattle.listing.proofs.Appended.{fronted}
+use Rattle.column.proofs.Appended.{fronted}
 use borrow.Author.Needs.{needs}
 use Rattle.listing.proofs.list.Statement.{statement}
 use Rattle.listing.proofs.list.Tie as tie

@@ -1,6 +1,6 @@
 -- `listing::put_not_a_setting` meets its contract.
 use borrow.Author.Needs.{needs}
-use Rattle.listing.specs.Columns.{buffer, appended}
+use Rattle.column.specs.Columns.{buffer, appended}
 use Rattle.listing.proofs.put_not_a_setting.Statement.{statement}
 use Rattle.listing.proofs.put_not_a_setting.Tie as tie
 

@@ -6,9 +6,9 @@ use lib.IntN.{ℤ}
 use lib.ListN.{length}
 use Rattle.numbers.proofs.Lin.{got}
 use Rattle.waveform.specs.Phases.{joined}
-use Rattle.listing.specs.Columns.{whole, buffer, appended}
+use Rattle.column.specs.Columns.{whole, buffer, appended}
 use Rattle.listing.specs.Listing.{driveOf, drivesOf}
-use Rattle.listing.proofs.Appended.{joined-none, joined-more}
+use Rattle.listing.proofs.Joined.{joined-none, joined-more}
 use borrow.Author.Needs.{needs}
 use Rattle.listing.proofs.line.put_drives.Statement.{statement}
 use Rattle.listing.proofs.line.put_drives.Tie as tie

@@ -4,9 +4,9 @@ use Prim.Native.Nat.{ℕ, _+_, _*_, _-_, _≤_}
 use native.Mathlib.Omega.{arith}
 use lib.ListN.{length}
 use Rattle.waveform.specs.Phases.{joined}
-use Rattle.listing.specs.Columns.{buffer, appended}
+use Rattle.column.specs.Columns.{buffer, appended}
 use Rattle.listing.specs.Listing.{phaseText, groupText}
-use Rattle.listing.proofs.Appended.{joined-none, joined-more}
+use Rattle.listing.proofs.Joined.{joined-none, joined-more}
 use borrow.Author.Needs.{needs}
 use Rattle.listing.proofs.line.put_group.Statement.{statement}
 use Rattle.listing.proofs.line.put_group.Tie as tie

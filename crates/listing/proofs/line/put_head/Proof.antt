@@ -3,9 +3,9 @@ use mathlib.Core.Path.{ap, _∙_}
 use Prim.Native.Nat.{ℕ, _≤_}
 use native.Mathlib.Omega.{arith}
 use lib.ListN.{length}
-use Rattle.listing.specs.Columns.{natural, buffer, appended}
+use Rattle.column.specs.Columns.{natural, buffer, appended}
 use Rattle.listing.specs.Listing.{headOf}
-use Rattle.listing.proofs.Appended.{after}
+use Rattle.column.proofs.Appended.{after}
 use borrow.Author.Needs.{needs}
 use Rattle.listing.proofs.line.put_head.Statement.{statement}
 use Rattle.listing.proofs.line.put_head.Tie as tie

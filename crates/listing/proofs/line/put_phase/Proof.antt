@@ -6,9 +6,9 @@ use native.Mathlib.Omega.{arith}
 use lib.ListN.{getD}
 use borrow.Author.Tests.{eq-eqb, ne-eqb}
 use Rattle.numbers.proofs.Cases.{took, passed}
-use Rattle.listing.specs.Columns.{buffer, appended}
+use Rattle.column.specs.Columns.{buffer, appended}
 use Rattle.listing.specs.Listing.{phaseText}
-use Rattle.listing.proofs.Appended.{nothing}
+use Rattle.column.proofs.Appended.{nothing}
 use borrow.Author.Needs.{needs}
 use Rattle.listing.proofs.line.put_phase.Statement.{statement}
 use Rattle.listing.proofs.line.put_phase.Tie as tie

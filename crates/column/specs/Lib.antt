@@ -1,0 +1,3 @@
+-- The root of column's specs.
+pub mod Columns
+pub mod Reading

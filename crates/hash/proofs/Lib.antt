@@ -1,0 +1,2 @@
+-- The root of hash's proofs.
+pub mod Laws

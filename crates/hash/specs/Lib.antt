@@ -1,0 +1,2 @@
+-- The root of hash's specs.
+pub mod Hash

@@ -1,0 +1,2 @@
+-- The root of line's proofs.
+pub mod Within

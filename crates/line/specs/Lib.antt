@@ -1,0 +1,3 @@
+-- The root of line's specs.
+pub mod Fields
+pub mod Lines

@@ -1,0 +1,56 @@
+-- `replay::all` is safe and ends: the turns that are left fall.
+use native.Mathlib.Omega.{arith}
+use borrow.Author.Needs.{needs}
+use Rattle.replay.proofs.all.Statement.{statement}
+use Rattle.replay.proofs.all.Tie as tie
+
+abbrev Inv-loop : tie.InvT-loop
+Inv-loop states₀ luts₀ pixels₀ black-white₀ red₀ gates₀ log₀ otp₀ fields₀ text₀ now₀ turns₀ more₀ states luts pixels black-white red gates log otp fields text now turns more =
+    Unit {0}
+
+abbrev μ-loop : tie.MeasureT-loop
+μ-loop states₀ luts₀ pixels₀ black-white₀ red₀ gates₀ log₀ otp₀ fields₀ text₀ now₀ turns₀ more₀ states luts pixels black-white red gates log otp fields text now turns more =
+    turns
+
+fresh-requires : tie.Need-fresh-requires Inv-loop μ-loop
+fresh-requires c κs = search needs
+
+begin-requires : tie.Need-begin-requires Inv-loop μ-loop
+begin-requires c κs = search needs
+
+loop-holds : tie.Need-loop-holds Inv-loop μ-loop
+loop-holds c = search needs
+
+chunk-requires : tie.Need-chunk-requires Inv-loop μ-loop
+chunk-requires c κs = search needs
+
+sub-turns : tie.Need-sub-turns Inv-loop μ-loop
+sub-turns c = omega (arith, c .before .before .before .before .before .before .before .before .before .before .before .before .before .before .loop-test .taken)
+
+loop-less : tie.Need-loop-less Inv-loop μ-loop
+loop-less c = omega (arith, c .before .before .before .before .before .before .before .before .before .before .before .before .before .before .loop-test .taken)
+
+loop-again : tie.Need-loop-again Inv-loop μ-loop
+loop-again c = search needs
+
+flush-requires : tie.Need-flush-requires Inv-loop μ-loop
+flush-requires c κs = search needs
+
+returns : tie.Need-returns Inv-loop μ-loop
+returns c = search needs
+
+pub all-spec : {M : Type 1} → statement M
+all-spec =
+    tie.close
+    (tie.spec
+    Inv-loop
+    μ-loop
+    fresh-requires
+    begin-requires
+    loop-holds
+    chunk-requires
+    sub-turns
+    loop-less
+    loop-again
+    flush-requires
+    returns)

@@ -1,0 +1,59 @@
+// A run as far as it has gone, but for the buffers.
+use device::Ssd1677;
+ghost use Prim.Native.Nat.{_≤_, _<_};
+
+// Pixels and rows of the largest panel.
+pub const PIXELS: usize = 652800;
+
+pub const ROWS: usize = 680;
+
+// The log's 1,024 records of 16 bytes.
+pub const LOG: usize = 16384;
+
+// Places that a line can name.
+pub const OTP: usize = 10000;
+
+pub const FIELDS: usize = 53;
+
+pub struct Session {
+    // Lines taken.
+    pub lines: u64,
+    pub started: bool,
+    // A count waits for the next data or read line.
+    pub waits: bool,
+    pub count: u64,
+    // Bytes of the table.
+    pub otp: usize,
+    // The place of the next byte of text.
+    pub at: usize,
+    // After a bad line nothing is taken any more.
+    pub ended: bool,
+}
+
+pub struct Run {
+    pub session: Session,
+    pub state: Ssd1677,
+}
+
+pub fn fresh() -> Session {
+    Session {
+        lines: 0,
+        started: false,
+        waits: false,
+        count: 0,
+        otp: 0,
+        at: 0,
+        ended: false,
+    }
+}
+
+// Where the line ends that begins at a place, or the input.
+pub fn line_end(at: usize, length: usize) -> usize
+    requires { ⌜ at < length ⌝ }
+    ensures { λ r. ⌜ (at < r) × (r ≤ length) ⌝ }
+{
+    if length - at < line::LINE_BYTES {
+        return length;
+    }
+    at + line::LINE_BYTES
+}

@@ -1,0 +1,2 @@
+-- The root of text's proofs.
+pub mod Laws

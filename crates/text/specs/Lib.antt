@@ -1,0 +1,2 @@
+-- The root of text's specs.
+pub mod Text
