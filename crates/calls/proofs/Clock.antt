@@ -1,5 +1,5 @@
 -- The clock's move keeps BUSY high to the end of a running display: it ends a display before it lowers BUSY. Assumes nothing.
-use Prim.Native.Nat.{ℕ, _≤_, _<_, max}
+use Prim.Native.Nat.{ℕ, _<_, max}
 use mathlib.Core.Path.{_≡_, refl, sym, subst, _∙_}
 use mathlib.Core.Bool.{Bool, true, false, _&&_}
 use mathlib.Core.List.{List}
@@ -8,7 +8,6 @@ use lib.Dec.{leb}
 use borrow.Author.Tests.{leb-false, lt-leb}
 use Rattle.numbers.specs.Choice.{pick}
 use Rattle.waveform.specs.declared.Until.the-variants.{Whole}
-use Rattle.panel.specs.declared.Display.{Display}
 use Rattle.panel.specs.Finish.{finished}
 use Rattle.device.specs.declared.Bus.{Bus}
 use Rattle.device.specs.declared.Deadline.{Deadline}
@@ -37,9 +36,8 @@ under-way-kept d e display clock power until current u =
     record {
       until = u .until;
       busy = until ∙ u .busy;
-      to-its-end = subst (λ (x : Display). x .ends ≤ u .until) (sym display) (u .to-its-end);
-      before-its-end =
-          subst (λ (n : ℕ). n < e .display .ends) (sym clock) (subst (λ (x : Display). d .now < x .ends) (sym display) (u .before-its-end));
+      to-its-end = rw display (u .to-its-end);
+      before-its-end = rw (clock, display) (u .before-its-end);
       runs = power ∙ u .runs;
       inert-command = current;
     }

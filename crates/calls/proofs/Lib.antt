@@ -9,3 +9,4 @@ pub mod Activated
 pub mod Begun
 pub mod Written
 pub mod Held
+pub mod Runs
