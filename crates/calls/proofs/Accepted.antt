@@ -5,6 +5,7 @@ use mathlib.Core.Bool.{true, false}
 use mathlib.Core.List.{List}
 use lib.ListN.{length}
 use Rattle.otp.specs.Table.{badTable}
+use Rattle.ram.specs.declared.Byte.the-variants.{Nothing as none}
 use Rattle.device.specs.declared.Ssd1677.{Ssd1677}
 use Rattle.device.specs.Parts.{withConfig, withJournal}
 use Rattle.chip.specs.Advance.{advanced}
@@ -21,7 +22,8 @@ use Rattle.query.specs.Queries.{withAmbient, ambientSet, WithCount, withCount, 
 use Rattle.ssd1677.specs.Calls.{clockMoved, lineTaken, lineMoved}
 use Rattle.ssd1677.specs.Command.{commandTaken, commandWritten}
 use Rattle.ssd1677.specs.Data.{dataIn, dataWritten}
-use Rattle.calls.specs.World.{World, Call, advance, set-reset, write-command, write-data, set-ambient, take-diagnostics, putDevice, putGlass, putGlassLog, putBuffers, putPlanes, glassOf, glassLogOf, buffersOf, planesOf, lentOf, back, called, taken}
+use Rattle.ssd1677.specs.Read.{WithRead, withRead, readIn, dataRead}
+use Rattle.calls.specs.World.{World, Call, advance, set-reset, write-command, write-data, read-data, set-ambient, take-diagnostics, putDevice, putGlass, putGlassLog, putBuffers, putPlanes, glassOf, glassLogOf, buffersOf, planesOf, lentOf, back, called, taken}
 use Rattle.calls.specs.Sound.{lengthsIn, Sound}
 use Rattle.calls.proofs.Parts.{lengths-pass, has, sound-long}
 
@@ -75,7 +77,7 @@ module _ (otp : List ℕ) (w : World) (s : Sound otp w) where
 
   -- every call is accepted
   pub accepted-takes : (call : Call) → called otp w call ≡ outcome 0 (taken otp w call)
-  unfolding clockMoved lineMoved commandWritten dataWritten ambientSet diagnosticsTaken
+  unfolding clockMoved lineMoved commandWritten dataWritten dataRead ambientSet diagnosticsTaken
   accepted-takes (advance time) = ap (back (putGlass w)) (granted _ (glassOf w) (advanced (w .luts) time (glassOf w)) glass-passes)
   accepted-takes (set-reset time low) = ap (back (putGlassLog w)) (granted _ (glassLogOf w) (lineTaken (w .luts) time low (glassLogOf w)) log-passes)
   accepted-takes (write-command time command) =
@@ -83,6 +85,9 @@ module _ (otp : List ℕ) (w : World) (s : Sound otp w) where
       (granted _ (buffersOf w) (commandTaken (lentOf otp w) time command (buffersOf w))
       (three-pass (w .device) (lengthsIn w) otp (s .state) (s .lengths) (s .table)))
   accepted-takes (write-data time byte) = ap (back (putPlanes w)) (granted _ (planesOf w) (dataIn (w .luts) time byte (planesOf w)) planes-pass)
+  accepted-takes (read-data time) =
+      ap (back (λ (r : WithRead). putGlassLog w (r .left)))
+      (granted _ (withRead (glassLogOf w) none) (readIn (w .luts) (w .blackWhite) (w .red) time (glassLogOf w)) planes-pass)
   accepted-takes (set-ambient register) =
       ap (back (putDevice w))
       (granted _ (w .device) (withConfig (w .device) (withAmbient (w .device .config) register)) (state-passes (w .device) (s .state)))

@@ -1,31 +1,36 @@
 -- Every call keeps BUSY high to the end of a running display; what that says of `is_busy` and of the next deadline. Assumes nothing.
 use Prim.Native.Nat.{ℕ, _≤_, _<_, min}
-use mathlib.Core.Path.{_≡_, refl}
+use mathlib.Core.Path.{_≡_, refl, sym, ap, _∙_}
 use mathlib.Core.Bool.{Bool, true, false}
 use mathlib.Core.List.{List}
 use native.Mathlib.Omega.{arith}
 use borrow.Author.Tests.{lt-ltb}
 use Rattle.config.specs.declared.Ssd1677Config.{Ssd1677Config}
 use Rattle.diagnostic.specs.declared.DiagnosticKind.the-variants.{ResetDuringDisplay}
+use Rattle.panel.specs.declared.Display.{Display}
+use Rattle.device.specs.declared.Current.{Current}
 use Rattle.device.specs.declared.Deadline.the-variants.{At}
 use Rattle.device.specs.declared.Power.{Power}
 use Rattle.device.specs.declared.Power.the-variants.{Running, Asleep, InReset}
 use Rattle.device.specs.declared.Ssd1677.{Ssd1677}
 use Rattle.busy.specs.Busy.{pending, busyIn, busyAt, earlier, displayEnd, deadlineOf}
 use Rattle.chip.specs.Advance.{WithGlass, advanced}
-use Rattle.chip.specs.Close.{withLog, closed}
+use Rattle.chip.specs.Close.{WithLog, withLog, closed}
 use Rattle.chip.specs.Report.{logged}
 use Rattle.reset.specs.Reset.{restored, WithGlassLog, withGlassLog, onDevice, onLog, onGlass, isDriving, cutShort, dropped, cut, inReset, asserted, released, byLine}
 use Rattle.activation.specs.Activation.{withBuffers}
 use Rattle.acts.specs.Ram.{withRam}
+use Rattle.reading.specs.Reading.{readTaken}
+use Rattle.reading.proofs.Kept.{read-leaves, current-read}
 use Rattle.power_on.specs.Start.{Buffers, poweredOn, unstarted, Powered, powered, poweredUp, started}
 use Rattle.config.specs.Answer.{isAccepted}
 use Rattle.ssd1677.specs.Calls.{lineTaken}
 use Rattle.ssd1677.specs.Command.{commandTaken}
 use Rattle.ssd1677.specs.Data.{dataIn}
+use Rattle.ssd1677.specs.Read.{readIn}
 use Rattle.stages.proofs.Kept.{either}
-use Rattle.calls.specs.World.{World, Call, advance, set-reset, write-command, write-data, set-ambient, take-diagnostics, glassOf, lentOf, taken}
-use Rattle.calls.specs.Sound.{UnderWay, Held}
+use Rattle.calls.specs.World.{World, Call, advance, set-reset, write-command, write-data, read-data, set-ambient, take-diagnostics, glassOf, lentOf, taken}
+use Rattle.calls.specs.Sound.{inert, UnderWay, Held}
 use Rattle.calls.proofs.Kept.{Typed}
 use Rattle.calls.proofs.Clock.{held-still, under-way-kept, held-advanced}
 use Rattle.calls.proofs.Begun.{held-closed, held-begun}
@@ -61,6 +66,14 @@ module _ (luts : List ℕ) where
   held-line false w Running e h = h
   held-line false w Asleep e h = h
 
+-- ---- a read changes nothing of a running display, and of the command its counts alone
+held-read : (blackWhite red : List ℕ) (k : WithLog) (p : Power) → Held (k .device) → Held (readTaken blackWhite red k p .left .device)
+held-read blackWhite red k p h run =
+    let l = read-leaves blackWhite red k p in
+    let u = h (ap (λ (x : Display). x .running) (sym (l .same-display)) ∙ run) in
+    under-way-kept (k .device) (readTaken blackWhite red k p .left .device) (l .same-display) (l .same-now) (l .same-power) (l .same-until)
+    (current-read (λ (c : Current). inert c ≡ true) (λ a range nothing e. e) blackWhite red k p (u .inert-command)) u
+
 -- ---- every call
 module _ (otp : List ℕ) (w : World) (h : Held (w .device)) where
   module _ (time : ℕ) where
@@ -87,11 +100,16 @@ module _ (otp : List ℕ) (w : World) (h : Held (w .device)) where
     unfolding dataIn
     data-holds byte small = held-data byte (withRam (moved .device) (w .blackWhite) (w .red) (w .log)) small held-moved
 
+    read-holds : Held (taken otp w (read-data time) .device)
+    unfolding readIn
+    read-holds = held-read (w .blackWhite) (w .red) (withLog (moved .device) (w .log)) (moved .device .bus .power) held-moved
+
   pub held-kept : (call : Call) → Typed call → Held (taken otp w call .device)
   held-kept (advance time) t = held-moved time
   held-kept (set-reset time low) t = line-holds time low
   held-kept (write-command time command) t = command-holds time command
   held-kept (write-data time byte) t = data-holds time byte t
+  held-kept (read-data time) t = read-holds time
   held-kept (set-ambient register) t = λ run. under-way-kept (w .device) _ refl refl refl refl (h run .inert-command) (h run)
   held-kept take-diagnostics t = λ run. under-way-kept (w .device) _ refl refl refl refl (h run .inert-command) (h run)
 

@@ -23,11 +23,14 @@ use Rattle.begin.proofs.Kept.{config-begun, swing-begun, states-begun, luts-beg
 use Rattle.acts.specs.Ram.{withRam}
 use Rattle.data.specs.Data.{counted}
 use Rattle.data.proofs.Kept.{data-leaves, current-kept}
+use Rattle.reading.specs.Reading.{counted as countedRead}
+use Rattle.reading.proofs.Kept.{read-leaves, current-read}
 use Rattle.ssd1677.specs.Calls.{lineTaken}
 use Rattle.ssd1677.specs.Command.{commandTaken}
 use Rattle.ssd1677.specs.Data.{dataIn}
+use Rattle.ssd1677.specs.Read.{readIn}
 use Rattle.ssd1677.proofs.Passed.{ready-fine}
-use Rattle.calls.specs.World.{World, Call, advance, set-reset, write-command, write-data, set-ambient, take-diagnostics, glassOf, lentOf, taken}
+use Rattle.calls.specs.World.{World, Call, advance, set-reset, write-command, write-data, read-data, set-ambient, take-diagnostics, glassOf, lentOf, taken}
 use Rattle.calls.specs.Sound.{Sound}
 use Rattle.calls.proofs.Parts.{fine-kept, long-kept, sound-fine, sound-long, is-sound}
 use Rattle.calls.proofs.Line.{closed-count, closed-length, closed-regs, closed-config, closed-swing, closed-current, line-leaves, current-line}
@@ -38,10 +41,11 @@ Typed (advance time) = Unit {0}
 Typed (set-reset time low) = Unit {0}
 Typed (write-command time command) = command ≤ 255
 Typed (write-data time byte) = byte ≤ 255
+Typed (read-data time) = Unit {0}
 Typed (set-ambient register) = register ≤ 65535
 Typed take-diagnostics = Unit {0}
 
--- an ignored command passes 13, and one with a byte more as it did
+-- an ignored command passes 13, and one with a byte or a read more as it did
 ignored : currentFine Ignoring ≡ true
 unfolding currentFine
 ignored = refl
@@ -49,6 +53,10 @@ ignored = refl
 goes-on : (a : the.Active) (extra range : Bool) → currentFine (Active a) ≡ true → currentFine (Active (counted a extra range)) ≡ true
 unfolding currentFine
 goes-on a extra range h = h
+
+reads-on : (a : the.Active) (range nothing : Bool) → currentFine (Active a) ≡ true → currentFine (Active (countedRead a range nothing)) ≡ true
+unfolding currentFine
+reads-on a range nothing h = h
 
 module _ (otp : List ℕ) (w : World) (s : Sound otp w) where
   -- what finishing a display asks
@@ -140,6 +148,17 @@ module _ (otp : List ℕ) (w : World) (s : Sound otp w) where
         (current-kept (λ (x : Current). currentFine x ≡ true) ignored goes-on byte r c refl moved-current) refl refl refl (kept .long)
         (l .black-white-long) (l .red-long) refl
 
+    read-keeps : Sound otp (taken otp w (read-data time))
+    unfolding readIn
+    read-keeps =
+        let k = withLog (moved .device) (w .log) in
+        let p = moved .device .bus .power in
+        let l = read-leaves (w .blackWhite) (w .red) k p in
+        let kept = l .sound (record { bounded = moved-bounded; room = moved-count; long = sound-long otp w s .log }) in
+        later-sound (taken otp w (read-data time)) (l .same-config) (ap (λ x. x .swing) (l .same-panel)) (kept .bounded) (kept .room)
+        (current-read (λ (x : Current). currentFine x ≡ true) reads-on (w .blackWhite) (w .red) k p moved-current) refl refl refl (kept .long)
+        refl refl refl
+
   ambient-keeps : (register : ℕ) → Sound otp (taken otp w (set-ambient register))
   ambient-keeps register =
       let v = taken otp w (set-ambient register) in
@@ -161,5 +180,6 @@ module _ (otp : List ℕ) (w : World) (s : Sound otp w) where
   sound-kept (set-reset time low) t = line-keeps time low
   sound-kept (write-command time command) t = command-keeps time command
   sound-kept (write-data time byte) t = data-keeps time byte t
+  sound-kept (read-data time) t = read-keeps time
   sound-kept (set-ambient register) t = ambient-keeps register
   sound-kept take-diagnostics t = diagnostics-keeps

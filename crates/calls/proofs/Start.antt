@@ -37,7 +37,8 @@ use Rattle.power_on.proofs.Refused.{unstarted-refused}
 use Rattle.ssd1677.specs.Calls.{clockMoved, lineMoved}
 use Rattle.ssd1677.specs.Command.{commandWritten}
 use Rattle.ssd1677.specs.Data.{dataWritten}
-use Rattle.calls.specs.World.{World, worldOf, Call, advance, set-reset, write-command, write-data, set-ambient, take-diagnostics, putDevice, putGlass, putGlassLog, putBuffers, putPlanes, back, called}
+use Rattle.ssd1677.specs.Read.{WithRead, dataRead}
+use Rattle.calls.specs.World.{World, worldOf, Call, advance, set-reset, write-command, write-data, read-data, set-ambient, take-diagnostics, putDevice, putGlass, putGlassLog, putBuffers, putPlanes, back, called}
 use Rattle.calls.specs.Sound.{Sound}
 use Rattle.calls.proofs.Parts.{Fine, Long, is-sound}
 
@@ -135,11 +136,13 @@ three-refuse d l otp e = rw e
 
 -- and leaves the world as given
 pub unfine-refused : (otp : List ℕ) (w : World) → stateFine (w .device) ≡ false → (call : Call) → called otp w call ≡ outcome 13 w
-unfolding clockMoved lineMoved commandWritten dataWritten ambientSet diagnosticsTaken
+unfolding clockMoved lineMoved commandWritten dataWritten dataRead ambientSet diagnosticsTaken
 unfine-refused otp w e (advance time) = ap (back (putGlass w)) (refused-13 _ _ _ (two-refuse (w .device) _ e))
 unfine-refused otp w e (set-reset time low) = ap (back (putGlassLog w)) (refused-13 _ _ _ (two-refuse (w .device) _ e))
 unfine-refused otp w e (write-command time command) = ap (back (putBuffers w)) (refused-13 _ _ _ (three-refuse (w .device) _ otp e))
 unfine-refused otp w e (write-data time byte) = ap (back (putPlanes w)) (refused-13 _ _ _ (two-refuse (w .device) _ e))
+unfine-refused otp w e (read-data time) =
+    ap (back (λ (r : WithRead). putGlassLog w (r .left))) (refused-13 _ _ _ (two-refuse (w .device) _ e))
 unfine-refused otp w e (set-ambient register) = ap (back (putDevice w)) (refused-13 _ _ _ (alone-refuses (w .device) e))
 unfine-refused otp w e take-diagnostics =
     ap (back (λ (t : WithCount). putDevice w (t .device))) (refused-13 _ _ _ (alone-refuses (w .device) e))

@@ -13,6 +13,7 @@ use Rattle.query.specs.Outcome.{Outcome, outcome}
 use Rattle.query.specs.Queries.{withAmbient, ambientSet, WithCount, emptied, diagnosticsTaken}
 use Rattle.ssd1677.specs.Calls.{clockMoved, lineTaken, lineMoved}
 use Rattle.ssd1677.specs.Command.{commandTaken, commandWritten}
+use Rattle.ssd1677.specs.Read.{WithRead, readIn, dataRead}
 use Rattle.ssd1677.specs.Data.{WithPlanes, withPlanes, dataIn, dataWritten}
 
 -- the state and every lent buffer but the table, which no call changes
@@ -46,6 +47,7 @@ pub data Call : Type 0 where
   set-reset : ℕ → Bool → Call
   write-command : ℕ → ℕ → Call
   write-data : ℕ → ℕ → Call
+  read-data : ℕ → Call
   set-ambient : ℕ → Call
   take-diagnostics : Call
 
@@ -140,6 +142,8 @@ called otp w (advance time) = back (putGlass w) (clockMoved (w .luts) time (glas
 called otp w (set-reset time low) = back (putGlassLog w) (lineMoved (w .luts) time low (glassLogOf w))
 called otp w (write-command time command) = back (putBuffers w) (commandWritten (lentOf otp w) time command (buffersOf w))
 called otp w (write-data time byte) = back (putPlanes w) (dataWritten (w .luts) time byte (planesOf w))
+called otp w (read-data time) =
+    back (λ (r : WithRead). putGlassLog w (r .left)) (dataRead (w .luts) (w .blackWhite) (w .red) time (glassLogOf w))
 called otp w (set-ambient register) = back (putDevice w) (ambientSet (w .device) register)
 called otp w take-diagnostics = back (λ (t : WithCount). putDevice w (t .device)) (diagnosticsTaken (w .device))
 
@@ -149,5 +153,6 @@ taken otp w (advance time) = putGlass w (advanced (w .luts) time (glassOf w))
 taken otp w (set-reset time low) = putGlassLog w (lineTaken (w .luts) time low (glassLogOf w))
 taken otp w (write-command time command) = putBuffers w (commandTaken (lentOf otp w) time command (buffersOf w))
 taken otp w (write-data time byte) = putPlanes w (dataIn (w .luts) time byte (planesOf w))
+taken otp w (read-data time) = putGlassLog w (readIn (w .luts) (w .blackWhite) (w .red) time (glassLogOf w) .left)
 taken otp w (set-ambient register) = putDevice w (withConfig (w .device) (withAmbient (w .device .config) register))
 taken otp w take-diagnostics = putDevice w (withJournal (w .device) (emptied (w .device .journal)))

@@ -2,12 +2,15 @@
 // value, the buffers are lent. Time is the host's, an instant in nanoseconds with every call; the chip never reads a clock. What the
 // host must hand over is tested first (document 01, "The host that lends"): a refused call hands back the state as given and alters no
 // byte of any buffer.
+mod driven;
 mod high;
 mod line;
 mod low;
 mod moment;
 
 pub use command::is_read_command;
+pub use driven::ReadAnswer;
+pub use driven::read_data;
 pub use high::write_data;
 pub use line::set_reset;
 pub use low::write_command;
