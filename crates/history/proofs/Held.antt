@@ -1,11 +1,14 @@
 -- What the checker reads off the source as the contract of each entry point is the equation that the run relation is made of: weaken an
 -- `ensures`, and this file is refused. A part of the world that a call is not lent is any. Assumes nothing.
-use mathlib.Core.Path.{_≡_, ap}
-use mathlib.Core.List.{List}
+use mathlib.Core.Path.{_≡_, refl, sym, ap, _∙_}
+use mathlib.Core.List.{List, _∷_}
+use native.Mathlib.Omega.{arith}
 use Prim.Native.Nat.{ℕ}
 use lib.IntN.{ℤ}
 use denote.Ref.{now}
 use contract.Lifetimes.{Lfts}
+use Rattle.guard.specs.declared.Refusal.{Refusal}
+use Rattle.guard.specs.declared.Refusal.the-variants.{Accepted, Buffer, Table, State}
 use Rattle.guard.specs.Refusals.{numberOf}
 use Rattle.query.specs.Outcome.{Outcome, outcome}
 use Rattle.query.specs.Queries.{WithCount}
@@ -15,8 +18,9 @@ use Rattle.reset.specs.Reset.{WithGlassLog}
 use Rattle.activation.specs.Activation.{WithBuffers}
 use Rattle.ssd1677.specs.Data.{WithPlanes}
 use Rattle.ssd1677.specs.Read.{WithRead}
-use Rattle.power_on.specs.Start.{Start, start, powered, buffers, startAnswerOf, started}
+use Rattle.power_on.specs.Start.{start, powered, buffers, startAnswerOf, started}
 use Rattle.calls.specs.World.{World, Call, advance, set-reset, write-command, write-data, read-data, set-ambient, take-diagnostics, putDevice, putGlass, putGlassLog, putBuffers, putPlanes, back, called}
+use Rattle.history.specs.Runs.{Beside, Runs, accepted, refused}
 use Rattle.ssd1677.proofs.advance.Reads as advance-reads
 use Rattle.ssd1677.proofs.set_reset.Reads as reset-reads
 use Rattle.ssd1677.proofs.write_command.Reads as command-reads
@@ -120,3 +124,18 @@ pub held-start : (κs : Lfts 8) (a : _) (r : _) (s : _) → new-reads.Learnt κs
     (buffers (now (a .1 .0)) (now (a .1 .1 .0)) (now (a .1 .1 .1 .0)) (now (a .1 .1 .1 .1 .0)) (now (a .1 .1 .1 .1 .1 .0)) (now (a .1 .1 .1 .1 .1 .1 .0))
     (now (a .1 .1 .1 .1 .1 .1 .1 .0)))
 held-start κs a r s q = q
+
+-- ---- from these to the run: what an answer's refusal decides
+pub accepted-run : {otp : List ℕ} {w v u : World} {call : Call} {calls : List Call} (r : Refusal) → r ≡ Accepted
+    → outcome (numberOf r) v ≡ called otp w call → Runs otp v calls u → Runs otp w (call ∷ calls) u
+accepted-run {v = v} r e q rest = accepted (ap (λ (x : Refusal). outcome (numberOf x) v) (sym e) ∙ q) rest
+
+not-nought : (r : Refusal) → (r ≡ Accepted → ⊥) → numberOf r ≡ 0 → ⊥
+not-nought Accepted n e = n refl
+not-nought Buffer n e = omega arith
+not-nought Table n e = omega arith
+not-nought State n e = omega arith
+
+pub refused-run : {otp : List ℕ} {w v u handed left : World} {calls : List Call} (call : Call) (table : List ℕ) (r : Refusal) → (r ≡ Accepted → ⊥)
+    → outcome (numberOf r) left ≡ called table handed call → Beside w handed left v → Runs otp v calls u → Runs otp w calls u
+refused-run call table r n q b rest = refused call table (not-nought r n) q b rest
