@@ -13,7 +13,7 @@ use Rattle.power_on.specs.Start.{Buffers, started}
 use Rattle.calls.specs.World.{World, Call, worldOf, taken}
 use Rattle.history.specs.Reckon.{Core, coreOf, stepped, Worked, worked, Reckoning, reckonCall, reckon, begun}
 use Rattle.history.specs.Runs.{Runs, done, accepted, refused}
-use Rattle.history.specs.History.{Agrees}
+use Rattle.history.specs.History.{Agrees, worksIn}
 use Rattle.history.proofs.Core.{core-taken}
 use Rattle.history.proofs.Shows.{Marks, Shows, countOver, over}
 use Rattle.history.proofs.Taken.{seen, shows-taken}
@@ -29,12 +29,7 @@ pub record Kept (w : World) (r : Reckoning) (count : ℕ) : Type 0 where
   pub core : coreOf w ≡ r .core
   pub shows : Shows (seen w) (marks r count)
 
--- how many refreshes a list of calls works in
-abbrev pub worksIn : List ℕ → Core → List Call → ℕ
-worksIn otp c [] = 0
-worksIn otp c (call ∷ calls) = length (worked otp c call) + worksIn otp (stepped otp c call) calls
-
--- the same, counted on from so many
+-- how many refreshes a list of calls works in, counted on from so many
 abbrev refreshes : List ℕ → Core → List Call → ℕ → ℕ
 refreshes otp c [] count = count
 refreshes otp c (call ∷ calls) count = refreshes otp (stepped otp c call) calls (countOver count (worked otp c call))

@@ -19,6 +19,7 @@ use Rattle.config.specs.declared.Ssd1677Config.{Ssd1677Config}
 use Rattle.calls.specs.World.{World, Call}
 use Rattle.history.specs.Reckon.{Core, stepped, Worked, worked, swingOf, drivesBy, numberAfter, numberOver, Reckoning, reckonCall, reckon}
 use Rattle.history.specs.Runs.{Runs}
+use Rattle.history.specs.History.{SameLut, Alike}
 use Rattle.history.proofs.History.{Kept, run-kept}
 
 -- ---- one drive, whatever the states
@@ -41,16 +42,6 @@ drives-keep S (d ∷ ds) x y h = drives-keep S ds (drive S d x) (drive S d y) (d
 
 -- ---- the refreshes of a call, and of a list of calls
 module _ (i j : ℕ) where
-  -- one LUT for both pixels
-  abbrev pub SameLut : List Worked → Type 0
-  SameLut [] = Unit {0}
-  SameLut (w ∷ ws) = (getD (w .luts) i 0 ≡ getD (w .luts) j 0) × SameLut ws
-
-  -- in every refresh that the calls work in
-  abbrev pub Alike : List ℕ → Core → List Call → Type 0
-  Alike otp c [] = Unit {0}
-  Alike otp c (call ∷ calls) = SameLut (worked otp c call) × Alike otp (stepped otp c call) calls
-
   after-keeps : (c : Ssd1677Config) (w : Worked) (x y : ℕ) → getD (w .luts) i 0 ≡ getD (w .luts) j 0 → x ≤ y → numberAfter c i x w ≤ numberAfter c j y w
   unfolding numberAfter
   after-keeps c w x y e h =
@@ -64,13 +55,13 @@ module _ (i j : ℕ) where
       go true = drives-keep (swingOf c) (by (getD (w .luts) i 0)) x y h
       go false = h
 
-  over-keeps : (c : Ssd1677Config) (ws : List Worked) (x y : ℕ) → SameLut ws → x ≤ y → numberOver c i x ws ≤ numberOver c j y ws
+  over-keeps : (c : Ssd1677Config) (ws : List Worked) (x y : ℕ) → SameLut i j ws → x ≤ y → numberOver c i x ws ≤ numberOver c j y ws
   unfolding numberOver
   over-keeps c [] x y s h = h
   over-keeps c (w ∷ ws) x y s h = over-keeps c ws (numberAfter c i x w) (numberAfter c j y w) (s .1) (after-keeps c w x y (s .0) h)
 
   -- of the whole numbers
-  pub order-kept : (otp : List ℕ) (calls : List Call) (r : Reckoning) → Alike otp (r .core) calls → r .number i ≤ r .number j
+  pub order-kept : (otp : List ℕ) (calls : List Call) (r : Reckoning) → Alike i j otp (r .core) calls → r .number i ≤ r .number j
       → reckon otp r calls .number i ≤ reckon otp r calls .number j
   unfolding reckon
   order-kept otp [] r a h = h
@@ -78,7 +69,7 @@ module _ (i j : ℕ) where
       order-kept otp calls (reckonCall otp r call) (a .1) (over-keeps (r .core .config) (worked otp (r .core) call) (r .number i) (r .number j) (a .0) h)
 
   -- and of the lent states, after every run
-  pub order : {otp : List ℕ} {w u : World} {calls : List Call} (r : Reckoning) (count : ℕ) → Runs otp w calls u → Kept w r count → Alike otp (r .core) calls
+  pub order : {otp : List ℕ} {w u : World} {calls : List Call} (r : Reckoning) (count : ℕ) → Runs otp w calls u → Kept w r count → Alike i j otp (r .core) calls
       → r .number i ≤ r .number j → i < length (u .states) → j < length (u .states) → getD (u .states) i (pos 0) ≤ℤ getD (u .states) j (pos 0)
   order {otp = otp} {calls = calls} r count runs k a h in-i in-j =
       let s = run-kept r count runs k .shows in

@@ -1,11 +1,12 @@
 -- Demand 3 of document 01: what the theorem says of a run's end.
-use Prim.Native.Nat.{ℕ, _≤_, _<_}
+use Prim.Native.Nat.{ℕ, _+_, _≤_, _<_}
 use mathlib.Core.Path.{_≡_}
-use lib.IntN.{ℤ, pos}
+use mathlib.Core.List.{List, [], _∷_}
+use lib.IntN.{pos}
 use lib.ListN.{length, getD}
 use Rattle.glass.specs.Greys.{grayZ}
-use Rattle.calls.specs.World.{World}
-use Rattle.history.specs.Reckon.{coreOf, swingOf, Reckoning}
+use Rattle.calls.specs.World.{World, Call}
+use Rattle.history.specs.Reckon.{Core, coreOf, stepped, Worked, worked, swingOf, Reckoning}
 
 -- a world beside the reckoning: each lent state is its pixel's whole number, which lies from 0 to S, and each pixel shows the grey of it
 -- (those that a finished or cut refresh has driven among them)
@@ -15,3 +16,18 @@ pub record Agrees (w : World) (r : Reckoning) : Type 0 where
   pub states : (pixel : ℕ) → pixel < length (w .states) → getD (w .states) pixel (pos 0) ≡ pos (r .number pixel)
   pub within : (pixel : ℕ) → pixel < length (w .states) → r .number pixel ≤ swingOf (w .device .config)
   pub pixels : (pixel : ℕ) → pixel < length (w .states) → getD (w .pixels) pixel 0 ≡ grayZ (pos (r .number pixel)) (pos (swingOf (w .device .config)))
+
+-- how many refreshes a list of calls works in: the image's generation, held at 2^64 − 1
+abbrev pub worksIn : List ℕ → Core → List Call → ℕ
+worksIn otp c [] = 0
+worksIn otp c (call ∷ calls) = length (worked otp c call) + worksIn otp (stepped otp c call) calls
+
+-- two pixels have one LUT in each of the refreshes
+abbrev pub SameLut : ℕ → ℕ → List Worked → Type 0
+SameLut i j [] = Unit {0}
+SameLut i j (w ∷ ws) = (getD (w .luts) i 0 ≡ getD (w .luts) j 0) × SameLut i j ws
+
+-- in every refresh that the calls work in: such pixels keep the order of their states
+abbrev pub Alike : ℕ → ℕ → List ℕ → Core → List Call → Type 0
+Alike i j otp c [] = Unit {0}
+Alike i j otp c (call ∷ calls) = SameLut i j (worked otp c call) × Alike i j otp (stepped otp c call) calls

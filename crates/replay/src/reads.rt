@@ -35,16 +35,7 @@ fn read(
     text: &mut [u8; text::ROOM],
     time: u64,
 ) -> Run {
-    let answer = ssd1677::read_data(
-        now.state,
-        states,
-        luts,
-        pixels,
-        black_white,
-        red,
-        log,
-        time,
-    );
+    let answer = ssd1677::read_data(now.state, states, luts, pixels, black_white, red, log, time);
     let before = say::flushed(now.session, text);
     let refusal = answer.refusal;
     let byte = answer.byte;
