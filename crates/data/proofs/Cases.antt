@@ -1,15 +1,17 @@
 -- What each return of the code hands over, over plain variables. Assumes nothing.
-use Prim.Native.Nat.{ℕ, _≤_, _<_}
-use mathlib.Core.Path.{_≡_, refl, sym, subst}
+use Prim.Native.Nat.{ℕ, _≤_, _<_, zero-le}
+use mathlib.Core.Path.{_≡_, refl, _∙_}
 use mathlib.Core.Bool.{Bool, true, false}
 use mathlib.Core.List.{List}
+use lib.Dec.{eqb}
 use lib.Seq.{set-out}
-use borrow.Author.Tests.{lt-ltb, le-ltb, eq-eqb, ne-eqb, ltb-false}
+use borrow.Author.Tests.{lt-ltb, le-ltb, ltb-false}
 use Rattle.numbers.specs.Choice.{pick}
 use Rattle.ram.specs.declared.Counter.{Counter}
 use Rattle.ram.specs.declared.Place.{Place}
 use Rattle.ram.specs.declared.Place.the-variants.{At, Outside}
-use Rattle.ram.specs.Plane.{indexOf, isThere, putAt, wroteAt, writtenAt}
+use Rattle.ram.specs.declared.Plane.the-variants.{BlackWhite, Red}
+use Rattle.ram.specs.Plane.{planeOf, indexOf, isThere, putAt, wroteAt, writtenAt}
 use Rattle.ram.specs.Counter.{advancedOf}
 use Rattle.diagnostic.specs.declared.DiagnosticKind.the-variants.{DataWithoutCommand, ExtraData, RamOutOfRange}
 use Rattle.device.specs.declared.Active.{Active}
@@ -18,7 +20,6 @@ use Rattle.device.specs.declared.Current.{Current}
 use Rattle.device.specs.declared.Current.the-variants as current
 use Rattle.device.specs.declared.Kind.{Kind}
 use Rattle.device.specs.declared.Kind.the-variants.{Write, Read, Unsupported, Reserved}
-use Rattle.device.specs.declared.Params.{Params}
 use Rattle.device.specs.declared.Params.the-variants.{Exactly, Between, Stream}
 use Rattle.device.specs.declared.Power.{Power}
 use Rattle.device.specs.declared.Power.the-variants.{Running, Asleep, InReset}
@@ -26,9 +27,10 @@ use Rattle.device.specs.declared.Ssd1677.{Ssd1677}
 use Rattle.device.specs.Parts.{withBus, withCurrent, withPointed}
 use Rattle.chip.specs.Close.{WithLog, withLog}
 use Rattle.chip.specs.Report.{logged}
-use Rattle.parameter.specs.Ram.{WithRam, withRam, onDevice}
+use Rattle.acts.specs.Ram.{WithRam, withRam, onDevice}
 use Rattle.parameter.specs.Parameter.{parameterTaken}
-use Rattle.data.specs.Data.{counted, made, going, surplus, upTo, stepped, outOfRange, ramWritten, byKind, unasked, dataTaken}
+use Rattle.data.specs.Most.{isStream, mostOf}
+use Rattle.data.specs.Data.{counted, made, going, surplus, upTo, planeFor, put, stepped, outOfRange, ramWritten, byKind, unasked, dataTaken}
 
 pub goes-on : (d r : Ssd1677) (a b : Active) (bus : Bus) → b ≡ a → bus ≡ withCurrent (d .bus) (current.Active b) → r ≡ withBus d bus
     → r ≡ made (current.Active a) d
@@ -91,36 +93,37 @@ untouched p c byte h = by (indexOf c) h
     by (At i) h = set-out p i byte (ltb-false i _ h)
     by Outside h = refl
 
-module _ (byte : ℕ) (a : Active) (w : WithRam) (wrote : Bool) (plane : List ℕ) where
-  module _ (is : a .command ≡ 0x24) (found : wrote ≡ wroteAt (w .blackWhite) (w .device .regs .counter))
-      (put : plane ≡ writtenAt (w .blackWhite) (w .device .regs .counter) byte) where
-    pub puts-black-white : (r : Ssd1677) → wrote ≡ true → r ≡ made (current.Active (counted a (a .«extra_reported») (a .«range_reported»))) (stepped (w .device))
-        → withRam r plane (w .red) (w .log) ≡ ramWritten byte a w
-    unfolding ramWritten
-    puts-black-white r h e = rw (eq-eqb (a .command) 0x24 is, ← found, h, e, put)
+-- a byte at the counter of the plane that the command writes
+module _ (byte : ℕ) (a : Active) (w : WithRam) (wrote : Bool) (b d : List ℕ)
+    (found : wrote ≡ wroteAt (planeOf (w .blackWhite) (w .red) (planeFor (a .command))) (w .device .regs .counter))
+    (black-white : b ≡ pick (eqb (a .command) 0x24) (writtenAt (w .blackWhite) (w .device .regs .counter) byte) (w .blackWhite))
+    (red : d ≡ pick (eqb (a .command) 0x24) (w .red) (writtenAt (w .red) (w .device .regs .counter) byte)) where
+  pub puts : (c : Counter) (n : Active) (bus : Bus) (r : Ssd1677) → wrote ≡ true
+      → c ≡ advancedOf (w .device .regs .counter) (w .device .regs .window) (w .device .regs .entry)
+      → n ≡ counted a (a .«extra_reported») (a .«range_reported») → bus ≡ withCurrent (w .device .bus) (current.Active n)
+      → r ≡ withPointed (w .device) c bus → withRam r b d (w .log) ≡ ramWritten byte a w
+  unfolding ramWritten
+  puts c n bus r h e₁ e₂ e₃ e₄ = rw (← found, h) (by (eqb (a .command) 0x24) black-white red)
+    where
+      by : (t : Bool) → b ≡ pick t (writtenAt (w .blackWhite) (w .device .regs .counter) byte) (w .blackWhite)
+          → d ≡ pick t (w .red) (writtenAt (w .red) (w .device .regs .counter) byte)
+          → withRam r b d (w .log) ≡ going a (a .«extra_reported») (a .«range_reported») (onDevice stepped (put (pick t BlackWhite Red) byte w))
+      by true p q = rw (e₄, e₃, e₂, e₁, p, q)
+      by false p q = rw (e₄, e₃, e₂, e₁, p, q)
 
-    pub misses-black-white : (r : Ssd1677) (l : List ℕ) → wrote ≡ false
-        → withRam r plane (w .red) l ≡ going a (a .«extra_reported») true (onDevice stepped (outOfRange a (withRam (w .device) plane (w .red) (w .log))))
-        → withRam r plane (w .red) l ≡ ramWritten byte a w
-    unfolding ramWritten
-    misses-black-white r l h e =
-        let same : plane ≡ w .blackWhite = rw (put, untouched (w .blackWhite) (w .device .regs .counter) byte (rw (← found) h)) in
-        rw (eq-eqb (a .command) 0x24 is, ← found, h, e, same)
+  stays : wrote ≡ false → (b ≡ w .blackWhite) × (d ≡ w .red)
+  stays h = by (eqb (a .command) 0x24) (rw (← found) h) black-white red
+    where
+      by : (t : Bool) → wroteAt (planeOf (w .blackWhite) (w .red) (pick t BlackWhite Red)) (w .device .regs .counter) ≡ false
+          → b ≡ pick t (writtenAt (w .blackWhite) (w .device .regs .counter) byte) (w .blackWhite)
+          → d ≡ pick t (w .red) (writtenAt (w .red) (w .device .regs .counter) byte) → (b ≡ w .blackWhite) × (d ≡ w .red)
+      by true m p q = (p ∙ untouched (w .blackWhite) (w .device .regs .counter) byte m, q)
+      by false m p q = (p, q ∙ untouched (w .red) (w .device .regs .counter) byte m)
 
-  module _ (is : a .command ≡ 0x24 → ⊥) (found : wrote ≡ wroteAt (w .red) (w .device .regs .counter))
-      (put : plane ≡ writtenAt (w .red) (w .device .regs .counter) byte) where
-    pub puts-red : (r : Ssd1677) → wrote ≡ true → r ≡ made (current.Active (counted a (a .«extra_reported») (a .«range_reported»))) (stepped (w .device))
-        → withRam r (w .blackWhite) plane (w .log) ≡ ramWritten byte a w
-    unfolding ramWritten
-    puts-red r h e = rw (ne-eqb (a .command) 0x24 is, ← found, h, e, put)
-
-    pub misses-red : (r : Ssd1677) (l : List ℕ) → wrote ≡ false
-        → withRam r (w .blackWhite) plane l ≡ going a (a .«extra_reported») true (onDevice stepped (outOfRange a (withRam (w .device) (w .blackWhite) plane (w .log))))
-        → withRam r (w .blackWhite) plane l ≡ ramWritten byte a w
-    unfolding ramWritten
-    misses-red r l h e =
-        let same : plane ≡ w .red = rw (put, untouched (w .red) (w .device .regs .counter) byte (rw (← found) h)) in
-        rw (ne-eqb (a .command) 0x24 is, ← found, h, e, same)
+  pub misses : (z : WithRam) → wrote ≡ false
+      → z ≡ going a (a .«extra_reported») true (onDevice stepped (outOfRange a (withRam (w .device) b d (w .log)))) → z ≡ ramWritten byte a w
+  unfolding ramWritten
+  misses z h e = let s = stays h in rw (← found, h) (e ∙ rw (s .0, s .1))
 
 module _ (byte : ℕ) (w : WithRam) (p : Power) where
   pub reports-unasked : (k : WithLog) → p ≡ Running → k ≡ logged (DataWithoutCommand byte) (withLog (w .device) (w .log))
@@ -142,6 +145,20 @@ pub ignores : (byte : ℕ) (w v : WithRam) (bus : Bus) (r : Ssd1677) → v ≡ u
 unfolding dataTaken
 ignores byte w v bus r e₁ e₂ e₃ = rw (e₃, e₂, e₁)
 
+-- a kind that takes no parameters: every byte is surplus
+none-taken : (byte : ℕ) (a : Active) (w : WithRam) → upTo 0 byte a w ≡ surplus a w
+unfolding upTo
+none-taken byte a w = rw (le-ltb (a .received) 0 zero-le)
+
+by-kind : (byte : ℕ) (a : Active) (w z : WithRam) (k : Kind) → z ≡ pick (isStream k) (ramWritten byte a w) (upTo (mostOf k) byte a w) → z ≡ byKind byte a w k
+unfolding byKind
+by-kind byte a w z (Write (Exactly count)) e = e
+by-kind byte a w z (Write (Between least most)) e = e
+by-kind byte a w z (Write Stream) e = e
+by-kind byte a w z Read e = e ∙ none-taken byte a w
+by-kind byte a w z Unsupported e = e ∙ none-taken byte a w
+by-kind byte a w z Reserved e = e ∙ none-taken byte a w
+
 module _ (byte : ℕ) (w z : WithRam) (c : Current) where
   pub is-unasked : c ≡ current.Idle → z ≡ dataTaken byte w current.Idle → z ≡ dataTaken byte w c
   is-unasked h e = rw h e
@@ -150,32 +167,11 @@ module _ (byte : ℕ) (w z : WithRam) (c : Current) where
   unfolding dataTaken
   is-ignored h = rw h
 
-  module _ (a : Active) (is : c ≡ current.Active a) where
-    by-kind : (k : Kind) → a .kind ≡ k → z ≡ byKind byte a w k → z ≡ dataTaken byte w c
+  module _ (a : Active) (t : Bool) (is : c ≡ current.Active a) (tells : t ≡ isStream (a .kind)) where
+    pub is-stream : t ≡ true → z ≡ ramWritten byte a w → z ≡ dataTaken byte w c
     unfolding dataTaken
-    by-kind k h e = rw is (subst (λ (x : Kind). z ≡ byKind byte a w x) (sym h) e)
+    is-stream h e = rw is (by-kind byte a w z (a .kind) (rw (← tells, h) e))
 
-    pub is-read : a .kind ≡ Read → z ≡ surplus a w → z ≡ dataTaken byte w c
-    unfolding byKind
-    is-read h e = by-kind Read h e
-
-    pub is-unsupported : a .kind ≡ Unsupported → z ≡ surplus a w → z ≡ dataTaken byte w c
-    unfolding byKind
-    is-unsupported h e = by-kind Unsupported h e
-
-    pub is-reserved : a .kind ≡ Reserved → z ≡ surplus a w → z ≡ dataTaken byte w c
-    unfolding byKind
-    is-reserved h e = by-kind Reserved h e
-
-    module _ (p : Params) (writes : a .kind ≡ Write p) where
-      pub is-stream : p ≡ Stream → z ≡ ramWritten byte a w → z ≡ dataTaken byte w c
-      unfolding byKind
-      is-stream h e = by-kind (Write p) writes (rw h e)
-
-      pub is-exact : (most : ℕ) → p ≡ Exactly most → z ≡ upTo most byte a w → z ≡ dataTaken byte w c
-      unfolding byKind
-      is-exact most h e = by-kind (Write p) writes (rw h e)
-
-      pub is-between : (least most : ℕ) → p ≡ Between least most → z ≡ upTo most byte a w → z ≡ dataTaken byte w c
-      unfolding byKind
-      is-between least most h e = by-kind (Write p) writes (rw h e)
+    pub is-other : (most : ℕ) → t ≡ false → most ≡ mostOf (a .kind) → z ≡ upTo most byte a w → z ≡ dataTaken byte w c
+    unfolding dataTaken
+    is-other most h m e = rw is (by-kind byte a w z (a .kind) (rw (← tells, h, ← m) e))

@@ -27,9 +27,10 @@ use Rattle.device.specs.declared.Power.the-variants.{Running, Asleep, InReset}
 use Rattle.device.specs.declared.Ssd1677.{Ssd1677}
 use Rattle.chip.specs.Close.{WithLog, withLog}
 use Rattle.chip.specs.Report.{logged}
-use Rattle.parameter.specs.Ram.{WithRam, withRam, onDevice, onLog}
+use Rattle.acts.specs.Ram.{WithRam, withRam, onDevice, onLog}
 use Rattle.parameter.specs.Parameter.{parameterTaken}
-use Rattle.parameter.proofs.Kept.{Sound, KeptRam, on-log, logged-kept, parameter-kept}
+use Rattle.acts.proofs.Kept.{Sound, KeptRam, on-log, logged-kept}
+use Rattle.parameter.proofs.Kept.{parameter-kept}
 use Rattle.data.specs.Data.{counted, made, going, surplus, upTo, planeFor, put, isInside, stepped, outOfRange, ramWritten, byKind, unasked, dataTaken}
 
 -- what stays, whatever becomes of the current command

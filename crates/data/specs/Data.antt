@@ -21,7 +21,7 @@ use Rattle.device.specs.declared.Power.the-variants.{Running, Asleep, InReset}
 use Rattle.device.specs.declared.Ssd1677.{Ssd1677}
 use Rattle.device.specs.Parts.{withBus, withCurrent, withCounter, withRegs}
 use Rattle.chip.specs.Report.{logged}
-use Rattle.parameter.specs.Ram.{WithRam, withRam, onDevice, onLog}
+use Rattle.acts.specs.Ram.{WithRam, withRam, onDevice, onLog}
 use Rattle.parameter.specs.Parameter.{parameterTaken}
 
 -- the command with one byte more, the count stopping at 65,535 (document 01), and what it has reported

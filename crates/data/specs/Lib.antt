@@ -1,2 +1,3 @@
 -- The root of data's specs.
+pub mod Most
 pub mod Data

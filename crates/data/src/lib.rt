@@ -3,14 +3,17 @@ ghost use mathlib.Core.Path.{_≡_};
 ghost use mathlib.Core.Bool.{true};
 ghost use mathlib.Core.List.{List};
 ghost use Prim.Native.Nat.{ℕ};
+ghost use lib.Dec.{eqb};
 ghost use lib.ListN.{length};
 ghost use Rattle.device.specs.declared.Current.the-variants as current;
 ghost use Rattle.numbers.specs.Choice.{pick};
+ghost use Rattle.ram.specs.Plane.{planeOf, wroteAt, writtenAt};
 ghost use Rattle.diagnostic.specs.declared.DiagnosticKind.the-variants.{ExtraData};
 ghost use Rattle.chip.specs.Close.{withLog};
 ghost use Rattle.chip.specs.Report.{logged};
-ghost use Rattle.parameter.specs.Ram.{withRam, onDevice};
-ghost use Rattle.data.specs.Data.{counted, made, going, surplus, upTo, stepped, outOfRange, ramWritten, unasked, dataTaken};
+ghost use Rattle.acts.specs.Ram.{withRam, onDevice};
+ghost use Rattle.data.specs.Most.{isStream, mostOf};
+ghost use Rattle.data.specs.Data.{counted, made, going, surplus, upTo, stepped, outOfRange, planeFor, unasked, dataTaken};
 use device::Active;
 use device::Current;
 use device::Kind;
@@ -19,6 +22,39 @@ use device::Power;
 use device::Ssd1677;
 use device::part;
 use diagnostic::DiagnosticKind;
+use ram::Counter;
+
+// Whether a command of the kind takes RAM data.
+fn is_stream(kind: Kind) -> bool
+    ensures { λ r. ⌜ r ≡ isStream kind ⌝ }
+{
+    match kind {
+        Kind::Write(params) => match params {
+            Params::Exactly(_) => false,
+            Params::Between(_, _) => false,
+            Params::Stream => true,
+        },
+        Kind::Read => false,
+        Kind::Unsupported => false,
+        Kind::Reserved => false,
+    }
+}
+
+// The most parameter bytes that a command of the kind takes.
+fn most_of(kind: Kind) -> u16
+    ensures { λ r. ⌜ r ≡ mostOf kind ⌝ }
+{
+    match kind {
+        Kind::Write(params) => match params {
+            Params::Exactly(count) => count,
+            Params::Between(_, count) => count,
+            Params::Stream => 0,
+        },
+        Kind::Read => 0,
+        Kind::Unsupported => 0,
+        Kind::Reserved => 0,
+    }
+}
 
 // The command with one byte more, and what it has reported.
 fn count(active: Active, extra: bool, range: bool) -> Active
@@ -84,7 +120,7 @@ fn up_to(
     take_surplus(state, log, active)
 }
 
-// The counter steps. Only the counter and the bus are stored, since a frame is 48,000 such bytes.
+// The counter steps, and the command stays the current one.
 fn step(state: Ssd1677, active: Active, range: bool) -> Ssd1677
     ensures { λ r. ⌜ r ≡ made (current.Active (counted active (active .«extra_reported») range)) (stepped state) ⌝ }
 {
@@ -127,29 +163,16 @@ fn step_outside(state: Ssd1677, log: &mut [u8], active: Active) -> Ssd1677
     step(noted, active, true)
 }
 
-// A data byte of 0x24 or 0x26, at the counter.
-fn write_ram(
-    state: Ssd1677,
-    black_white: &mut [u8],
-    red: &mut [u8],
-    log: &mut [u8],
-    active: Active,
-    byte: u8,
-) -> Ssd1677
-    requires { ⌜ length (now log) ≡ 16384 ⌝ }
-    ensures { λ r. ⌜ withRam r (now («black_white» .exit)) (now (red .exit)) (now (log .exit)) ≡ ramWritten byte active (withRam state (now («black_white» .entry)) (now (red .entry)) (now (log .entry))) ⌝ }
+// A data byte of 0x24 or 0x26, at the counter; whether the plane has the counter's byte.
+fn put(black_white: &mut [u8], red: &mut [u8], command: u8, at: Counter, byte: u8) -> bool
+    ensures { λ r. ⌜ r ≡ wroteAt (planeOf (now («black_white» .entry)) (now (red .entry)) (planeFor command)) at ⌝ }
+    ensures { λ _. ⌜ now («black_white» .exit) ≡ pick (eqb command 0x24) (writtenAt (now («black_white» .entry)) at byte) (now («black_white» .entry)) ⌝ }
+    ensures { λ _. ⌜ now (red .exit) ≡ pick (eqb command 0x24) (now (red .entry)) (writtenAt (now (red .entry)) at byte) ⌝ }
 {
-    let at = state.regs.counter;
-    if active.command == 0x24 {
-        if ram::write(black_white, at, byte) {
-            return step(state, active, active.range_reported);
-        }
-        return step_outside(state, log, active);
+    if command == 0x24 {
+        return ram::write(black_white, at, byte);
     }
-    if ram::write(red, at, byte) {
-        return step(state, active, active.range_reported);
-    }
-    step_outside(state, log, active)
+    ram::write(red, at, byte)
 }
 
 // 24 for a byte with no command before it, of a chip that runs, whatever the planes.
@@ -180,7 +203,8 @@ fn take_unasked(state: Ssd1677, log: &mut [u8], byte: u8) -> Ssd1677
     part::set_bus(noted, bus)
 }
 
-// A byte with D/C# high, written by the MCU.
+// A byte with D/C# high, written by the MCU. A frame is 48,000 bytes of RAM data: such a byte stores the counter and the bus alone, and
+// does so here, since each function that the state goes through by value may copy it.
 pub fn write(
     state: Ssd1677,
     black_white: &mut [u8],
@@ -196,20 +220,20 @@ pub fn write(
     match current {
         Current::Active(active) => {
             let kind = active.kind;
-            match kind {
-                Kind::Write(params) => match params {
-                    Params::Stream => write_ram(state, black_white, red, log, active, byte),
-                    Params::Exactly(count) => {
-                        up_to(state, black_white, red, log, active, count, byte)
-                    }
-                    Params::Between(_, most) => {
-                        up_to(state, black_white, red, log, active, most, byte)
-                    }
-                },
-                Kind::Read => take_surplus(state, log, active),
-                Kind::Unsupported => take_surplus(state, log, active),
-                Kind::Reserved => take_surplus(state, log, active),
+            if is_stream(kind) {
+                let at = state.regs.counter;
+                if put(black_white, red, active.command, at, byte) {
+                    let window = state.regs.window;
+                    let entry = state.regs.entry;
+                    let counter = at.advanced(window, entry);
+                    let next = count(active, active.extra_reported, active.range_reported);
+                    let after = part::set_current(bus, Current::Active(next));
+                    return part::set_pointed(state, counter, after);
+                }
+                return step_outside(state, log, active);
             }
+            let most = most_of(kind);
+            up_to(state, black_white, red, log, active, most, byte)
         }
         Current::Idle => take_unasked(state, log, byte),
         Current::Ignoring => state,

@@ -1,36 +1,20 @@
 -- What each return of the code hands over, over plain variables. Assumes nothing.
-use Prim.{Unit}
 use Prim.Native.Nat.{ℕ}
 use mathlib.Core.Path.{_≡_}
-use mathlib.Core.Bool.{Bool, true, false}
+use mathlib.Core.Bool.{Bool}
 use mathlib.Core.List.{List}
 use borrow.Author.Tests.{eq-eqb, ne-eqb}
 use Rattle.ram.specs.Plane.{autoWritten}
-use Rattle.diagnostic.specs.Log.{Entries, reservedReported}
 use Rattle.device.specs.declared.Ssd1677.{Ssd1677}
 use Rattle.device.specs.declared.Registers.{Registers}
-use Rattle.device.specs.Parts.{withRegs, withJournal}
+use Rattle.device.specs.Parts.{withRegs}
 use Rattle.registers.specs.Store.{stored}
 use Rattle.listed.specs.Listed.{listed}
-use Rattle.chip.specs.Close.{WithLog, withLog, entriesOf}
-use Rattle.parameter.specs.Ram.{WithRam, withRam, putLog}
-use Rattle.parameter.specs.Reserved.{reserved, checked}
-use Rattle.parameter.specs.Acts.{slept, hvReady, vciSensed}
+use Rattle.chip.specs.Close.{WithLog, withLog}
+use Rattle.acts.specs.Ram.{WithRam, withRam, putLog}
+use Rattle.acts.specs.Reserved.{checked}
+use Rattle.acts.specs.Acts.{slept, hvReady, vciSensed}
 use Rattle.parameter.specs.Parameter.{registerTaken, writing, autoTaken, parameterTaken}
-
-pub reserves : (command value : ℕ) (k : WithLog) (e : Entries) (r : Ssd1677) → e ≡ reservedReported (entriesOf k) (k .device .now) command value
-    → r ≡ withJournal (k .device) (e .journal) → withLog r (e .log) ≡ reserved command value k
-unfolding reserved
-reserves command value k e r p q = rw (q, p)
-
-module _ (b : Bool) (command value : ℕ) (k : WithLog) where
-  pub checks : b ≡ true → k ≡ checked b command value k
-  unfolding checked
-  checks h = rw h
-
-  pub checks-not : (z : WithLog) → b ≡ false → z ≡ reserved command value k → z ≡ checked b command value k
-  unfolding checked
-  checks-not z h e = rw h e
 
 pub checks-listed : (b : Bool) (command index byte : ℕ) (k z : WithLog) → b ≡ listed (k .device .regs) command index byte → z ≡ checked b command byte k
     → z ≡ checked (listed (k .device .regs) command index byte) command byte k

@@ -1,4 +1,3 @@
 -- The laws of parameter that belong to no one function.
 pub mod Cases
-pub mod AtOnce
 pub mod Kept

@@ -9,9 +9,9 @@ use Rattle.registers.specs.Store.{stored}
 use Rattle.listed.specs.Listed.{listed}
 use Rattle.chip.specs.Close.{WithLog, withLog}
 use Rattle.start.specs.Start.{withBusyFor}
-use Rattle.parameter.specs.Ram.{WithRam, withRam, onDevice, onLog}
-use Rattle.parameter.specs.Reserved.{checked}
-use Rattle.parameter.specs.Acts.{slept, hvReady, vciSensed}
+use Rattle.acts.specs.Ram.{WithRam, withRam, onDevice, onLog}
+use Rattle.acts.specs.Reserved.{checked}
+use Rattle.acts.specs.Acts.{slept, hvReady, vciSensed}
 
 -- a register's byte: stored, and 30 unless it is listed
 unfoldable pub registerTaken : ℕ → ℕ → ℕ → WithLog → WithLog

@@ -1,6 +1,7 @@
 // The calls that lines make of the device, over buffers as long as its panel asks.
 use crate::dump;
 use crate::fields;
+use crate::reads;
 use crate::run::Run;
 use crate::run::Session;
 use crate::say;
@@ -11,7 +12,7 @@ use line::Line;
 use power_on::StartError;
 use query::Answer;
 
-fn refused(session: Session, text: &mut [u8; text::ROOM], number: u8) -> Session {
+pub fn refused(session: Session, text: &mut [u8; text::ROOM], number: u8) -> Session {
     if number == 0 {
         return session;
     }
@@ -27,14 +28,14 @@ fn settled(before: Session, text: &mut [u8; text::ROOM], answer: Answer) -> Run 
 }
 
 // How often a data or read line is made; the count is used up.
-fn times(session: Session) -> u64 {
+pub fn times(session: Session) -> u64 {
     if session.waits {
         return session.count;
     }
     1
 }
 
-fn used_up(session: Session) -> Session {
+pub fn used_up(session: Session) -> Session {
     let mut next = session;
     next.waits = false;
     next
@@ -102,12 +103,6 @@ fn all_data(
     next
 }
 
-// The read is not ported yet: it says so once.
-fn all_reads(session: Session, text: &mut [u8; text::ROOM]) -> Session {
-    let end = text::word(text, session.at, b"read unported\n");
-    say::said(used_up(session), end)
-}
-
 fn call(
     now: Run,
     event: Event,
@@ -152,10 +147,17 @@ fn call(
             time,
             byte,
         ),
-        Event::Read(_) => {
-            let session = all_reads(session, text);
-            Run { session, state }
-        }
+        Event::Read(time) => reads::all_reads(
+            now,
+            states,
+            luts,
+            pixels,
+            black_white,
+            red,
+            log,
+            text,
+            time,
+        ),
         Event::Reset(time, asserted) => {
             let answer = ssd1677::set_reset(state, states, luts, pixels, log, time, asserted);
             settled(session, text, answer)

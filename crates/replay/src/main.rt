@@ -7,6 +7,7 @@ mod dump;
 mod fields;
 mod lines;
 mod prepare;
+mod reads;
 mod registers;
 mod run;
 mod say;

@@ -18,7 +18,7 @@ use Rattle.activation.specs.Display.{Startable}
 use Rattle.activation.specs.Activation.{WithBuffers, withBuffers, Lent, Activatable}
 use Rattle.activation.proofs.Kept.{ready-advanced}
 use Rattle.begin.specs.Begin.{begun}
-use Rattle.parameter.specs.Ram.{WithRam, withRam}
+use Rattle.acts.specs.Ram.{WithRam, withRam}
 use Rattle.data.specs.Data.{dataTaken}
 use Rattle.guard.specs.declared.lengths.Lengths.{Lengths}
 use Rattle.guard.specs.declared.lengths.Lent.the-variants.{Nothing, Of}

@@ -2,3 +2,4 @@
 pub mod Passed
 pub mod Moves
 pub mod Bytes
+pub mod ByteRead

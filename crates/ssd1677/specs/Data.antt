@@ -5,7 +5,7 @@ use lib.IntN.{ℤ}
 use lib.ListN.{length}
 use Rattle.device.specs.declared.Ssd1677.{Ssd1677}
 use Rattle.chip.specs.Advance.{WithGlass, withGlass, advanced}
-use Rattle.parameter.specs.Ram.{WithRam, withRam}
+use Rattle.acts.specs.Ram.{WithRam, withRam}
 use Rattle.data.specs.Data.{dataTaken}
 use Rattle.guard.specs.Lengths.{planesLogLent}
 use Rattle.guard.specs.Refusals.{guarded}

@@ -2,3 +2,4 @@
 pub mod Calls
 pub mod Data
 pub mod Command
+pub mod Read

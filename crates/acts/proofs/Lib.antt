@@ -1,0 +1,3 @@
+-- The laws of acts that belong to no one function.
+pub mod Cases
+pub mod Kept

@@ -1,0 +1,15 @@
+-- `acts::fall_asleep` meets its contract.
+use Rattle.acts.specs.Acts.{asleep}
+use borrow.Author.Needs.{needs}
+use Rattle.acts.proofs.fall_asleep.Statement.{statement}
+use Rattle.acts.proofs.fall_asleep.Tie as tie
+
+set-slept-requires : tie.Need-set-slept-requires
+set-slept-requires c κs = search needs
+
+returns : tie.Need-returns
+unfolding asleep
+returns c = c .set-slept .ensures
+
+pub fall-asleep-spec : {M : Type 1} → statement M
+fall-asleep-spec = tie.close (tie.spec set-slept-requires returns)

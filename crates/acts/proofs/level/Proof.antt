@@ -1,0 +1,10 @@
+-- `acts::level`: the mask is the remainder by 8.
+use lib.Bits.{and-mask}
+use Rattle.acts.proofs.level.Statement.{statement}
+use Rattle.acts.proofs.level.Tie as tie
+
+returns : tie.Need-returns
+returns c = and-mask (c .args .byte) 3
+
+pub level-spec : {M : Type 1} → statement M
+level-spec = tie.close (tie.spec returns)

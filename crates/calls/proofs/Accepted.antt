@@ -1,0 +1,97 @@
+-- No call is refused whose state, buffers and table are sound: it answers 0 and does what it is to do. Assumes nothing.
+use Prim.Native.Nat.{ℕ}
+use mathlib.Core.Path.{_≡_, refl, ap}
+use mathlib.Core.Bool.{true, false}
+use mathlib.Core.List.{List}
+use lib.ListN.{length}
+use Rattle.otp.specs.Table.{badTable}
+use Rattle.ram.specs.declared.Byte.the-variants.{Nothing as none}
+use Rattle.device.specs.declared.Ssd1677.{Ssd1677}
+use Rattle.device.specs.Parts.{withConfig, withJournal}
+use Rattle.chip.specs.Advance.{advanced}
+use Rattle.guard.specs.declared.lengths.Lengths.{Lengths}
+use Rattle.guard.specs.declared.lengths.Lent.{Lent}
+use Rattle.guard.specs.declared.lengths.Lent.the-variants.{Nothing, Of}
+use Rattle.guard.specs.declared.Refusal.{Refusal}
+use Rattle.guard.specs.declared.Refusal.the-variants.{Accepted}
+use Rattle.guard.specs.Lengths.{planeBytes, logBytes, fits, lengthsFit, lengthsOf, glassLent, glassLogLent, planesLogLent}
+use Rattle.guard.specs.Refusals.{guarded, guardedWithTable}
+use Rattle.guard.specs.State.{stateFine}
+use Rattle.query.specs.Outcome.{outcome, unless, stateGuarded}
+use Rattle.query.specs.Queries.{withAmbient, ambientSet, WithCount, withCount, emptied, diagnosticsTaken}
+use Rattle.ssd1677.specs.Calls.{clockMoved, lineTaken, lineMoved}
+use Rattle.ssd1677.specs.Command.{commandTaken, commandWritten}
+use Rattle.ssd1677.specs.Data.{dataIn, dataWritten}
+use Rattle.ssd1677.specs.Read.{WithRead, withRead, readIn, dataRead}
+use Rattle.calls.specs.World.{World, Call, advance, set-reset, write-command, write-data, read-data, set-ambient, take-diagnostics, putDevice, putGlass, putGlassLog, putBuffers, putPlanes, glassOf, glassLogOf, buffersOf, planesOf, lentOf, back, called, taken}
+use Rattle.calls.specs.Sound.{lengthsIn, Sound}
+use Rattle.calls.proofs.Parts.{lengths-pass, has, sound-long}
+
+-- ---- the guards let pass
+granted : {A : Type 0} (r : Refusal) (given done : A) → r ≡ Accepted → unless r given done ≡ outcome 0 done
+granted r given done e = rw e
+
+state-passes : (d : Ssd1677) → stateFine d ≡ true → stateGuarded d ≡ Accepted
+unfolding stateGuarded
+state-passes d e = rw e
+
+two-pass : (d : Ssd1677) (l : Lengths) → stateFine d ≡ true → lengthsFit (d .config .panel) l ≡ true → guarded d l ≡ Accepted
+unfolding guarded
+two-pass d l e f = rw (e, f)
+
+three-pass : (d : Ssd1677) (l : Lengths) (otp : List ℕ) → stateFine d ≡ true → lengthsFit (d .config .panel) l ≡ true → badTable otp ≡ false
+    → guardedWithTable d l otp ≡ Accepted
+unfolding guardedWithTable
+three-pass d l otp e f g = rw (e, f, g)
+
+-- what is not lent has no wrong length
+unlent : (size : ℕ) → fits Nothing size ≡ true
+unfolding fits
+unlent size = refl
+
+module _ (otp : List ℕ) (w : World) (s : Sound otp w) where
+  -- a call that is lent the glass, and of the other buffers each or not
+  lent-passes : (g b r o : Lent) → fits g logBytes ≡ true → fits b planeBytes ≡ true → fits r planeBytes ≡ true → fits o (w .device .config .panel .height) ≡ true
+      → guarded (w .device) (lengthsOf (length (w .states)) (length (w .luts)) (length (w .pixels)) g b r o) ≡ Accepted
+  lent-passes g b r o e f h i =
+      let l = sound-long otp w s in
+      two-pass (w .device) (lengthsOf (length (w .states)) (length (w .luts)) (length (w .pixels)) g b r o) (s .state)
+      (lengths-pass (w .device .config .panel) (length (w .states)) (length (w .luts)) (length (w .pixels)) g b r o (l .states) (l .luts) (l .pixels) e f h i)
+
+  glass-passes : guarded (w .device) (glassLent (length (w .states)) (length (w .luts)) (length (w .pixels))) ≡ Accepted
+  glass-passes =
+      lent-passes Nothing Nothing Nothing Nothing (unlent logBytes) (unlent planeBytes) (unlent planeBytes) (unlent (w .device .config .panel .height))
+
+  log-passes : guarded (w .device) (glassLogLent (length (w .states)) (length (w .luts)) (length (w .pixels)) (length (w .log))) ≡ Accepted
+  log-passes =
+      lent-passes (Of (length (w .log))) Nothing Nothing Nothing (has (length (w .log)) logBytes (sound-long otp w s .log)) (unlent planeBytes)
+      (unlent planeBytes) (unlent (w .device .config .panel .height))
+
+  planes-pass : guarded (w .device)
+      (planesLogLent (length (w .states)) (length (w .luts)) (length (w .pixels)) (length (w .log)) (length (w .blackWhite)) (length (w .red)))
+      ≡ Accepted
+  planes-pass =
+      let l = sound-long otp w s in
+      lent-passes (Of (length (w .log))) (Of (length (w .blackWhite))) (Of (length (w .red))) Nothing (has (length (w .log)) logBytes (l .log))
+      (has (length (w .blackWhite)) planeBytes (l .black-white)) (has (length (w .red)) planeBytes (l .red)) (unlent (w .device .config .panel .height))
+
+  -- every call is accepted
+  pub accepted-takes : (call : Call) → called otp w call ≡ outcome 0 (taken otp w call)
+  unfolding clockMoved lineMoved commandWritten dataWritten dataRead ambientSet diagnosticsTaken
+  accepted-takes (advance time) = ap (back (putGlass w)) (granted _ (glassOf w) (advanced (w .luts) time (glassOf w)) glass-passes)
+  accepted-takes (set-reset time low) = ap (back (putGlassLog w)) (granted _ (glassLogOf w) (lineTaken (w .luts) time low (glassLogOf w)) log-passes)
+  accepted-takes (write-command time command) =
+      ap (back (putBuffers w))
+      (granted _ (buffersOf w) (commandTaken (lentOf otp w) time command (buffersOf w))
+      (three-pass (w .device) (lengthsIn w) otp (s .state) (s .lengths) (s .table)))
+  accepted-takes (write-data time byte) = ap (back (putPlanes w)) (granted _ (planesOf w) (dataIn (w .luts) time byte (planesOf w)) planes-pass)
+  accepted-takes (read-data time) =
+      ap (back (λ (r : WithRead). putGlassLog w (r .left)))
+      (granted _ (withRead (glassLogOf w) none) (readIn (w .luts) (w .blackWhite) (w .red) time (glassLogOf w)) planes-pass)
+  accepted-takes (set-ambient register) =
+      ap (back (putDevice w))
+      (granted _ (w .device) (withConfig (w .device) (withAmbient (w .device .config) register)) (state-passes (w .device) (s .state)))
+  accepted-takes take-diagnostics =
+      ap (back (λ (t : WithCount). putDevice w (t .device)))
+      (granted _ (withCount (w .device) 0) (withCount (withJournal (w .device) (emptied (w .device .journal))) (w .device .journal .count))
+      (state-passes (w .device) (s .state)))

@@ -1,0 +1,185 @@
+-- Every call leaves a sound state and sound buffers: 13, 11 and 12 refuse no later call. Assumes nothing.
+use Prim.Native.Nat.{ℕ, zero-le, _≤_}
+use mathlib.Core.Path.{_≡_, refl, sym, ap, subst, _∙_}
+use mathlib.Core.Bool.{Bool, true}
+use mathlib.Core.List.{List}
+use lib.ListN.{length}
+use Rattle.config.specs.declared.Ssd1677Config.{Ssd1677Config}
+use Rattle.diagnostic.specs.declared.Journal.{Journal}
+use Rattle.device.specs.declared.Active as the
+use Rattle.device.specs.declared.Current.{Current}
+use Rattle.device.specs.declared.Current.the-variants.{Ignoring, Active}
+use Rattle.registers.proofs.Bounds.{Bounded}
+use Rattle.guard.specs.declared.lengths.Lent.the-variants.{Of}
+use Rattle.guard.specs.Kinds.{currentFine}
+use Rattle.chip.specs.Advance.{Ready, WithGlass, advanced}
+use Rattle.chip.specs.Close.{withLog, closed}
+use Rattle.chip.proofs.Arrived.{config-advanced, swing-advanced, regs-advanced, journal-advanced, current-advanced, states-advanced}
+use Rattle.reset.specs.Reset.{withGlassLog}
+use Rattle.reset.proofs.Kept.{ready-closed, ready-line}
+use Rattle.activation.specs.Activation.{withBuffers}
+use Rattle.activation.proofs.Kept.{ready-advanced}
+use Rattle.begin.proofs.Kept.{config-begun, swing-begun, states-begun, luts-begun, pixels-begun, log-begun, count-begun, bounded-begun, current-begun}
+use Rattle.acts.specs.Ram.{withRam}
+use Rattle.data.specs.Data.{counted}
+use Rattle.data.proofs.Kept.{data-leaves, current-kept}
+use Rattle.reading.specs.Reading.{counted as countedRead}
+use Rattle.reading.proofs.Kept.{read-leaves, current-read}
+use Rattle.ssd1677.specs.Calls.{lineTaken}
+use Rattle.ssd1677.specs.Command.{commandTaken}
+use Rattle.ssd1677.specs.Data.{dataIn}
+use Rattle.ssd1677.specs.Read.{readIn}
+use Rattle.ssd1677.proofs.Passed.{ready-fine}
+use Rattle.calls.specs.World.{World, Call, advance, set-reset, write-command, write-data, read-data, set-ambient, take-diagnostics, glassOf, lentOf, taken}
+use Rattle.calls.specs.Sound.{Sound}
+use Rattle.calls.proofs.Parts.{fine-kept, long-kept, sound-fine, sound-long, is-sound}
+use Rattle.calls.proofs.Line.{closed-count, closed-length, closed-regs, closed-config, closed-swing, closed-current, line-leaves, current-line}
+
+-- the arguments are of the types that the entry points give them: bytes, and a register of 16 bits
+abbrev pub Typed : Call → Type 0
+Typed (advance time) = Unit {0}
+Typed (set-reset time low) = Unit {0}
+Typed (write-command time command) = command ≤ 255
+Typed (write-data time byte) = byte ≤ 255
+Typed (read-data time) = Unit {0}
+Typed (set-ambient register) = register ≤ 65535
+Typed take-diagnostics = Unit {0}
+
+-- an ignored command passes 13, and one with a byte or a read more as it did
+ignored : currentFine Ignoring ≡ true
+unfolding currentFine
+ignored = refl
+
+goes-on : (a : the.Active) (extra range : Bool) → currentFine (Active a) ≡ true → currentFine (Active (counted a extra range)) ≡ true
+unfolding currentFine
+goes-on a extra range h = h
+
+reads-on : (a : the.Active) (range nothing : Bool) → currentFine (Active a) ≡ true → currentFine (Active (countedRead a range nothing)) ≡ true
+unfolding currentFine
+reads-on a range nothing h = h
+
+module _ (otp : List ℕ) (w : World) (s : Sound otp w) where
+  -- what finishing a display asks
+  ready : Ready (w .device) (w .states) (w .luts) (w .pixels)
+  ready =
+      ready-fine (w .device) (w .states) (w .luts) (w .pixels) (Of (length (w .log))) (Of (length (w .blackWhite))) (Of (length (w .red)))
+      (Of (length (w .gates))) (s .state) (s .lengths)
+
+  module _ (time : ℕ) where
+    -- the clock has moved
+    abbrev moved : WithGlass
+    moved = advanced (w .luts) time (glassOf w)
+
+    moved-ready : Ready (moved .device) (moved .states) (w .luts) (moved .pixels)
+    moved-ready = ready-advanced (w .luts) time (glassOf w) ready
+
+    moved-pixels : length (moved .pixels) ≡ length (w .pixels)
+    moved-pixels = moved-ready .pixels-long ∙ states-advanced (w .luts) time (glassOf w) ∙ sym (ready .pixels-long)
+
+    moved-config : moved .device .config ≡ w .device .config
+    moved-config = config-advanced (w .luts) time (glassOf w)
+
+    moved-swing : moved .device .panel .swing ≡ w .device .panel .swing
+    moved-swing = swing-advanced (w .luts) time (glassOf w)
+
+    moved-bounded : Bounded (moved .device .regs)
+    moved-bounded = subst Bounded (sym (regs-advanced (w .luts) time (glassOf w))) (sound-fine otp w s .bounded)
+
+    moved-count : moved .device .journal .count ≤ 1024
+    moved-count =
+        subst (λ (j : Journal). j .count ≤ 1024) (sym (journal-advanced (w .luts) time (glassOf w))) (sound-fine otp w s .count)
+
+    moved-current : currentFine (moved .device .bus .current) ≡ true
+    moved-current = ap currentFine (current-advanced (w .luts) time (glassOf w)) ∙ sound-fine otp w s .current
+
+    -- a later state of the same configuration and swing, with its buffers
+    later-sound : (v : World) → v .device .config ≡ moved .device .config → v .device .panel .swing ≡ moved .device .panel .swing
+        → Bounded (v .device .regs) → v .device .journal .count ≤ 1024 → currentFine (v .device .bus .current) ≡ true
+        → length (v .states) ≡ length (moved .states) → length (v .luts) ≡ length (w .luts) → length (v .pixels) ≡ length (moved .pixels)
+        → length (v .log) ≡ 16384 → length (v .blackWhite) ≡ length (w .blackWhite) → length (v .red) ≡ length (w .red)
+        → length (v .gates) ≡ length (w .gates) → Sound otp v
+    later-sound v config swing bounded count current states luts pixels log black-white red gates =
+        let same = config ∙ moved-config in
+        is-sound otp v (s .table)
+        (fine-kept (w .device) (v .device) (sound-fine otp w s) (ap (λ (c : Ssd1677Config). c .panel) same) (ap (λ (c : Ssd1677Config). c .timing) same)
+        (swing ∙ moved-swing) bounded count current)
+        (long-kept (w .device .config .panel) (v .device .config .panel) w v (sound-long otp w s) (ap (λ (c : Ssd1677Config). c .panel) same)
+        (states ∙ states-advanced (w .luts) time (glassOf w)) luts (pixels ∙ moved-pixels) log black-white red gates)
+
+    clock-keeps : Sound otp (taken otp w (advance time))
+    clock-keeps =
+        later-sound (taken otp w (advance time)) refl refl moved-bounded moved-count moved-current refl refl refl (sound-long otp w s .log) refl refl refl
+
+    line-keeps : (low : Bool) → Sound otp (taken otp w (set-reset time low))
+    unfolding lineTaken
+    line-keeps low =
+        let a = withGlassLog (moved .device) (moved .states) (moved .pixels) (w .log) in
+        let p = moved .device .bus .power in
+        let l = line-leaves (w .luts) low a p in
+        later-sound (taken otp w (set-reset time low)) (l .same-config) (l .same-swing) (l .bounded moved-bounded) (l .count moved-count)
+        (current-line (w .luts) low a p moved-current) (l .states-long) refl
+        (ready-line (w .luts) low a p moved-ready .pixels-long ∙ l .states-long ∙ sym (moved-ready .pixels-long))
+        (l .log-long (sound-long otp w s .log)) refl refl refl
+
+    command-keeps : (command : ℕ) → Sound otp (taken otp w (write-command time command))
+    unfolding commandTaken
+    command-keeps command =
+        let k = withLog (moved .device) (w .log) in
+        let c = closed k in
+        let a = withBuffers (c .device) (moved .states) (w .luts) (moved .pixels) (c .log) in
+        let p = c .device .bus .power in
+        let t = lentOf otp w in
+        later-sound (taken otp w (write-command time command)) (config-begun t command a p ∙ closed-config k) (swing-begun t command a p ∙ closed-swing k)
+        (bounded-begun t command a p (subst Bounded (sym (closed-regs k)) moved-bounded))
+        (count-begun t command a p (closed-count k moved-count)) (current-begun t command a p (closed-current k)) (states-begun t command a p)
+        (luts-begun t command a p)
+        (pixels-begun t command a p (ready-closed (moved .states) (w .luts) (moved .pixels) k c refl moved-ready))
+        (log-begun t command a p (closed-length k (sound-long otp w s .log)))
+        refl refl refl
+
+    data-keeps : (byte : ℕ) → byte ≤ 255 → Sound otp (taken otp w (write-data time byte))
+    unfolding dataIn
+    data-keeps byte small =
+        let r = withRam (moved .device) (w .blackWhite) (w .red) (w .log) in
+        let c = moved .device .bus .current in
+        let l = data-leaves byte r c small in
+        let kept = l .sound (record { bounded = moved-bounded; room = moved-count; long = sound-long otp w s .log }) in
+        later-sound (taken otp w (write-data time byte)) (l .same-config) (ap (λ x. x .swing) (l .same-panel)) (kept .bounded) (kept .room)
+        (current-kept (λ (x : Current). currentFine x ≡ true) ignored goes-on byte r c refl moved-current) refl refl refl (kept .long)
+        (l .black-white-long) (l .red-long) refl
+
+    read-keeps : Sound otp (taken otp w (read-data time))
+    unfolding readIn
+    read-keeps =
+        let k = withLog (moved .device) (w .log) in
+        let p = moved .device .bus .power in
+        let l = read-leaves (w .blackWhite) (w .red) k p in
+        let kept = l .sound (record { bounded = moved-bounded; room = moved-count; long = sound-long otp w s .log }) in
+        later-sound (taken otp w (read-data time)) (l .same-config) (ap (λ x. x .swing) (l .same-panel)) (kept .bounded) (kept .room)
+        (current-read (λ (x : Current). currentFine x ≡ true) reads-on (w .blackWhite) (w .red) k p moved-current) refl refl refl (kept .long)
+        refl refl refl
+
+  ambient-keeps : (register : ℕ) → Sound otp (taken otp w (set-ambient register))
+  ambient-keeps register =
+      let v = taken otp w (set-ambient register) in
+      let f = sound-fine otp w s in
+      let l = sound-long otp w s in
+      is-sound otp v (s .table) (fine-kept (w .device) (v .device) f refl refl refl (f .bounded) (f .count) (f .current))
+      (long-kept (w .device .config .panel) (w .device .config .panel) w v l refl refl refl refl (l .log) refl refl refl)
+
+  diagnostics-keeps : Sound otp (taken otp w take-diagnostics)
+  diagnostics-keeps =
+      let v = taken otp w take-diagnostics in
+      let f = sound-fine otp w s in
+      let l = sound-long otp w s in
+      is-sound otp v (s .table) (fine-kept (w .device) (v .device) f refl refl refl (f .bounded) zero-le (f .current))
+      (long-kept (w .device .config .panel) (w .device .config .panel) w v l refl refl refl refl (l .log) refl refl refl)
+
+  pub sound-kept : (call : Call) → Typed call → Sound otp (taken otp w call)
+  sound-kept (advance time) t = clock-keeps time
+  sound-kept (set-reset time low) t = line-keeps time low
+  sound-kept (write-command time command) t = command-keeps time command
+  sound-kept (write-data time byte) t = data-keeps time byte t
+  sound-kept (read-data time) t = read-keeps time
+  sound-kept (set-ambient register) t = ambient-keeps register
+  sound-kept take-diagnostics t = diagnostics-keeps

@@ -1,0 +1,68 @@
+-- From an accepted start on, whatever calls came, each with what the call before it left: no further call is refused, and BUSY is high to
+-- the end of a running display. Assumes nothing.
+use Prim.Native.Nat.{ℕ, _<_}
+use mathlib.Core.Path.{_≡_, sym, ap, subst}
+use mathlib.Core.Bool.{true}
+use mathlib.Core.List.{List, [], _∷_}
+use Rattle.config.specs.declared.Ssd1677Config.{Ssd1677Config}
+use Rattle.config.specs.Answer.{isAccepted}
+use Rattle.device.specs.declared.Deadline.the-variants.{At}
+use Rattle.busy.specs.Busy.{busyAt, deadlineOf}
+use Rattle.query.specs.Outcome.{Outcome, outcome}
+use Rattle.power_on.specs.Start.{Buffers, started}
+use Rattle.calls.specs.World.{World, worldOf, Call, called, taken}
+use Rattle.calls.specs.Sound.{Sound, Held}
+use Rattle.calls.proofs.Accepted.{accepted-takes}
+use Rattle.calls.proofs.Kept.{Typed, sound-kept}
+use Rattle.calls.proofs.Start.{started-sound}
+use Rattle.calls.proofs.Held.{held-kept, started-held, busy-to-end, deadline-at-end}
+
+-- what calls leave, one after the other, by the contracts of the entry points
+abbrev pub leftBy : List ℕ → World → List Call → World
+leftBy otp w [] = w
+leftBy otp w (call ∷ calls) = leftBy otp (called otp w call .held) calls
+
+-- the arguments of each are of their types
+abbrev pub AllTyped : List Call → Type 0
+AllTyped [] = Unit {0}
+AllTyped (call ∷ calls) = Typed call × AllTyped calls
+
+-- both of what every call keeps
+pub record Kept (otp : List ℕ) (w : World) : Type 0 where
+  pub sound : Sound otp w
+  pub held : Held (w .device)
+
+pub run-keeps : (otp : List ℕ) (w : World) (calls : List Call) → AllTyped calls → Kept otp w → Kept otp (leftBy otp w calls)
+run-keeps otp w [] t k = k
+run-keeps otp w (call ∷ calls) t k = run-keeps otp (called otp w call .held) calls (t .1) next
+  where
+    same : called otp w call .held ≡ taken otp w call
+    same = ap (λ (o : Outcome World). o .held) (accepted-takes otp w (k .sound) call)
+
+    next : Kept otp (called otp w call .held)
+    next =
+        subst (Kept otp) (sym same)
+        (record { sound = sound-kept otp w (k .sound) call (t .0); held = held-kept otp w (k .held) call (t .0) })
+
+module _ (c : Ssd1677Config) (otp : List ℕ) (b : Buffers) (accepts : isAccepted (started c otp b .answer) ≡ true) (calls : List Call)
+    (typed : AllTyped calls) where
+  -- the device and its buffers after the calls
+  abbrev pub present : World
+  present = leftBy otp (worldOf (started c otp b .left)) calls
+
+  pub run-kept : Kept otp present
+  run-kept =
+      run-keeps otp (worldOf (started c otp b .left)) calls typed (record { sound = started-sound c otp b accepts; held = started-held c otp b })
+
+  -- no further call is refused: it answers 0 and does what it is to do
+  pub never-refused : (call : Call) → called otp present call ≡ outcome 0 (taken otp present call)
+  never-refused call = accepted-takes otp present (run-kept .sound) call
+
+  module _ (run : present .device .display .running ≡ true) where
+    -- while a refresh runs, BUSY is high up to its end
+    pub busy-while-running : (t : ℕ) → t < present .device .display .ends → busyAt (present .device .bus) t ≡ true
+    busy-while-running t h = busy-to-end (present .device) (run-kept .held run) t h
+
+    -- and the next deadline is that end
+    pub deadline-while-running : deadlineOf (present .device) ≡ At (present .device .display .ends)
+    deadline-while-running = deadline-at-end (present .device) (run-kept .held run) run

@@ -1,0 +1,153 @@
+-- An accepted start leaves a sound state and sound buffers; the state that a refused one hands back, every call refuses with 13.
+-- Assumes nothing.
+use Prim.Native.Nat.{ℕ, zero, suc, zero-le, _≤_}
+use mathlib.Core.Path.{_≡_, refl, sym, ap, subst, _∙_}
+use mathlib.Core.Bool.{true, false}
+use mathlib.Core.List.{List, [], _∷_}
+use lib.IntN.{pos}
+use lib.ListN.{length, length-set}
+use borrow.Author.Tests.{not-false}
+use Rattle.numbers.specs.Saturation.{satZ, least, most}
+use Rattle.numbers.proofs.Hold.{at-most}
+use Rattle.numbers.proofs.Lin.{is-le, le-out, whole}
+use Rattle.numbers.proofs.Painted.{length-tab}
+use Rattle.config.specs.declared.PanelGeometry.{PanelGeometry}
+use Rattle.config.specs.declared.Ssd1677Config.{Ssd1677Config}
+use Rattle.config.specs.Answer.{isAccepted, firstOf}
+use Rattle.otp.specs.Table.{startTests}
+use Rattle.scan.specs.Gates.{physicalRow, gatesStored}
+use Rattle.panel.specs.Start.{panelAtPowerOn, powerOn}
+use Rattle.panel.proofs.Start.{some-swing}
+use Rattle.device.specs.declared.Current.the-variants.{Idle}
+use Rattle.device.specs.declared.Ssd1677.{Ssd1677}
+use Rattle.registers.proofs.Bounds.{reset-bounded}
+use Rattle.guard.specs.declared.Refusal.{Refusal}
+use Rattle.guard.specs.declared.Refusal.the-variants.{State}
+use Rattle.guard.specs.declared.lengths.Lengths.{Lengths}
+use Rattle.guard.specs.Kinds.{currentFine}
+use Rattle.guard.specs.Lengths.{lengthsFit}
+use Rattle.guard.specs.Refusals.{guarded, guardedWithTable}
+use Rattle.guard.specs.State.{swingFine, stateFine}
+use Rattle.guard.proofs.Accepted.{none-refuses, FineLengths, fine-lengths}
+use Rattle.guard.proofs.Started.{both, started-panel, started-swing, started-periods, started-table}
+use Rattle.query.specs.Outcome.{outcome, unless, stateGuarded}
+use Rattle.query.specs.Queries.{WithCount, ambientSet, diagnosticsTaken}
+use Rattle.power_on.specs.Start.{Buffers, lengthsIn, bufferTest, allTests, poweredOn, cleared, filled, Powered, poweredUp, started}
+use Rattle.power_on.proofs.Refused.{unstarted-refused}
+use Rattle.ssd1677.specs.Calls.{clockMoved, lineMoved}
+use Rattle.ssd1677.specs.Command.{commandWritten}
+use Rattle.ssd1677.specs.Data.{dataWritten}
+use Rattle.ssd1677.specs.Read.{WithRead, dataRead}
+use Rattle.calls.specs.World.{World, worldOf, Call, advance, set-reset, write-command, write-data, read-data, set-ambient, take-diagnostics, putDevice, putGlass, putGlassLog, putBuffers, putPlanes, back, called}
+use Rattle.calls.specs.Sound.{Sound}
+use Rattle.calls.proofs.Parts.{Fine, Long, is-sound}
+
+-- ---- the parts of the chip at power-on
+fine-swing : (n : ℕ) → 1 ≤ n → swingFine (satZ (pos n)) ≡ true
+fine-swing n h =
+    rw (is-le (pos 1) (satZ (pos n)) (le-out (some-swing n h)), is-le (satZ (pos n)) most (at-most (pos n) least most (omega whole)))
+
+idle : currentFine Idle ≡ true
+unfolding currentFine
+idle = refl
+
+gates-length : (g : PanelGeometry) (n : ℕ) (rows : List ℕ) → length (gatesStored g n rows) ≡ length rows
+unfolding gatesStored
+gates-length g zero rows = refl
+gates-length g (suc n) rows = length-set (gatesStored g n rows) (physicalRow g n) n ∙ gates-length g n rows
+
+module _ (c : Ssd1677Config) (otp : List ℕ) (b : Buffers) where
+  module _ (accepts : isAccepted (firstOf (allTests c otp (lengthsIn b))) ≡ true) where
+    tests : isAccepted (firstOf (startTests c otp)) ≡ true
+    tests = both (startTests c otp) (bufferTest (c .panel) (lengthsIn b) ∷ []) accepts .0
+
+    fit : lengthsFit (c .panel) (lengthsIn b) ≡ true
+    fit =
+        not-false (lengthsFit (c .panel) (lengthsIn b))
+        (none-refuses (bufferTest (c .panel) (lengthsIn b)) [] (both (startTests c otp) (bufferTest (c .panel) (lengthsIn b) ∷ []) accepts .1) .0)
+
+    lengths : FineLengths (c .panel) (lengthsIn b)
+    lengths = fine-lengths (c .panel) (lengthsIn b) fit
+
+    powered-fine : Fine (poweredUp c b .device)
+    unfolding poweredUp poweredOn panelAtPowerOn
+    powered-fine =
+        record {
+          panel = started-panel c otp tests;
+          swing = fine-swing (c .optics .«full_swing») (started-swing c otp tests);
+          periods = started-periods c otp tests;
+          bounded = reset-bounded (c .«user_id»);
+          count = zero-le;
+          current = idle;
+        }
+
+    powered-long : Long (c .panel) (worldOf (poweredUp c b))
+    unfolding poweredUp filled powerOn cleared
+    powered-long =
+        record {
+          states = length-tab (length (b .states)) _ ∙ lengths .states;
+          luts = length-tab (length (b .luts)) _ ∙ lengths .luts;
+          pixels = length-tab (length (b .pixels)) _ ∙ lengths .pixels;
+          log = length-tab (length (b .log)) _ ∙ lengths .log (length (b .log)) refl;
+          black-white = length-tab (length (b .blackWhite)) _ ∙ lengths .black-white (length (b .blackWhite)) refl;
+          red = length-tab (length (b .red)) _ ∙ lengths .red (length (b .red)) refl;
+          gates = gates-length (c .panel) (c .panel .height) (b .gates) ∙ lengths .gates (length (b .gates)) refl;
+        }
+
+    same-panel : poweredUp c b .device .config .panel ≡ c .panel
+    unfolding poweredUp poweredOn
+    same-panel = refl
+
+    powered-sound : Sound otp (worldOf (poweredUp c b))
+    powered-sound =
+        is-sound otp (worldOf (poweredUp c b)) (started-table c otp tests) powered-fine
+        (subst (λ (p : PanelGeometry). Long p (worldOf (poweredUp c b))) (sym same-panel) powered-long)
+
+  accepted-left : isAccepted (started c otp b .answer) ≡ true → started c otp b .left ≡ poweredUp c b
+  unfolding started
+  accepted-left h = rw h
+
+  accepted-tests : isAccepted (started c otp b .answer) ≡ true → isAccepted (firstOf (allTests c otp (lengthsIn b))) ≡ true
+  unfolding started
+  accepted-tests h = h
+
+  pub started-sound : isAccepted (started c otp b .answer) ≡ true → Sound otp (worldOf (started c otp b .left))
+  started-sound h = subst (λ (p : Powered). Sound otp (worldOf p)) (sym (accepted-left h)) (powered-sound (accepted-tests h))
+
+  pub refused-start : isAccepted (started c otp b .answer) ≡ false → stateFine (started c otp b .left .device) ≡ false
+  unfolding started
+  refused-start h = rw h (unstarted-refused c)
+
+-- ---- 13 refuses every call
+refused-13 : {A : Type 0} (r : Refusal) (given done : A) → r ≡ State → unless r given done ≡ outcome 13 given
+refused-13 r given done e = rw e
+
+alone-refuses : (d : Ssd1677) → stateFine d ≡ false → stateGuarded d ≡ State
+unfolding stateGuarded
+alone-refuses d e = rw e
+
+two-refuse : (d : Ssd1677) (l : Lengths) → stateFine d ≡ false → guarded d l ≡ State
+unfolding guarded
+two-refuse d l e = rw e
+
+three-refuse : (d : Ssd1677) (l : Lengths) (otp : List ℕ) → stateFine d ≡ false → guardedWithTable d l otp ≡ State
+unfolding guardedWithTable
+three-refuse d l otp e = rw e
+
+-- and leaves the world as given
+pub unfine-refused : (otp : List ℕ) (w : World) → stateFine (w .device) ≡ false → (call : Call) → called otp w call ≡ outcome 13 w
+unfolding clockMoved lineMoved commandWritten dataWritten dataRead ambientSet diagnosticsTaken
+unfine-refused otp w e (advance time) = ap (back (putGlass w)) (refused-13 _ _ _ (two-refuse (w .device) _ e))
+unfine-refused otp w e (set-reset time low) = ap (back (putGlassLog w)) (refused-13 _ _ _ (two-refuse (w .device) _ e))
+unfine-refused otp w e (write-command time command) = ap (back (putBuffers w)) (refused-13 _ _ _ (three-refuse (w .device) _ otp e))
+unfine-refused otp w e (write-data time byte) = ap (back (putPlanes w)) (refused-13 _ _ _ (two-refuse (w .device) _ e))
+unfine-refused otp w e (read-data time) =
+    ap (back (λ (r : WithRead). putGlassLog w (r .left))) (refused-13 _ _ _ (two-refuse (w .device) _ e))
+unfine-refused otp w e (set-ambient register) = ap (back (putDevice w)) (refused-13 _ _ _ (alone-refuses (w .device) e))
+unfine-refused otp w e take-diagnostics =
+    ap (back (λ (t : WithCount). putDevice w (t .device))) (refused-13 _ _ _ (alone-refuses (w .device) e))
+
+-- so does every call with what a refused start left, whatever table it is lent
+pub refused-start-refuses : (c : Ssd1677Config) (otp : List ℕ) (b : Buffers) → isAccepted (started c otp b .answer) ≡ false
+    → (table : List ℕ) (call : Call) → called table (worldOf (started c otp b .left)) call ≡ outcome 13 (worldOf (started c otp b .left))
+refused-start-refuses c otp b h table call = unfine-refused table (worldOf (started c otp b .left)) (refused-start c otp b h) call

@@ -1,0 +1,3 @@
+-- The root of calls' specs.
+pub mod World
+pub mod Sound

@@ -1,2 +1,0 @@
--- The root of dispatch's specs.
-pub mod Dispatch

@@ -1,0 +1,20 @@
+-- Document 01's ★ figures, one theorem over one list. Assumes nothing.
+use mathlib.Core.Path.{_≡_, refl}
+use Rattle.numbers.specs.Choice.{bitOf}
+use Rattle.numbers.specs.Lists.{tab}
+use Rattle.numbers.specs.Saturation.{clampZ}
+use Rattle.glass.specs.Greys.{grayZ}
+use Rattle.voltage.specs.Codes.{voltage}
+use Rattle.waveform.specs.Voltages.{levelsOf, sourceLevel, vcomSwing}
+use Rattle.waveform.specs.Setting.{codesOf, frameRateOf, groupCodesOf, waveformOf}
+use Rattle.waveform.specs.Phases.{phaseOf, driven, joined}
+use Rattle.waveform.specs.Walks.{saturatedDrive, pushed, cutStep, wholeTransfer, cutTransfer}
+use Rattle.config.specs.Temperature.{sixteenthsOf}
+use Rattle.ram.specs.Counter.{stepOf, advancedOf}
+use Rattle.ram.specs.Registers.{tenBits}
+use Rattle.scan.specs.Gates.{rowOf, rowOfGate}
+use Rattle.figures.specs.Figures.{computed, stated}
+
+pub figures : computed ≡ stated
+unfolding voltage sixteenthsOf tenBits advancedOf stepOf bitOf rowOfGate rowOf wholeTransfer cutTransfer waveformOf groupCodesOf codesOf frameRateOf levelsOf sourceLevel vcomSwing tab joined phaseOf driven saturatedDrive pushed cutStep clampZ grayZ
+figures = refl

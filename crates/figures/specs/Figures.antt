@@ -1,0 +1,106 @@
+-- The ★ figures of document 01 ("Checked figures"): what the definitions that the contracts cite compute, beside what the paper states.
+-- An entry is a list of numbers, empty for none.
+use Prim.Native.Nat.{ℕ}
+use mathlib.Core.Bool.{true, false}
+use mathlib.Core.List.{List, [], _∷_}
+use lib.IntN.{ℤ, pos, negsuc}
+use lib.ListN.{set, replicate}
+use Rattle.glass.specs.declared.Transfer.{Transfer}
+use Rattle.glass.specs.Transfers.{applyT}
+use Rattle.glass.specs.Greys.{grayZ}
+use Rattle.voltage.specs.declared.Millivolts.{Millivolts}
+use Rattle.voltage.specs.declared.Millivolts.the-variants.{Listed, Unlisted}
+use Rattle.voltage.specs.Codes.{sourceVoltage, vslVoltage, vcomVoltage}
+use Rattle.waveform.specs.declared.Drive.the-variants.{Lut}
+use Rattle.waveform.specs.Walks.{wholeTransfer, cutTransfer}
+use Rattle.config.specs.Temperature.{sixteenthsOf}
+use Rattle.ram.specs.declared.Counter.{Counter}
+use Rattle.ram.specs.Counter.{resetEntry, advancedOf}
+use Rattle.ram.specs.Registers.{tenBits}
+use Rattle.scan.specs.declared.Row.{Row}
+use Rattle.scan.specs.declared.Row.the-variants.{Is, Nothing}
+use Rattle.scan.specs.Gates.{rowOfGate}
+
+-- the millivolts of a code, if it is listed
+abbrev pub millivolts : Millivolts → List ℤ
+millivolts (Listed v) = v ∷ []
+millivolts Unlisted = []
+
+-- a natural number
+abbrev pub number : ℕ → List ℤ
+number n = pos n ∷ []
+
+-- where a counter stands: x, then y
+abbrev pub place : Counter → List ℤ
+place c = pos (c .x) ∷ pos (c .y) ∷ []
+
+-- the row of a gate, if it has one
+abbrev pub row : Row → List ℤ
+row (Is r) = pos r ∷ []
+row Nothing = []
+
+-- the Mode Two setting of the reference table: LUT 1 at VSL and LUT 2 at VSH1 for 19 frames, then 6 frames of rest
+abbrev pub modeTwo : List ℕ
+modeTwo = set (set (set (set (set (set (set (replicate 112 0) 10 0x80) 20 0x40) 50 19) 51 6) 106 0x41) 107 0xA8) 108 0x32
+
+-- 20,000,000 ns for every frame-rate code
+abbrev pub periods : List ℕ
+periods = replicate 16 20000000
+
+-- S
+abbrev pub swing : ℤ
+swing = pos 6000000000000
+
+-- state S after a transfer, and its grey
+abbrev pub after : Transfer → List ℤ
+after t = applyT t swing ∷ pos (grayZ (applyT t swing) swing) ∷ []
+
+-- by the definitions; the counter is at x 16, y 5, in a window of x 13 to 23 with both axes incrementing
+abbrev pub computed : List (List ℤ)
+computed =
+    millivolts (sourceVoltage 0x4B)
+    ∷ millivolts (sourceVoltage 0x4C)
+    ∷ millivolts (vslVoltage 0x3A)
+    ∷ millivolts (vslVoltage 0x3B)
+    ∷ millivolts (vcomVoltage 0x08)
+    ∷ millivolts (vcomVoltage 0x04)
+    ∷ (sixteenthsOf 0x800 ∷ [])
+    ∷ (sixteenthsOf 0x7FF ∷ [])
+    ∷ number (tenBits 0x2A7 0 0x00)
+    ∷ number (tenBits (tenBits 0x2A7 0 0x00) 1 0xFF)
+    ∷ place (advancedOf (record { x = 16; y = 5 }) (record { «x_start» = 13; «x_end» = 23; «y_start» = 0; «y_end» = 679 }) resetEntry)
+    ∷ row (rowOfGate 5 (record { sm = true; gd = false }) 680)
+    ∷ row (rowOfGate 680 (record { sm = false; gd = false }) 680)
+    ∷ row (rowOfGate 680 (record { sm = true; gd = false }) 680)
+    ∷ row (rowOfGate 680 (record { sm = false; gd = true }) 680)
+    ∷ row (rowOfGate 680 (record { sm = true; gd = true }) 680)
+    ∷ row (rowOfGate 4 (record { sm = false; gd = true }) 5)
+    ∷ after (wholeTransfer modeTwo periods (Lut 2) swing true)
+    ∷ after (cutTransfer modeTwo periods (Lut 2) swing true 100000000)
+    ∷ after (cutTransfer modeTwo periods (Lut 2) swing true 99999999)
+    ∷ []
+
+-- by the paper, in the same order
+abbrev pub stated : List (List ℤ)
+stated =
+    (pos 17000 ∷ [])
+    ∷ []
+    ∷ (negsuc 16999 ∷ [])
+    ∷ []
+    ∷ (negsuc 199 ∷ [])
+    ∷ []
+    ∷ (negsuc 2047 ∷ [])
+    ∷ (pos 2047 ∷ [])
+    ∷ (pos 0x200 ∷ [])
+    ∷ (pos 0x300 ∷ [])
+    ∷ (pos 13 ∷ pos 6 ∷ [])
+    ∷ (pos 342 ∷ [])
+    ∷ []
+    ∷ []
+    ∷ []
+    ∷ []
+    ∷ []
+    ∷ (pos 300000000000 ∷ pos 13 ∷ [])
+    ∷ (pos 4500000000000 ∷ pos 191 ∷ [])
+    ∷ (pos 4800000000000 ∷ pos 204 ∷ [])
+    ∷ []

@@ -1,0 +1,2 @@
+-- The root of figures' specs.
+pub mod Figures

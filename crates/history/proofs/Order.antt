@@ -1,0 +1,85 @@
+-- Two pixels whose LUTs are equal in every refresh that a list of calls works in keep the order of their states. Assumes nothing.
+use Prim.Native.Nat.{ℕ, suc, _-_, _≤_, _<_, min}
+use mathlib.Core.Path.{_≡_, refl, subst}
+use mathlib.Core.Bool.{Bool, true, false, cond}
+use mathlib.Core.List.{List, [], _∷_}
+use native.Mathlib.Omega.{arith}
+use lib.Dec.{ltb}
+use lib.IntN.{ℤ, pos, negsuc}
+use lib.Signed.{_≤ℤ_}
+use lib.ListN.{length, getD}
+use borrow.Author.Tests.{ltb-true}
+use Rattle.numbers.specs.Choice.{pick}
+use Rattle.numbers.proofs.Lin.{le-in, whole}
+use Rattle.glass.specs.Exact.{held, drive, drives}
+use Rattle.glass.proofs.Exactly.{drive-pos}
+use Rattle.waveform.specs.declared.Drive.the-variants.{Lut}
+use Rattle.waveform.specs.Exact.{settingPhases}
+use Rattle.config.specs.declared.Ssd1677Config.{Ssd1677Config}
+use Rattle.calls.specs.World.{World, Call}
+use Rattle.history.specs.Reckon.{Core, stepped, Worked, worked, swingOf, drivesBy, numberAfter, numberOver, Reckoning, reckonCall, reckon}
+use Rattle.history.specs.Runs.{Runs}
+use Rattle.history.proofs.History.{Kept, run-kept}
+
+-- ---- one drive, whatever the states
+drive-down : (S d x : ℕ) → drive S (negsuc d) x ≡ min (x - suc d) S
+unfolding drive
+drive-down S d x = by (ltb x (suc d)) refl
+  where
+    by : (t : Bool) → ltb x (suc d) ≡ t → held S (cond t (negsuc (suc d - suc x)) (pos (x - suc d))) ≡ min (x - suc d) S
+    by true e = omega (arith, ltb-true x (suc d) e)
+    by false e = refl
+
+drive-keeps : (S : ℕ) (d : ℤ) (x y : ℕ) → x ≤ y → drive S d x ≤ drive S d y
+drive-keeps S (pos d) x y h = omega (arith, drive-pos S d x, drive-pos S d y)
+drive-keeps S (negsuc d) x y h = omega (arith, drive-down S d x, drive-down S d y)
+
+drives-keep : (S : ℕ) (ds : List ℤ) (x y : ℕ) → x ≤ y → drives S ds x ≤ drives S ds y
+unfolding drives
+drives-keep S [] x y h = h
+drives-keep S (d ∷ ds) x y h = drives-keep S ds (drive S d x) (drive S d y) (drive-keeps S d x y h)
+
+-- ---- the refreshes of a call, and of a list of calls
+module _ (i j : ℕ) where
+  -- one LUT for both pixels
+  abbrev pub SameLut : List Worked → Type 0
+  SameLut [] = Unit {0}
+  SameLut (w ∷ ws) = (getD (w .luts) i 0 ≡ getD (w .luts) j 0) × SameLut ws
+
+  -- in every refresh that the calls work in
+  abbrev pub Alike : List ℕ → Core → List Call → Type 0
+  Alike otp c [] = Unit {0}
+  Alike otp c (call ∷ calls) = SameLut (worked otp c call) × Alike otp (stepped otp c call) calls
+
+  after-keeps : (c : Ssd1677Config) (w : Worked) (x y : ℕ) → getD (w .luts) i 0 ≡ getD (w .luts) j 0 → x ≤ y → numberAfter c i x w ≤ numberAfter c j y w
+  unfolding numberAfter
+  after-keeps c w x y e h =
+      subst (λ (lut : ℕ). pick (ltb (getD (w .luts) i 0) 4) (drives (swingOf c) (by (getD (w .luts) i 0)) x) x ≤ pick (ltb lut 4) (drives (swingOf c) (by lut) y) y) e
+      (go (ltb (getD (w .luts) i 0) 4))
+    where
+      by : ℕ → List ℤ
+      by lut = drivesBy (c .optics .«positive_drives_black») (w .part) (settingPhases (w .setting) (c .timing .«frame_period») (Lut lut))
+
+      go : (t : Bool) → pick t (drives (swingOf c) (by (getD (w .luts) i 0)) x) x ≤ pick t (drives (swingOf c) (by (getD (w .luts) i 0)) y) y
+      go true = drives-keep (swingOf c) (by (getD (w .luts) i 0)) x y h
+      go false = h
+
+  over-keeps : (c : Ssd1677Config) (ws : List Worked) (x y : ℕ) → SameLut ws → x ≤ y → numberOver c i x ws ≤ numberOver c j y ws
+  unfolding numberOver
+  over-keeps c [] x y s h = h
+  over-keeps c (w ∷ ws) x y s h = over-keeps c ws (numberAfter c i x w) (numberAfter c j y w) (s .1) (after-keeps c w x y (s .0) h)
+
+  -- of the whole numbers
+  pub order-kept : (otp : List ℕ) (calls : List Call) (r : Reckoning) → Alike otp (r .core) calls → r .number i ≤ r .number j
+      → reckon otp r calls .number i ≤ reckon otp r calls .number j
+  unfolding reckon
+  order-kept otp [] r a h = h
+  order-kept otp (call ∷ calls) r a h =
+      order-kept otp calls (reckonCall otp r call) (a .1) (over-keeps (r .core .config) (worked otp (r .core) call) (r .number i) (r .number j) (a .0) h)
+
+  -- and of the lent states, after every run
+  pub order : {otp : List ℕ} {w u : World} {calls : List Call} (r : Reckoning) (count : ℕ) → Runs otp w calls u → Kept w r count → Alike otp (r .core) calls
+      → r .number i ≤ r .number j → i < length (u .states) → j < length (u .states) → getD (u .states) i (pos 0) ≤ℤ getD (u .states) j (pos 0)
+  order {otp = otp} {calls = calls} r count runs k a h in-i in-j =
+      let s = run-kept r count runs k .shows in
+      rw (s .states i in-i, s .states j in-j) (le-in _ _ (omega (whole, order-kept otp calls r a h)))

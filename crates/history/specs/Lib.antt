@@ -1,0 +1,4 @@
+-- The root of history's specs.
+pub mod Reckon
+pub mod Runs
+pub mod History

@@ -1,0 +1,3 @@
+-- The laws of reading that belong to no one function.
+pub mod Cases
+pub mod Kept

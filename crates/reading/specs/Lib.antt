@@ -1,0 +1,2 @@
+-- The root of reading's specs.
+pub mod Reading

@@ -1,0 +1,113 @@
+-- A byte that the MCU reads, once the clock has moved (mod.rs, `read_data` and `read_byte`).
+use Prim.Native.Nat.{ℕ, _+_, min}
+use mathlib.Core.Bool.{Bool, true, false}
+use mathlib.Core.List.{List}
+use lib.Dec.{eqb}
+use Rattle.numbers.specs.Choice.{pick}
+use Rattle.numbers.specs.Saturation.{largest}
+use Rattle.ram.specs.declared.Byte.{Byte}
+use Rattle.ram.specs.declared.Byte.the-variants.{Is, Nothing}
+use Rattle.ram.specs.declared.Plane.{Plane}
+use Rattle.ram.specs.declared.Plane.the-variants.{BlackWhite, Red}
+use Rattle.ram.specs.Plane.{planeOf, readAt}
+use Rattle.diagnostic.specs.declared.DiagnosticKind.the-variants.{RamOutOfRange, NothingToRead}
+use Rattle.device.specs.declared.Active.{Active}
+use Rattle.device.specs.declared.Current.{Current}
+use Rattle.device.specs.declared.Current.the-variants as current
+use Rattle.device.specs.declared.Kind.{Kind}
+use Rattle.device.specs.declared.Kind.the-variants.{Write, Read, Unsupported, Reserved}
+use Rattle.device.specs.declared.Power.{Power}
+use Rattle.device.specs.declared.Power.the-variants.{Running, Asleep, InReset}
+use Rattle.device.specs.declared.Ssd1677.{Ssd1677}
+use Rattle.registers.specs.Read.{readRegister}
+use Rattle.busy.specs.Busy.{busyAt}
+use Rattle.chip.specs.Close.{WithLog, withLog}
+use Rattle.chip.specs.Report.{logged}
+use Rattle.data.specs.Data.{made, stepped}
+
+-- the state and the log with the byte read, or none: the line floats
+pub record WithByte : Type 0 where
+  pub left : WithLog
+  pub byte : Byte
+
+-- the two as one
+abbrev pub withByte : WithLog → Byte → WithByte
+withByte k b = record { left = k; byte = b }
+
+-- the command with one read more, the count stopping at 65,535 (document 01), and what it has reported
+abbrev pub counted : Active → Bool → Bool → Active
+counted a range nothing =
+    record {
+      command = a .command;
+      kind = a .kind;
+      received = a .received;
+      read = min (a .read + 1) (largest 16);
+      «extra_reported» = a .«extra_reported»;
+      «range_reported» = range;
+      «nothing_reported» = nothing;
+    }
+
+-- a command of which a byte more was read
+abbrev pub going : Active → Bool → Bool → WithLog → WithLog
+going a range nothing k = withLog (made (current.Active (counted a range nothing)) (k .device)) (k .log)
+
+-- 38 for a command that has nothing to read, once a command
+unfoldable pub nothingRead : Active → WithLog → WithByte
+nothingRead a k =
+    withByte (going a (a .«range_reported») true (pick (a .«nothing_reported») k (logged (NothingToRead (a .command)) k))) Nothing
+
+-- the registers' bytes: 0x1B, 0x2D, 0x2E and 0x2F, which says whether the controller is busy at the clock
+unfoldable pub registerRead : Active → WithLog → WithByte
+registerRead a k =
+    let d = k .device in
+    withByte (going a (a .«range_reported») (a .«nothing_reported») k)
+    (readRegister (d .regs) (d .status) (busyAt (d .bus) (d .now)) (a .command) (a .read))
+
+-- the plane that 0x41 chose
+abbrev pub chosen : Ssd1677 → Plane
+chosen d = pick (d .regs .«read_ram_red») Red BlackWhite
+
+-- 31 past the RAM, once a command
+unfoldable pub outOfRange : Active → WithLog → WithLog
+outOfRange a k =
+    pick (a .«range_reported») k (logged (RamOutOfRange (a .command) (k .device .regs .counter .x) (k .device .regs .counter .y)) k)
+
+-- the counter steps
+abbrev pub moved : WithLog → WithLog
+moved k = withLog (stepped (k .device)) (k .log)
+
+-- a byte, or 31; the counter steps in either case
+unfoldable pub ramFound : Active → WithLog → Byte → WithByte
+ramFound a k (Is b) =
+    withByte (going a (a .«range_reported») (a .«nothing_reported») (moved k)) (Is b)
+ramFound a k Nothing = withByte (going a true (a .«nothing_reported») (moved (outOfRange a k))) Nothing
+
+-- 0x27: 0x00 first with the counter unmoved, then the RAM at the counter (document 01)
+unfoldable pub ramRead : List ℕ → List ℕ → Active → WithLog → WithByte
+ramRead blackWhite red a k =
+    pick (eqb (a .read) 0)
+    (withByte (going a (a .«range_reported») (a .«nothing_reported») k) (Is 0))
+    (ramFound a k (readAt (planeOf blackWhite red (chosen (k .device))) (k .device .regs .counter)))
+
+-- a read command's byte
+unfoldable pub byteRead : List ℕ → List ℕ → Active → WithLog → WithByte
+byteRead blackWhite red a k = pick (eqb (a .command) 0x27) (ramRead blackWhite red a k) (registerRead a k)
+
+-- by what the active command is
+unfoldable pub byKind : List ℕ → List ℕ → Active → WithLog → Kind → WithByte
+byKind blackWhite red a k Read = byteRead blackWhite red a k
+byKind blackWhite red a k (Write params) = nothingRead a k
+byKind blackWhite red a k Unsupported = nothingRead a k
+byKind blackWhite red a k Reserved = nothingRead a k
+
+-- with no active command nothing is driven, and nothing is reported
+unfoldable pub byCurrent : List ℕ → List ℕ → WithLog → Current → WithByte
+byCurrent blackWhite red k current.Idle = withByte k Nothing
+byCurrent blackWhite red k current.Ignoring = withByte k Nothing
+byCurrent blackWhite red k (current.Active a) = byKind blackWhite red a k (a .kind)
+
+-- nor asleep, nor in reset
+unfoldable pub readTaken : List ℕ → List ℕ → WithLog → Power → WithByte
+readTaken blackWhite red k Running = byCurrent blackWhite red k (k .device .bus .current)
+readTaken blackWhite red k Asleep = withByte k Nothing
+readTaken blackWhite red k InReset = withByte k Nothing

@@ -1,0 +1,37 @@
+-- A byte that the MCU reads (mod.rs, `read_data`): refused, or done in the order of the Rust.
+use Prim.Native.Nat.{ℕ}
+use mathlib.Core.List.{List}
+use lib.ListN.{length}
+use Rattle.ram.specs.declared.Byte.{Byte}
+use Rattle.ram.specs.declared.Byte.the-variants.{Nothing}
+use Rattle.chip.specs.Advance.{withGlass, advanced}
+use Rattle.chip.specs.Close.{withLog}
+use Rattle.reset.specs.Reset.{WithGlassLog, withGlassLog}
+use Rattle.reading.specs.Reading.{readTaken}
+use Rattle.guard.specs.Lengths.{planesLogLent}
+use Rattle.guard.specs.Refusals.{guarded}
+use Rattle.query.specs.Outcome.{Outcome, unless}
+
+-- the state with its buffers, and the byte read, or none
+pub record WithRead : Type 0 where
+  pub left : WithGlassLog
+  pub byte : Byte
+
+-- the two as one
+abbrev pub withRead : WithGlassLog → Byte → WithRead
+withRead w b = record { left = w; byte = b }
+
+-- the clock moves, then the current command gives its byte
+unfoldable pub readIn : List ℕ → List ℕ → List ℕ → ℕ → WithGlassLog → WithRead
+readIn luts blackWhite red time w =
+    let g = advanced luts time (withGlass (w .device) (w .states) (w .pixels)) in
+    let r = readTaken blackWhite red (withLog (g .device) (w .log)) (g .device .bus .power) in
+    withRead (withGlassLog (r .left .device) (g .states) (g .pixels) (r .left .log)) (r .byte)
+
+-- read_data
+unfoldable pub dataRead : List ℕ → List ℕ → List ℕ → ℕ → WithGlassLog → Outcome WithRead
+dataRead luts blackWhite red time w =
+    unless
+    (guarded (w .device)
+    (planesLogLent (length (w .states)) (length luts) (length (w .pixels)) (length (w .log)) (length blackWhite) (length red)))
+    (withRead w Nothing) (readIn luts blackWhite red time w)

@@ -1,0 +1,38 @@
+// A byte with D/C# high (mod.rs, `write_data`).
+ghost use mathlib.Core.Path.{_≡_};
+ghost use Rattle.guard.specs.Refusals.{numberOf};
+ghost use Rattle.query.specs.Outcome.{outcome};
+ghost use Rattle.ssd1677.specs.Data.{withPlanes, dataWritten};
+use device::Ssd1677;
+use query::Answer;
+
+// A byte with D/C# high, written by the MCU.
+pub fn write_data(
+    state: Ssd1677,
+    states: &mut [i64],
+    luts: &[u8],
+    pixels: &mut [u8],
+    black_white: &mut [u8],
+    red: &mut [u8],
+    log: &mut [u8],
+    time: u64,
+    byte: u8,
+) -> Answer
+    ensures { λ r. ⌜ outcome (numberOf (r .refusal)) (withPlanes (r .state) (now (states .exit)) (now (pixels .exit)) (now («black_white» .exit)) (now (red .exit)) (now (log .exit))) ≡ dataWritten (now (luts .entry)) time byte (withPlanes state (now (states .entry)) (now (pixels .entry)) (now («black_white» .entry)) (now (red .entry)) (now (log .entry))) ⌝ }
+{
+    let lengths = guard::lengths::planes_log_lent(
+        states.len(),
+        luts.len(),
+        pixels.len(),
+        log.len(),
+        black_white.len(),
+        red.len(),
+    );
+    let refusal = guard::check(state, lengths);
+    if guard::is_accepted(refusal) {
+        let present = chip::advance(state, states, luts, pixels, time);
+        let state = data::write(present, black_white, red, log, byte);
+        return Answer { refusal, state };
+    }
+    Answer { refusal, state }
+}
