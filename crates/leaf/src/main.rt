@@ -5,7 +5,6 @@ use libc::STDIN_FILENO;
 mod answer;
 mod commands;
 mod configuration;
-mod hash;
 mod planes;
 mod question;
 mod refreshes;

@@ -1,5 +1,4 @@
 // The counter and the planes.
-use crate::hash;
 use crate::take;
 use crate::text;
 use ram::Counter;

@@ -1,5 +1,4 @@
 // What refreshes in a row leave on the glass.
-use crate::hash;
 use crate::planes;
 use crate::take;
 use crate::text;

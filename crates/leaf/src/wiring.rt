@@ -1,6 +1,5 @@
 // Gates and rows, and the LUT of every pixel.
 use crate::configuration;
-use crate::hash;
 use crate::planes;
 use crate::take;
 use crate::text;

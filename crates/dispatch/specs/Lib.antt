@@ -1,0 +1,2 @@
+-- The root of dispatch's specs.
+pub mod Dispatch

@@ -1,0 +1,79 @@
+// An event handed to the entry point that it is for.
+ghost use mathlib.Core.Path.{_≡_};
+ghost use Rattle.guard.specs.Refusals.{numberOf};
+ghost use Rattle.query.specs.Outcome.{outcome};
+ghost use Rattle.dispatch.specs.Dispatch.{world, told, silent, dispatched};
+use device::Ssd1677;
+use event::Event;
+use query::Answer;
+use ram::Byte;
+use ssd1677::ReadAnswer;
+
+// An event that is no read gives no byte.
+fn silent(answer: Answer) -> ReadAnswer
+    ensures { λ r. ⌜ r ≡ silent answer ⌝ }
+{
+    let refusal = answer.refusal;
+    let state = answer.state;
+    ReadAnswer {
+        refusal,
+        state,
+        byte: Byte::Nothing,
+    }
+}
+
+// The call that an event makes, over the buffers of the whole device.
+pub fn dispatch(
+    state: Ssd1677,
+    states: &mut [i64],
+    luts: &mut [u8],
+    pixels: &mut [u8],
+    black_white: &mut [u8],
+    red: &mut [u8],
+    gates: &[u16],
+    log: &mut [u8],
+    otp: &[u8],
+    event: Event,
+) -> ReadAnswer
+    ensures { λ r. ⌜ outcome (numberOf (r .refusal)) (told (world (r .state) (now (states .exit)) (now (luts .exit)) (now (pixels .exit)) (now («black_white» .exit)) (now (red .exit)) (now (log .exit))) (r .byte)) ≡ dispatched (now (gates .entry)) (now (otp .entry)) (world state (now (states .entry)) (now (luts .entry)) (now (pixels .entry)) (now («black_white» .entry)) (now (red .entry)) (now (log .entry))) event ⌝ }
+{
+    match event {
+        Event::Command(time, command) => silent(ssd1677::write_command(
+            state,
+            states,
+            luts,
+            pixels,
+            black_white,
+            red,
+            gates,
+            log,
+            otp,
+            time,
+            command,
+        )),
+        Event::Data(time, byte) => silent(ssd1677::write_data(
+            state,
+            states,
+            luts,
+            pixels,
+            black_white,
+            red,
+            log,
+            time,
+            byte,
+        )),
+        Event::Read(time) => {
+            ssd1677::read_data(state, states, luts, pixels, black_white, red, log, time)
+        }
+        Event::Reset(time, asserted) => silent(ssd1677::set_reset(
+            state,
+            states,
+            luts,
+            pixels,
+            log,
+            time,
+            asserted,
+        )),
+        Event::Advance(time) => silent(ssd1677::advance(state, states, luts, pixels, time)),
+    }
+}
