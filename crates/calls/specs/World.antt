@@ -52,6 +52,7 @@ pub data Call : Type 0 where
   take-diagnostics : Call
 
 -- ---- what each call is lent, and where it goes back
+-- the state
 abbrev pub putDevice : World → Ssd1677 → World
 putDevice w d =
     record {
@@ -65,6 +66,7 @@ putDevice w d =
       log = w .log;
     }
 
+-- the state, the states and the pixels
 abbrev pub putGlass : World → WithGlass → World
 putGlass w g =
     record {
@@ -78,6 +80,7 @@ putGlass w g =
       log = w .log;
     }
 
+-- the same and the log
 abbrev pub putGlassLog : World → WithGlassLog → World
 putGlassLog w g =
     record {
@@ -91,6 +94,7 @@ putGlassLog w g =
       log = g .log;
     }
 
+-- the same and the chosen LUTs
 abbrev pub putBuffers : World → WithBuffers → World
 putBuffers w b =
     record {
@@ -104,6 +108,7 @@ putBuffers w b =
       log = b .log;
     }
 
+-- the state, the states, the pixels, both planes and the log
 abbrev pub putPlanes : World → WithPlanes → World
 putPlanes w p =
     record {
@@ -117,18 +122,23 @@ putPlanes w p =
       log = p .log;
     }
 
+-- what `advance` is lent
 abbrev pub glassOf : World → WithGlass
 glassOf w = withGlass (w .device) (w .states) (w .pixels)
 
+-- what `set_reset` is lent
 abbrev pub glassLogOf : World → WithGlassLog
 glassLogOf w = withGlassLog (w .device) (w .states) (w .pixels) (w .log)
 
+-- what `write_command` is lent and may change
 abbrev pub buffersOf : World → WithBuffers
 buffersOf w = withBuffers (w .device) (w .states) (w .luts) (w .pixels) (w .log)
 
+-- what `write_data` is lent and may change
 abbrev pub planesOf : World → WithPlanes
 planesOf w = withPlanes (w .device) (w .states) (w .pixels) (w .blackWhite) (w .red) (w .log)
 
+-- what `write_command` is lent and leaves
 abbrev pub lentOf : List ℕ → World → Lent
 lentOf otp w = lent (w .blackWhite) (w .red) (w .gates) otp
 

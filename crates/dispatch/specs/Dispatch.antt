@@ -28,6 +28,7 @@ pub record World : Type 0 where
   pub red : List ℕ
   pub log : List ℕ
 
+-- the seven as one
 abbrev pub world : Ssd1677 → List ℤ → List ℕ → List ℕ → List ℕ → List ℕ → List ℕ → World
 world device states luts pixels blackWhite red log =
     record { device = device; states = states; luts = luts; pixels = pixels; blackWhite = blackWhite; red = red; log = log }
@@ -37,6 +38,7 @@ pub record Told : Type 0 where
   pub left : World
   pub byte : Byte
 
+-- the two as one
 abbrev pub told : World → Byte → Told
 told w byte = record { left = w; byte = byte }
 

@@ -79,6 +79,7 @@ deviceOf c =
       journal = record { count = 0; dropped = 0; «reserved_reported» = false };
     }
 
+-- the world of such a device: no states, pixels or log
 abbrev pub bare : Core → World
 bare c =
     record {
@@ -108,6 +109,7 @@ pub record Worked : Type 0 where
   pub setting : List ℕ
   pub part : Part
 
+-- that of a display
 abbrev pub refresh : List ℕ → Display → Part → Worked
 refresh luts d part = record { luts = luts; setting = d .setting; part = part }
 
@@ -203,5 +205,6 @@ reckon otp r (call ∷ calls) = reckon otp (reckonCall otp r call) calls
 abbrev pub firstNumber : Ssd1677Config → ℕ
 firstNumber c = swingOf c * c .optics .«initial_gray» / 255
 
+-- the reckoning at the start
 abbrev pub begun : Core → Reckoning
 begun c = record { core = c; number = λ pixel. firstNumber (c .config) }

@@ -34,6 +34,7 @@ columnsOf bytes =
 unfoldable pub within : ℕ → ℕ → Line → Line
 within n limit line = pick (ltb n limit) line Bad
 
+-- a row of the table
 abbrev pub row : ℕ → Line → Row Line
 row kind line = record { number = kind; gives = line }
 

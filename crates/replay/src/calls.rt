@@ -2,8 +2,8 @@
 use crate::dump;
 use crate::fields;
 use crate::reads;
+use crate::run::Progress;
 use crate::run::Run;
-use crate::run::Session;
 use crate::say;
 use config::ConfigError;
 use device::Ssd1677;
@@ -12,31 +12,31 @@ use line::Line;
 use power_on::StartError;
 use query::Answer;
 
-pub fn refused(session: Session, text: &mut [u8; text::ROOM], number: u8) -> Session {
+pub fn refused(progress: Progress, text: &mut [u8; text::ROOM], number: u8) -> Progress {
     if number == 0 {
-        return session;
+        return progress;
     }
-    say::line(session, text, b"refused", numbers::wide(number))
+    say::line(progress, text, b"refused", numbers::wide(number))
 }
 
 // The state that a call leaves; a refused one is said.
-fn settled(before: Session, text: &mut [u8; text::ROOM], answer: Answer) -> Run {
+fn settled(before: Progress, text: &mut [u8; text::ROOM], answer: Answer) -> Run {
     let refusal = answer.refusal;
     let state = answer.state;
-    let session = refused(before, text, guard::number(refusal));
-    Run { session, state }
+    let progress = refused(before, text, guard::number(refusal));
+    Run { progress, state }
 }
 
 // How often a data or read line is made; the count is used up.
-pub fn times(session: Session) -> u64 {
-    if session.waits {
-        return session.count;
+pub fn times(progress: Progress) -> u64 {
+    if progress.waits {
+        return progress.count;
     }
     1
 }
 
-pub fn used_up(session: Session) -> Session {
-    let mut next = session;
+pub fn used_up(progress: Progress) -> Progress {
+    let mut next = progress;
     next.waits = false;
     next
 }
@@ -64,8 +64,8 @@ fn data(
         time,
         byte,
     );
-    let session = say::flushed(now.session, text);
-    settled(session, text, answer)
+    let progress = say::flushed(now.progress, text);
+    settled(progress, text, answer)
 }
 
 fn all_data(
@@ -80,11 +80,11 @@ fn all_data(
     time: u64,
     byte: u8,
 ) -> Run {
-    let before = now.session;
+    let before = now.progress;
     let state = now.state;
-    let session = used_up(before);
+    let progress = used_up(before);
     let mut left = times(before);
-    let mut next = Run { session, state };
+    let mut next = Run { progress, state };
     while 0 < left {
         next = data(
             next,
@@ -116,7 +116,7 @@ fn call(
     otp: &[u8],
     text: &mut [u8; text::ROOM],
 ) -> Run {
-    let session = now.session;
+    let progress = now.progress;
     let state = now.state;
     match event {
         Event::Command(time, command) => {
@@ -133,7 +133,7 @@ fn call(
                 time,
                 command,
             );
-            settled(session, text, answer)
+            settled(progress, text, answer)
         }
         Event::Data(time, byte) => all_data(
             now,
@@ -160,23 +160,23 @@ fn call(
         ),
         Event::Reset(time, asserted) => {
             let answer = ssd1677::set_reset(state, states, luts, pixels, log, time, asserted);
-            settled(session, text, answer)
+            settled(progress, text, answer)
         }
         Event::Advance(time) => {
             let answer = ssd1677::advance(state, states, luts, pixels, time);
-            settled(session, text, answer)
+            settled(progress, text, answer)
         }
     }
 }
 
 // Before a start a data or read line uses the count up.
-fn unheard(session: Session, event: Event) -> Session {
+fn unheard(progress: Progress, event: Event) -> Progress {
     match event {
-        Event::Command(_, _) => session,
-        Event::Data(_, _) => used_up(session),
-        Event::Read(_) => used_up(session),
-        Event::Reset(_, _) => session,
-        Event::Advance(_) => session,
+        Event::Command(_, _) => progress,
+        Event::Data(_, _) => used_up(progress),
+        Event::Read(_) => used_up(progress),
+        Event::Reset(_, _) => progress,
+        Event::Advance(_) => progress,
     }
 }
 
@@ -193,7 +193,7 @@ fn told(
     otp: &[u8],
     text: &mut [u8; text::ROOM],
 ) -> Run {
-    let before = now.session;
+    let before = now.progress;
     let state = now.state;
     if before.started {
         return call(
@@ -210,89 +210,89 @@ fn told(
             text,
         );
     }
-    let session = unheard(before, event);
-    Run { session, state }
+    let progress = unheard(before, event);
+    Run { progress, state }
 }
 
-fn query(session: Session, state: Ssd1677, text: &mut [u8; text::ROOM], time: u64) -> Session {
-    if !session.started {
-        return session;
+fn query(progress: Progress, state: Ssd1677, text: &mut [u8; text::ROOM], time: u64) -> Progress {
+    if !progress.started {
+        return progress;
     }
     let busy = query::is_busy(state, time);
     let pin = query::busy_pin(state, time);
     let refusal = busy.refusal;
     let number = guard::number(refusal);
     if number == 0 {
-        let busy_at = text::word(text, session.at, b"query");
+        let busy_at = text::word(text, progress.at, b"query");
         let pin_at = say::truth_field(text, busy_at, busy.level);
         let end_at = say::truth_field(text, pin_at, pin.level);
-        return say::said(session, say::end(text, end_at));
+        return say::said(progress, say::end(text, end_at));
     }
-    refused(session, text, number)
+    refused(progress, text, number)
 }
 
 fn ambient(now: Run, text: &mut [u8; text::ROOM], register: u16) -> Run {
-    let session = now.session;
-    if !session.started {
+    let progress = now.progress;
+    if !progress.started {
         return now;
     }
     let answer = query::set_ambient(now.state, register);
-    settled(session, text, answer)
+    settled(progress, text, answer)
 }
 
-fn taken_said(session: Session, text: &mut [u8; text::ROOM], number: u8, count: u16) -> Session {
+fn taken_said(progress: Progress, text: &mut [u8; text::ROOM], number: u8, count: u16) -> Progress {
     if number == 0 {
-        return say::line(session, text, b"taken", count as u64);
+        return say::line(progress, text, b"taken", count as u64);
     }
-    refused(session, text, number)
+    refused(progress, text, number)
 }
 
 fn taken(now: Run, text: &mut [u8; text::ROOM]) -> Run {
-    let before = now.session;
+    let before = now.progress;
     if !before.started {
         return now;
     }
     let taken = query::take_diagnostics(now.state);
     let refusal = taken.refusal;
     let state = taken.state;
-    let session = taken_said(before, text, guard::number(refusal), taken.count);
-    Run { session, state }
+    let progress = taken_said(before, text, guard::number(refusal), taken.count);
+    Run { progress, state }
 }
 
 fn start_refused(
-    session: Session,
+    progress: Progress,
     text: &mut [u8; text::ROOM],
     number: u64,
     value: usize,
-) -> Session {
-    let number_at = text::word(text, session.at, b"start refused");
+) -> Progress {
+    let number_at = text::word(text, progress.at, b"start refused");
     let value_at = say::field(text, number_at, number);
     let end_at = say::field(text, value_at, value as u64);
-    say::said(session, say::end(text, end_at))
+    say::said(progress, say::end(text, end_at))
 }
 
-fn start_ok(session: Session, text: &mut [u8; text::ROOM]) -> Session {
-    let mut next = say::said(session, text::word(text, session.at, b"start ok\n"));
+fn start_ok(progress: Progress, text: &mut [u8; text::ROOM]) -> Progress {
+    let mut next = say::said(progress, text::word(text, progress.at, b"start ok\n"));
     next.started = true;
     next
 }
 
-fn answered(session: Session, text: &mut [u8; text::ROOM], error: ConfigError) -> Session {
+fn answered(progress: Progress, text: &mut [u8; text::ROOM], error: ConfigError) -> Progress {
     match error {
-        ConfigError::Accepted => start_ok(session, text),
-        ConfigError::EmptyPanel => start_refused(session, text, 1, 0),
-        ConfigError::PanelOutsideRam => start_refused(session, text, 2, 0),
-        ConfigError::OddRowsWithGd => start_refused(session, text, 3, 0),
-        ConfigError::ZeroSwing => start_refused(session, text, 4, 0),
-        ConfigError::ZeroFramePeriod(code) => start_refused(session, text, 5, code),
-        ConfigError::BadTable => start_refused(session, text, 12, 0),
-        ConfigError::OtpVoltage(entry) => start_refused(session, text, 6, entry),
+        ConfigError::Accepted => start_ok(progress, text),
+        ConfigError::EmptyPanel => start_refused(progress, text, 1, 0),
+        ConfigError::PanelOutsideRam => start_refused(progress, text, 2, 0),
+        ConfigError::OddRowsWithGd => start_refused(progress, text, 3, 0),
+        ConfigError::ZeroSwing => start_refused(progress, text, 4, 0),
+        ConfigError::ZeroFramePeriod(code) => start_refused(progress, text, 5, code),
+        ConfigError::BadTable => start_refused(progress, text, 12, 0),
+        ConfigError::OtpVoltage(entry) => start_refused(progress, text, 6, entry),
     }
 }
 
 // Where a start is refused, nothing is started.
-fn begun(session: Session, text: &mut [u8; text::ROOM], error: StartError) -> Session {
-    let mut next = session;
+fn begun(progress: Progress, text: &mut [u8; text::ROOM], error: StartError) -> Progress {
+    let mut next = progress;
     next.started = false;
     match error {
         StartError::Parameters(error) => answered(next, text, error),
@@ -301,7 +301,7 @@ fn begun(session: Session, text: &mut [u8; text::ROOM], error: StartError) -> Se
 }
 
 fn start(
-    before: Session,
+    before: Progress,
     states: &mut [i64],
     luts: &mut [u8],
     pixels: &mut [u8],
@@ -327,8 +327,8 @@ fn start(
     );
     let error = started.error;
     let state = started.state;
-    let session = begun(before, text, error);
-    Run { session, state }
+    let progress = begun(before, text, error);
+    Run { progress, state }
 }
 
 pub fn asked(
@@ -345,7 +345,7 @@ pub fn asked(
     fields: &[u64],
     text: &mut [u8; text::ROOM],
 ) -> Run {
-    let session = now.session;
+    let progress = now.progress;
     let state = now.state;
     match line {
         Line::Event(event) => told(
@@ -362,12 +362,12 @@ pub fn asked(
             text,
         ),
         Line::Query(time) => {
-            let session = query(session, state, text, time);
-            Run { session, state }
+            let progress = query(progress, state, text, time);
+            Run { progress, state }
         }
         Line::Dump => {
-            let session = dump::dump(
-                session,
+            let progress = dump::dump(
+                progress,
                 state,
                 states,
                 luts,
@@ -378,7 +378,7 @@ pub fn asked(
                 log,
                 text,
             );
-            Run { session, state }
+            Run { progress, state }
         }
         Line::Repeat(_) => now,
         Line::Ambient(register) => ambient(now, text, register),
@@ -386,7 +386,7 @@ pub fn asked(
         Line::Field(_, _) => now,
         Line::Otp(_, _) => now,
         Line::Start => start(
-            session,
+            progress,
             states,
             luts,
             pixels,

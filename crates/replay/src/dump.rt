@@ -1,7 +1,7 @@
 // The dump of a device.
 use crate::current;
 use crate::registers;
-use crate::run::Session;
+use crate::run::Progress;
 use crate::say;
 use device::Deadline;
 use device::Power;
@@ -165,7 +165,7 @@ fn rest(text: &mut [u8; text::ROOM], at: usize, state: Ssd1677, bytes: &[u8]) ->
 }
 
 pub fn dump(
-    session: Session,
+    progress: Progress,
     state: Ssd1677,
     states: &[i64],
     luts: &[u8],
@@ -175,13 +175,13 @@ pub fn dump(
     gates: &[u16],
     log: &[u8],
     text: &mut [u8; text::ROOM],
-) -> Session {
-    if !session.started {
-        return session;
+) -> Progress {
+    if !progress.started {
+        return progress;
     }
-    let running_at = chip(text, session.at, state);
+    let running_at = chip(text, progress.at, state);
     let rest_at = running(text, running_at, state);
     let hash_at = rest(text, rest_at, state, log);
     let end_at = hashes(text, hash_at, states, luts, pixels, black_white, red, gates);
-    say::said(session, end_at)
+    say::said(progress, end_at)
 }

@@ -53,13 +53,13 @@ fn sized(
     fields: &[u64],
     text: &mut [u8; text::ROOM],
 ) -> Run {
-    let session = now.session;
+    let progress = now.progress;
     let area = area(geometry.height, geometry.width);
     let state_count = held(area, states.len());
     let lut_count = held(area, luts.len());
     let pixel_count = held(area, pixels.len());
     let rows = held(geometry.height as usize, gates.len());
-    let bytes = held(session.table, otp.len());
+    let bytes = held(progress.table, otp.len());
     calls::asked(
         now,
         line,
@@ -92,17 +92,17 @@ pub fn take(
     fields: &mut [u64; run::FIELDS],
     text: &mut [u8; text::ROOM],
 ) -> Run {
-    let read = now.session;
+    let read = now.progress;
     if read.ended {
         return now;
     }
     let line = line::parse(bytes);
     let state = now.state;
     let prepared = prepare::prepare(prepare::counted(read), line, otp, table, fields, text);
-    let session = say::flushed(prepared, text);
+    let progress = say::flushed(prepared, text);
     let geometry = panel(line, state, fields);
     sized(
-        Run { session, state },
+        Run { progress, state },
         line,
         geometry,
         states,

@@ -141,7 +141,7 @@ fn all(
     fields: &mut [u64; run::FIELDS],
     text: &mut [u8; text::ROOM],
 ) {
-    let session = run::fresh();
+    let progress = run::fresh();
     let state = begin(
         states,
         luts,
@@ -153,7 +153,7 @@ fn all(
         otp,
         fields,
     );
-    let mut now = Run { session, state };
+    let mut now = Run { progress, state };
     let mut turns = u64::MAX;
     let mut more = true;
     while 0 < turns && more {
@@ -175,7 +175,7 @@ fn all(
         more = !input.ended;
         turns -= 1;
     }
-    say::flush(now.session, text);
+    say::flush(now.progress, text);
 }
 
 fn main() {

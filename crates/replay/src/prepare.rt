@@ -1,17 +1,17 @@
 // The lines that need no device.
 use crate::run;
-use crate::run::Session;
+use crate::run::Progress;
 use crate::say;
 use line::Line;
 
-pub fn counted(session: Session) -> Session {
-    let mut next = session;
-    next.lines = numbers::saturating_add_u64(session.lines, 1);
+pub fn counted(progress: Progress) -> Progress {
+    let mut next = progress;
+    next.lines = numbers::saturating_add_u64(progress.lines, 1);
     next
 }
 
-fn bad(session: Session, text: &mut [u8; text::ROOM]) -> Session {
-    let mut next = say::line(session, text, b"bad line", session.lines);
+fn bad(progress: Progress, text: &mut [u8; text::ROOM]) -> Progress {
+    let mut next = say::line(progress, text, b"bad line", progress.lines);
     next.ended = true;
     next
 }
@@ -23,8 +23,8 @@ fn set_field(fields: &mut [u64; run::FIELDS], field: usize, n: u64) {
 }
 
 // The table ends after the highest place set.
-fn set_otp(session: Session, otp: &mut [u8; run::OTP], place: usize, byte: u8) -> Session {
-    let mut next = session;
+fn set_otp(progress: Progress, otp: &mut [u8; run::OTP], place: usize, byte: u8) -> Progress {
+    let mut next = progress;
     if place < run::OTP {
         otp[place] = byte;
         if next.otp <= place {
@@ -52,22 +52,22 @@ fn clear_fields(fields: &mut [u64; run::FIELDS]) {
 
 // A new case: configuration all 0, OTP empty, nothing started.
 fn case(
-    session: Session,
+    progress: Progress,
     otp: &mut [u8; run::OTP],
     fields: &mut [u64; run::FIELDS],
     text: &mut [u8; text::ROOM],
     value: u16,
-) -> Session {
+) -> Progress {
     clear_otp(otp);
     clear_fields(fields);
-    let mut next = session;
+    let mut next = progress;
     next.otp = 0;
     next.started = false;
     say::line(next, text, b"case", value as u64)
 }
 
-fn repeat(session: Session, count: u64) -> Session {
-    let mut next = session;
+fn repeat(progress: Progress, count: u64) -> Progress {
+    let mut next = progress;
     next.waits = true;
     next.count = count;
     next
@@ -82,35 +82,35 @@ fn copy(otp: &[u8; run::OTP], table: &mut [u8; run::OTP]) {
 }
 
 // A device keeps the table of its start, whatever lines set later.
-fn keep(session: Session, otp: &[u8; run::OTP], table: &mut [u8; run::OTP]) -> Session {
+fn keep(progress: Progress, otp: &[u8; run::OTP], table: &mut [u8; run::OTP]) -> Progress {
     copy(otp, table);
-    let mut next = session;
-    next.table = session.otp;
+    let mut next = progress;
+    next.table = progress.otp;
     next
 }
 
 pub fn prepare(
-    session: Session,
+    progress: Progress,
     line: Line,
     otp: &mut [u8; run::OTP],
     table: &mut [u8; run::OTP],
     fields: &mut [u64; run::FIELDS],
     text: &mut [u8; text::ROOM],
-) -> Session {
+) -> Progress {
     match line {
-        Line::Event(_) => session,
-        Line::Query(_) => session,
-        Line::Dump => session,
-        Line::Repeat(count) => repeat(session, count),
-        Line::Ambient(_) => session,
-        Line::Case(value) => case(session, otp, fields, text, value),
+        Line::Event(_) => progress,
+        Line::Query(_) => progress,
+        Line::Dump => progress,
+        Line::Repeat(count) => repeat(progress, count),
+        Line::Ambient(_) => progress,
+        Line::Case(value) => case(progress, otp, fields, text, value),
         Line::Field(field, n) => {
             set_field(fields, field, n);
-            session
+            progress
         }
-        Line::Otp(place, byte) => set_otp(session, otp, place, byte),
-        Line::Start => keep(session, otp, table),
-        Line::TakeDiagnostics => session,
-        Line::Bad => bad(session, text),
+        Line::Otp(place, byte) => set_otp(progress, otp, place, byte),
+        Line::Start => keep(progress, otp, table),
+        Line::TakeDiagnostics => progress,
+        Line::Bad => bad(progress, text),
     }
 }

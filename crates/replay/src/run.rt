@@ -15,7 +15,7 @@ pub const OTP: usize = 10000;
 
 pub const FIELDS: usize = 53;
 
-pub struct Session {
+pub struct Progress {
     // Lines taken.
     pub lines: u64,
     pub started: bool,
@@ -32,12 +32,12 @@ pub struct Session {
 }
 
 pub struct Run {
-    pub session: Session,
+    pub progress: Progress,
     pub state: Ssd1677,
 }
 
-pub fn fresh() -> Session {
-    Session {
+pub fn fresh() -> Progress {
+    Progress {
         lines: 0,
         started: false,
         waits: false,

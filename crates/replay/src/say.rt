@@ -1,5 +1,5 @@
 // Lines of the answers.
-use crate::run::Session;
+use crate::run::Progress;
 
 // Above so many bytes the text is written; no answer to a line is longer than the rest.
 const ENOUGH: usize = 57344;
@@ -40,28 +40,28 @@ pub fn end(text: &mut [u8; text::ROOM], at: usize) -> usize {
     text::put(text, at, b'\n')
 }
 
-// The session with its text as far as `at`.
-pub fn said(session: Session, at: usize) -> Session {
-    let mut next = session;
+// The progress with its text as far as `at`.
+pub fn said(progress: Progress, at: usize) -> Progress {
+    let mut next = progress;
     next.at = at;
     next
 }
 
 // A word and a number.
-pub fn line(session: Session, text: &mut [u8; text::ROOM], word: &[u8], n: u64) -> Session {
-    let number_at = text::word(text, session.at, word);
+pub fn line(progress: Progress, text: &mut [u8; text::ROOM], word: &[u8], n: u64) -> Progress {
+    let number_at = text::word(text, progress.at, word);
     let end_at = field(text, number_at, n);
-    said(session, end(text, end_at))
+    said(progress, end(text, end_at))
 }
 
-pub fn flush(session: Session, text: &[u8; text::ROOM]) -> Session {
-    said(session, text::flush(text, session.at))
+pub fn flush(progress: Progress, text: &[u8; text::ROOM]) -> Progress {
+    said(progress, text::flush(text, progress.at))
 }
 
 // The same once there is enough.
-pub fn flushed(session: Session, text: &[u8; text::ROOM]) -> Session {
-    if session.at < ENOUGH {
-        return session;
+pub fn flushed(progress: Progress, text: &[u8; text::ROOM]) -> Progress {
+    if progress.at < ENOUGH {
+        return progress;
     }
-    flush(session, text)
+    flush(progress, text)
 }

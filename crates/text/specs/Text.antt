@@ -11,6 +11,7 @@ pub record Gathered : Type 0 where
   pub at : ℕ
   pub bytes : List ℕ
 
+-- the two as one
 abbrev pub gathered : ℕ → List ℕ → Gathered
 gathered at bytes = record { at = at; bytes = bytes }
 
