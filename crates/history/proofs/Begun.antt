@@ -49,7 +49,7 @@ joined-plain w s =
     ap (λ (g : WithGlass). withBuffers (g .device) (g .states) (s .luts) (g .pixels) [])
     (blind-advanced (s .luts) (s .device .now) (withGlass (s .device) (w .states) (w .pixels)))
 
-blind-activated : (k : Lent) → Blind plainBuffers plainBuffers (activated k)
+pub blind-activated : (k : Lent) → Blind plainBuffers plainBuffers (activated k)
 unfolding activated
 blind-activated k w =
     joined-plain w (stagedIn k w)

@@ -39,7 +39,7 @@ module _ (blackWhite red gates : List ℕ) (d : Ssd1677) (luts : List ℕ) where
       displayed (waited ns (a .run)) (displayOf (s .run .lut) (d .regs .border) (d .now) (s .run .ns) ns two)
       (tab (length luts) (lutOf gates red blackWhite (d .config .panel) (scanOf (d .regs)))) (a .log)
 
-  blind-begun : (two : Bool) → Blind plainStep plainDisplayed (λ (s : Step). begun blackWhite red gates d two s luts)
+  pub blind-begun : (two : Bool) → Blind plainStep plainDisplayed (λ (s : Step). begun blackWhite red gates d two s luts)
   unfolding begun waited
   blind-begun two s =
       ap (λ (a : Step). plainDisplayed (from two s a))

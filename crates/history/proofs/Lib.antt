@@ -15,6 +15,13 @@ pub mod Taken
 pub mod Calls
 pub mod Start
 pub mod History
+pub mod Tells
+pub mod TellsLog
+pub mod TellsData
+pub mod TellsStages
+pub mod TellsShown
+pub mod TellsCalls
+pub mod Reports
 pub mod Held
 pub mod Exists
 pub mod Order

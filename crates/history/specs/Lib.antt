@@ -2,3 +2,4 @@
 pub mod Reckon
 pub mod Runs
 pub mod History
+pub mod Reports
