@@ -58,11 +58,12 @@ tally otp c t (call ∷ calls) = tally otp (stepped otp c call) (tallyCall otp c
 abbrev pub noReport : Tally
 noReport = record { waiting = 0; dropped = 0; flag = false }
 
--- ---- where none of the calls takes the records that wait: all of them
+-- how many reports a list of calls makes
 abbrev pub reportsIn : List ℕ → Core → Bool → List Call → ℕ
 reportsIn otp c flag [] = 0
 reportsIn otp c flag (call ∷ calls) = reportsOf otp c flag call + reportsIn otp (stepped otp c call) (flagAfter otp c flag call) calls
 
+-- a call that takes the records that wait
 abbrev pub takes : Call → Bool
 takes (advance time) = false
 takes (set-reset time low) = false
@@ -72,6 +73,7 @@ takes (read-data time) = false
 takes (set-ambient register) = false
 takes take-diagnostics = true
 
+-- none of the calls does
 abbrev pub Untaken : List Call → Type 0
 Untaken [] = Unit {0}
 Untaken (call ∷ calls) = (takes call ≡ false) × Untaken calls
