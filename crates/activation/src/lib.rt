@@ -18,8 +18,6 @@ use panel::Display;
 use scan::PlaneOption;
 use scan::Scan;
 use stages::Run;
-use waveform::duration;
-use waveform::setting;
 
 fn kind_of(two: bool) -> RefreshKind
     ensures { λ r. ⌜ r ≡ kindOf two ⌝ }

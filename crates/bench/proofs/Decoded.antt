@@ -11,7 +11,7 @@ use Rattle.waveform.specs.declared.Until.the-variants.{Whole, Cut}
 use Rattle.waveform.specs.declared.Waveform.{Waveform}
 use Rattle.waveform.specs.Setting.{waveformOf}
 use Rattle.waveform.specs.Walks.{transferOf}
-use Rattle.waveform.proofs.Decoded.{decoded-whole, decoded-cut}
+use Rattle.waveform_laws.proofs.Decoded.{decoded-whole, decoded-cut}
 use Rattle.panel.specs.Finish.{settingTransfer}
 
 pub decoded-is : (s p : List ℕ) (drive : Drive) {w : Waveform} → w ≡ waveformOf s p → (swing : ℤ) (black : Bool) (until : Until) {t : Transfer}

@@ -30,8 +30,8 @@ pub(crate) fn transfer(
     requires { ⌜ walkable (now periods) lut ≡ true ⌝ }
     ensures { λ r. ⌜ r ≡ settingTransfer (now (setting .entry)) (now (periods .entry)) (Lut lut) swing «positive_drives_black» until ⌝ }
 {
-    let decoded = waveform::setting::from_setting(setting, periods);
-    waveform::walk::transfer(
+    let decoded = setting::from_setting(setting, periods);
+    walk::transfer(
         decoded,
         Drive::Lut(lut),
         swing,

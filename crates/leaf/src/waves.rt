@@ -60,7 +60,7 @@ fn levels(text: &mut [u8; text::ROOM], at: usize, levels: Levels) -> usize {
 fn waveform(numbers: &[u64], periods: usize, setting: usize) -> Waveform {
     let periods = take::periods(numbers, periods);
     let setting = take::setting(numbers, setting);
-    waveform::setting::from_setting(&setting, &periods)
+    setting::from_setting(&setting, &periods)
 }
 
 fn from_setting(text: &mut [u8; text::ROOM], at: usize, numbers: &[u64]) -> usize {
@@ -79,7 +79,7 @@ fn frame_rate_code(text: &mut [u8; text::ROOM], at: usize, numbers: &[u64]) -> u
     setting[103] = take::byte(numbers, 4);
     setting[104] = take::byte(numbers, 5);
     if group < 10 {
-        let code = waveform::setting::frame_rate_code(&setting, group as usize);
+        let code = setting::frame_rate_code(&setting, group as usize);
         return text::number(text, at, code as u64);
     }
     at
@@ -116,8 +116,8 @@ fn driven(text: &mut [u8; text::ROOM], at: usize, drive: Drive, numbers: &[u64])
     let periods = take::periods(numbers, 6);
     let setting = take::setting(numbers, 22);
     if lasting(periods) {
-        let waveform = waveform::setting::from_setting(&setting, &periods);
-        let transfer = waveform::walk::transfer(waveform, drive, swing, black, until);
+        let waveform = setting::from_setting(&setting, &periods);
+        let transfer = walk::transfer(waveform, drive, swing, black, until);
         return transfers::put(text, at, transfer);
     }
     at
@@ -139,7 +139,7 @@ pub fn answer(text: &mut [u8; text::ROOM], at: usize, name: &[u8], numbers: &[u6
         return from_setting(text, at, numbers);
     }
     if take::asks(name, b"duration_ns", numbers, 128) {
-        let ns = waveform::duration::duration_ns(waveform(numbers, 0, 16));
+        let ns = duration::duration_ns(waveform(numbers, 0, 16));
         return text::number(text, at, ns);
     }
     if take::asks(name, b"frame_rate_code", numbers, 6) {

@@ -40,7 +40,7 @@ fn put_listing(out: &mut [u8], waveform: Waveform) -> usize
     ensures text { λ r. ⌜ buffer r (now (out .exit)) ≡ appended (buffer 0 (now (out .entry))) (listingOf waveform) ⌝ }
     ensures end { λ r. ⌜ r ≤ 2101 ⌝ }
 {
-    let duration = waveform::duration::duration_ns(waveform);
+    let duration = duration::duration_ns(waveform);
     let lines_end = lines(out, waveform);
     let end = column::put(out, lines_end, 20, false, duration);
     column::put_line_end(out, end)
@@ -54,7 +54,7 @@ fn waveform_of(setting: &[u8]) -> Waveform
     let mut copied = [0u8; 112];
     bytes::copy(setting, &mut copied);
     let periods = [line::PERIOD; 16];
-    waveform::setting::from_setting(&copied, &periods)
+    setting::from_setting(&copied, &periods)
 }
 
 // Number 41 of document 01: the input is not 112 bytes.

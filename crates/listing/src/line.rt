@@ -26,7 +26,7 @@ fn drive_of(levels: Levels, group: Group, phase: usize, lut: usize) -> i64
         swing: 0,
         positive_drives_black: false,
     };
-    waveform::phases::phase_of(driving, group, phase).millivolts
+    walk::phases::phase_of(driving, group, phase).millivolts
 }
 
 // The drives of LUT 0 to 3.

@@ -26,7 +26,7 @@ use Rattle.waveform.specs.declared.Phase.{Phase}
 use Rattle.waveform.specs.declared.Until.{Until}
 use Rattle.waveform.specs.declared.Until.the-variants.{Whole, Cut}
 use Rattle.waveform.specs.Exact.{allDrives, cutDrives, settingPhases}
-use Rattle.waveform.proofs.Exactly.{whole-exact, cut-exact}
+use Rattle.waveform_laws.proofs.Exactly.{whole-exact, cut-exact}
 use Rattle.panel.specs.Pixels.{stateBy, statesBy, grays}
 use Rattle.panel.specs.Finish.{Ending, settingTransfer, transferBy}
 

@@ -33,7 +33,7 @@ pub(crate) fn refresh_of(
     ensures { λ r. ⌜ r ≡ refreshOf (waveformOf (display .setting) «frame_period») (panel .swing) «positive_drives_black» until ⌝ }
 {
     let setting = display.setting;
-    let waveform = waveform::setting::from_setting(&setting, &frame_period);
+    let waveform = setting::from_setting(&setting, &frame_period);
     Refresh {
         waveform,
         swing: panel.swing,
@@ -48,7 +48,7 @@ fn transfer(refresh: Refresh, drive: Drive) -> Transfer
 {
     let waveform = refresh.waveform;
     let until = refresh.until;
-    waveform::walk::transfer(
+    walk::transfer(
         waveform,
         drive,
         refresh.swing,

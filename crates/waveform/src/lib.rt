@@ -3,12 +3,6 @@
 // moves in proportion to that voltage and to the time, stopping at black or white.
 use glass::Transfer;
 use voltage::Millivolts;
-
-pub mod duration;
-pub mod phases;
-pub mod setting;
-pub mod walk;
-
 ghost use mathlib.Core.Path.{_≡_};
 ghost use Rattle.waveform.specs.Voltages.{orZero, levelsOf, sourceLevel, vcomSwing};
 

@@ -9,7 +9,7 @@ use Rattle.numbers.proofs.Cases.{took, passed}
 use Rattle.waveform.specs.declared.Waveform.{Waveform}
 use Rattle.waveform.specs.Setting.{waveformOf}
 use Rattle.waveform.specs.Voltages.{AllListable}
-use Rattle.waveform.proofs.Decoded.{levels-listable}
+use Rattle.waveform_laws.proofs.Decoded.{levels-listable}
 use Rattle.column.specs.Columns.{Buffer, buffer, appended}
 use Rattle.listing.specs.Listing.{period, listingOf, notASetting, textOf, listed}
 use Rattle.column.proofs.Appended.{fronted}

@@ -2,7 +2,7 @@
 use mathlib.Core.Path.{sym, subst}
 use lib.IntN.{pos}
 use lib.Signed.{_≤ℤ_}
-use Rattle.waveform.proofs.Decoded.{walkable}
+use Rattle.waveform_laws.proofs.Decoded.{walkable}
 use Rattle.panel.specs.declared.Panel.{Panel}
 use Rattle.panel.specs.declared.refresh.Refresh.{Refresh}
 use Rattle.panel.specs.Refresh.{AllWalkable}

@@ -3,7 +3,7 @@ use mathlib.Core.Path.{ap, _∙_}
 use lib.IntN.{ℤ}
 use Rattle.numbers.proofs.Lin.{back}
 use Rattle.waveform.specs.declared.Drive.the-variants.{Lut}
-use Rattle.waveform.proofs.Decoded.{decoded-walkable}
+use Rattle.waveform_laws.proofs.Decoded.{decoded-walkable}
 use Rattle.panel.specs.Finish.{settingTransfer}
 use borrow.Author.Needs.{needs}
 use Rattle.bench.proofs.Passed.{walk-lasts, walk-lut}

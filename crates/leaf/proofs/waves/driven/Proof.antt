@@ -1,6 +1,6 @@
 -- `leaf::waves::driven` is safe: its waveform is one that the walks take, since every period was tested.
 use borrow.Author.Needs.{needs}
-use Rattle.waveform.proofs.Decoded.{decoded-walkable}
+use Rattle.waveform_laws.proofs.Decoded.{decoded-walkable}
 use Rattle.leaf.proofs.waves.driven.Statement.{statement}
 use Rattle.leaf.proofs.waves.driven.Tie as tie
 

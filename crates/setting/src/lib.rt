@@ -1,0 +1,124 @@
+// The 112 bytes of a setting (datasheet Figure 6-6) read into codes, and the codes into a waveform.
+use waveform::Group;
+use waveform::GroupCodes;
+use waveform::Levels;
+use waveform::Waveform;
+ghost use mathlib.Core.Path.{_≡_};
+ghost use Prim.Native.Nat.{_+_, _/_, _%_, _<_};
+ghost use Rattle.waveform.specs.Setting.{codeIn, codesOf, frameRateOf, groupCodesOf, timed, waveformOf};
+
+// The code of a phase in a byte of four.
+fn code_in(byte: u8, phase: u8) -> u8
+    requires { ⌜ phase < 4 ⌝ }
+    ensures { λ r. ⌜ r ≡ codeIn byte phase ⌝ }
+{
+    (byte >> (6 - 2 * phase)) & 3
+}
+
+fn codes_of(setting: &[u8; 112], group: usize) -> [u8; 20]
+    requires { ⌜ group < 10 ⌝ }
+    ensures { λ r. ⌜ r ≡ codesOf (now (setting .entry)) group ⌝ }
+{
+    let mut codes = [0u8; 20];
+    let mut k: usize = 0;
+    while k < 20 {
+        let byte = setting[10 * (k / 4) + group];
+        let code = code_in(byte, (k % 4) as u8);
+        codes[k] = code;
+        k += 1;
+    }
+    codes
+}
+
+fn high_nibble(byte: u8) -> u8
+    ensures { λ r. ⌜ r ≡ byte / 16 % 16 ⌝ }
+{
+    byte >> 4
+}
+
+fn low_nibble(byte: u8) -> u8
+    ensures { λ r. ⌜ r ≡ byte % 16 ⌝ }
+{
+    byte & 0x0F
+}
+
+// The even group in the high nibble: the datasheet only says "5 bytes for frame rate".
+pub fn frame_rate_code(setting: &[u8; 112], group: usize) -> usize
+    requires { ⌜ group < 10 ⌝ }
+    ensures { λ r. ⌜ r ≡ frameRateOf (now (setting .entry)) group ⌝ }
+{
+    let byte = setting[100 + group / 2];
+    if group % 2 == 0 {
+        high_nibble(byte) as usize
+    } else {
+        low_nibble(byte) as usize
+    }
+}
+
+fn one_more(byte: u8) -> u16
+    ensures { λ r. ⌜ r ≡ byte + 1 ⌝ }
+{
+    byte as u16 + 1
+}
+
+pub fn group_codes(setting: &[u8; 112], group: usize) -> GroupCodes
+    requires { ⌜ group < 10 ⌝ }
+    ensures { λ r. ⌜ r ≡ groupCodesOf (now (setting .entry)) group ⌝ }
+{
+    let at = 5 * group;
+    let frames = [
+        setting[50 + at],
+        setting[51 + at],
+        setting[52 + at],
+        setting[53 + at],
+    ];
+    let repeats = one_more(setting[54 + at]);
+    let frame_rate = frame_rate_code(setting, group);
+    let codes = codes_of(setting, group);
+    GroupCodes {
+        frames,
+        repeats,
+        frame_rate,
+        codes,
+    }
+}
+
+// A group with the period of its frame-rate code.
+fn with_period(group: GroupCodes, frame_period: &[u64; 16]) -> Group
+    requires { ⌜ group .«frame_rate» < 16 ⌝ }
+    ensures { λ r. ⌜ r ≡ timed (now («frame_period» .entry)) group ⌝ }
+{
+    let frames = group.frames;
+    let codes = group.codes;
+    let rate = group.frame_rate;
+    Group {
+        frames,
+        repeats: group.repeats,
+        frame_ns: frame_period[rate],
+        codes,
+    }
+}
+
+fn group_of(setting: &[u8; 112], frame_period: &[u64; 16], group: usize) -> Group
+    requires { ⌜ group < 10 ⌝ }
+    ensures { λ r. ⌜ r ≡ timed (now («frame_period» .entry)) (groupCodesOf (now (setting .entry)) group) ⌝ }
+{
+    let codes = group_codes(setting, group);
+    with_period(codes, frame_period)
+}
+
+// The waveform of `setting` with the frame period of each frame-rate code.
+pub fn from_setting(setting: &[u8; 112], frame_period: &[u64; 16]) -> Waveform
+    ensures { λ r. ⌜ r ≡ waveformOf (now (setting .entry)) (now («frame_period» .entry)) ⌝ }
+{
+    let first = group_of(setting, frame_period, 0);
+    let mut groups = [first; 10];
+    let mut i: usize = 0;
+    while i < 10 {
+        let group = group_of(setting, frame_period, i);
+        groups[i] = group;
+        i += 1;
+    }
+    let levels = Levels::from_setting(setting);
+    Waveform { groups, levels }
+}

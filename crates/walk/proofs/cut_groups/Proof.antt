@@ -1,0 +1,63 @@
+-- `walk::cut_groups` meets its contract. Assumes nothing.
+use mathlib.Core.Path.{_≡_, ap, _∙_}
+use native.Mathlib.Omega.{arith}
+use Prim.Native.Nat.{ℕ, _≤_, _-_}
+use mathlib.Core.List.{foldl}
+use lib.ListN.{getD}
+use Rattle.waveform.specs.Phases.{noGroup, joined}
+use Rattle.waveform.specs.Walks.{groupIn, cutStep}
+use Rattle.waveform_laws.proofs.Joined.{fold-none, fold-more}
+use borrow.Author.Needs.{needs}
+use Rattle.walk.proofs.cut_groups.Statement.{statement}
+use Rattle.walk.proofs.cut_groups.Tie as tie
+
+abbrev Inv-loop : tie.InvT-loop
+Inv-loop driving until waveform moved₀ k₀ moved k = (k ≤ 10) × (moved ≡ foldl (cutStep driving until) moved₀ (joined k (λ j. groupIn driving (getD (waveform .groups) j noGroup))))
+
+abbrev μ-loop : tie.MeasureT-loop
+μ-loop driving until waveform moved₀ k₀ moved k = 10 - k
+
+loop-holds : tie.Need-loop-holds Inv-loop μ-loop
+loop-holds c = (search needs, fold-none _ _ _)
+
+mul-group : tie.Need-mul-group Inv-loop μ-loop
+mul-group c = search needs
+
+element-copy-out-group : tie.Need-element-copy-out-group Inv-loop μ-loop
+element-copy-out-group c = search needs
+
+cut-group-requires : tie.Need-cut-group-requires Inv-loop μ-loop
+cut-group-requires c κs = (c .before .before .before .pre .0 (c .before .before .loop .k) (omega arith), c .before .before .before .pre .1)
+
+add-k : tie.Need-add-k Inv-loop μ-loop
+add-k c = search needs
+
+loop-less : tie.Need-loop-less Inv-loop μ-loop
+loop-less c = search needs
+
+loop-again : tie.Need-loop-again Inv-loop μ-loop
+loop-again c =
+    let m = c .before .before .before in
+    let s = m .before .args in
+    (omega arith, fold-more (cutStep (s .driving) (s .until)) (s .progress) (λ j. groupIn (s .driving) (getD (s .t3 .groups) j noGroup)) (m .loop .k) (m .loop .inv .1) (c .cut-group .ensures))
+
+returns : tie.Need-returns Inv-loop μ-loop
+returns c =
+    let s = c .before .before .args in
+    let e : c .before .loop .k ≡ 10 = omega arith in
+    c .before .loop .inv .1 ∙ ap (λ (k : ℕ). foldl (cutStep (s .driving) (s .until)) (s .progress) (joined k (λ j. groupIn (s .driving) (getD (s .t3 .groups) j noGroup)))) e
+
+pub cut-groups-spec : {M : Type 1} → statement M
+cut-groups-spec =
+    tie.close
+    (tie.spec
+    Inv-loop
+    μ-loop
+    loop-holds
+    mul-group
+    element-copy-out-group
+    cut-group-requires
+    add-k
+    loop-less
+    loop-again
+    returns)

@@ -1,0 +1,1 @@
+// Theorems of a waveform's definitions. There is no code here: the definitions stand in waveform/specs, the laws in proofs/.
