@@ -6,7 +6,7 @@ use native.Mathlib.Omega.{arith}
 use lib.Dec.{eqb}
 use lib.ListN.{length}
 use Rattle.numbers.specs.Choice.{pick}
-use Rattle.ram.specs.Counter.{withinOf}
+use Rattle.counter.specs.Counter.{withinOf}
 use Rattle.diagnostic.specs.declared.DiagnosticKind.{DiagnosticKind}
 use Rattle.diagnostic.specs.declared.DiagnosticKind.the-variants.{UnknownCommand, ReservedCommand, UnsupportedCommand, WhileBusy, WhileAsleep, WhileInReset, WithoutClock, WithoutAnalog, CounterOutsideWindow}
 use Rattle.diagnostic.specs.declared.Stage.the-variants.{VcomSense}

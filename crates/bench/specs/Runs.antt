@@ -2,10 +2,10 @@
 use mathlib.Core.List.{List}
 use Prim.Native.Nat.{ℕ, zero, suc}
 use lib.ListN.{getD}
-use Rattle.ram.specs.declared.Counter.{Counter}
-use Rattle.ram.specs.declared.Window.{Window}
-use Rattle.ram.specs.declared.Entry.{Entry}
-use Rattle.ram.specs.Counter.{advancedOf}
+use Rattle.counter.specs.declared.Counter.{Counter}
+use Rattle.counter.specs.declared.Window.{Window}
+use Rattle.counter.specs.declared.Entry.{Entry}
+use Rattle.counter.specs.Counter.{advancedOf}
 use Rattle.ram.specs.Plane.{writtenAt}
 
 -- the counter and the plane

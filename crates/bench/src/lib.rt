@@ -13,7 +13,7 @@ ghost use mathlib.Core.Path.{_≡_};
 ghost use lib.ListN.{length};
 ghost use Rattle.numbers.specs.Choice.{pick};
 ghost use Rattle.numbers.specs.Lists.{tab};
-ghost use Rattle.ram.specs.Plane.{autoWritten};
+ghost use Rattle.auto_write.specs.Auto.{autoWritten};
 ghost use Rattle.scan.specs.Gates.{gatesStored};
 ghost use Rattle.scan.specs.Luts.{lutOf};
 ghost use Rattle.waveform.specs.declared.Drive.the-variants.{Lut};
@@ -184,7 +184,7 @@ pub extern "C" fn proved_finish(
 pub extern "C" fn proved_auto_write(plane: &mut [u8], parameter: u8)
     ensures { λ _. ⌜ now (plane .exit) ≡ autoWritten parameter (now (plane .entry)) ⌝ }
 {
-    ram::auto_write(&mut plane[..], parameter);
+    auto_write::auto_write(&mut plane[..], parameter);
 }
 
 // A run of data bytes; the counter is moved past them.

@@ -8,7 +8,7 @@ use lib.Dec.{eqb}
 use borrow.Author.Tests.{eqb-true, lt-ltb}
 use Rattle.numbers.specs.Choice.{pick}
 use Rattle.numbers.specs.Rows.{lookup}
-use Rattle.ram.specs.Counter.{withinOf}
+use Rattle.counter.specs.Counter.{withinOf}
 use Rattle.diagnostic.specs.declared.DiagnosticKind.the-variants.{WhileBusy, WithoutClock, WithoutAnalog, CounterOutsideWindow}
 use Rattle.diagnostic.specs.declared.Stage.the-variants.{VcomSense}
 use Rattle.device.specs.declared.Kind.{Kind}

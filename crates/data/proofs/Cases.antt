@@ -7,12 +7,12 @@ use lib.Dec.{eqb}
 use lib.Seq.{set-out}
 use borrow.Author.Tests.{lt-ltb, le-ltb, ltb-false}
 use Rattle.numbers.specs.Choice.{pick}
-use Rattle.ram.specs.declared.Counter.{Counter}
+use Rattle.counter.specs.declared.Counter.{Counter}
 use Rattle.ram.specs.declared.Place.{Place}
 use Rattle.ram.specs.declared.Place.the-variants.{At, Outside}
 use Rattle.ram.specs.declared.Plane.the-variants.{BlackWhite, Red}
 use Rattle.ram.specs.Plane.{planeOf, indexOf, isThere, putAt, wroteAt, writtenAt}
-use Rattle.ram.specs.Counter.{advancedOf}
+use Rattle.counter.specs.Counter.{advancedOf}
 use Rattle.diagnostic.specs.declared.DiagnosticKind.the-variants.{DataWithoutCommand, ExtraData, RamOutOfRange}
 use Rattle.device.specs.declared.Active.{Active}
 use Rattle.device.specs.declared.Bus.{Bus}

@@ -7,13 +7,13 @@ use mathlib.Core.List.{List}
 use lib.Dec.{eqb, ltb}
 use lib.ListN.{length, length-set}
 use Rattle.numbers.specs.Choice.{pick}
-use Rattle.ram.specs.declared.Counter.{Counter}
+use Rattle.counter.specs.declared.Counter.{Counter}
 use Rattle.ram.specs.declared.Place.{Place}
 use Rattle.ram.specs.declared.Place.the-variants.{At, Outside}
 use Rattle.ram.specs.declared.Plane.{Plane}
 use Rattle.ram.specs.declared.Plane.the-variants.{BlackWhite, Red}
 use Rattle.ram.specs.Plane.{indexOf, putAt, writtenAt}
-use Rattle.ram.proofs.Tens.{advanced-ten}
+use Rattle.ram_laws.proofs.Tens.{advanced-ten}
 use Rattle.diagnostic.specs.declared.DiagnosticKind.{DiagnosticKind}
 use Rattle.diagnostic.specs.declared.DiagnosticKind.the-variants.{DataWithoutCommand, ExtraData, RamOutOfRange}
 use Rattle.device.specs.declared.Active.{Active}

@@ -7,7 +7,7 @@ use Rattle.numbers.specs.Choice.{pick}
 use Rattle.numbers.specs.Saturation.{largest}
 use Rattle.ram.specs.declared.Plane.{Plane}
 use Rattle.ram.specs.declared.Plane.the-variants.{BlackWhite, Red}
-use Rattle.ram.specs.Counter.{advancedOf}
+use Rattle.counter.specs.Counter.{advancedOf}
 use Rattle.ram.specs.Plane.{planeOf, wroteAt, writtenAt}
 use Rattle.diagnostic.specs.declared.DiagnosticKind.the-variants.{DataWithoutCommand, ExtraData, RamOutOfRange}
 use Rattle.device.specs.declared.Active.{Active}

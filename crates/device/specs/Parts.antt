@@ -6,7 +6,7 @@ use Rattle.config.specs.declared.Ssd1677Config.{Ssd1677Config}
 use Rattle.diagnostic.specs.declared.Journal.{Journal}
 use Rattle.panel.specs.declared.Display.{Display}
 use Rattle.panel.specs.declared.Panel.{Panel}
-use Rattle.ram.specs.declared.Counter.{Counter}
+use Rattle.counter.specs.declared.Counter.{Counter}
 use Rattle.device.specs.declared.Ssd1677.{Ssd1677}
 use Rattle.device.specs.declared.Registers.{Registers}
 use Rattle.device.specs.declared.Bus.{Bus}

@@ -10,8 +10,8 @@ use Rattle.waveform.specs.Setting.{codesOf, frameRateOf, groupCodesOf, waveform
 use Rattle.waveform.specs.Phases.{phaseOf, driven, joined}
 use Rattle.waveform.specs.Walks.{saturatedDrive, pushed, cutStep, wholeTransfer, cutTransfer}
 use Rattle.config.specs.Temperature.{sixteenthsOf}
-use Rattle.ram.specs.Counter.{stepOf, advancedOf}
-use Rattle.ram.specs.Registers.{tenBits}
+use Rattle.counter.specs.Counter.{stepOf, advancedOf}
+use Rattle.counter.specs.Registers.{tenBits}
 use Rattle.scan.specs.Gates.{rowOf, rowOfGate}
 use Rattle.figures.specs.Figures.{computed, stated}
 

@@ -14,9 +14,9 @@ use Rattle.voltage.specs.Codes.{sourceVoltage, vslVoltage, vcomVoltage}
 use Rattle.waveform.specs.declared.Drive.the-variants.{Lut}
 use Rattle.waveform.specs.Walks.{wholeTransfer, cutTransfer}
 use Rattle.config.specs.Temperature.{sixteenthsOf}
-use Rattle.ram.specs.declared.Counter.{Counter}
-use Rattle.ram.specs.Counter.{resetEntry, advancedOf}
-use Rattle.ram.specs.Registers.{tenBits}
+use Rattle.counter.specs.declared.Counter.{Counter}
+use Rattle.counter.specs.Counter.{resetEntry, advancedOf}
+use Rattle.counter.specs.Registers.{tenBits}
 use Rattle.scan.specs.declared.Row.{Row}
 use Rattle.scan.specs.declared.Row.the-variants.{Is, Nothing}
 use Rattle.scan.specs.Gates.{rowOfGate}

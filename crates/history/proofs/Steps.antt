@@ -4,7 +4,7 @@ use mathlib.Core.Path.{_≡_, refl}
 use mathlib.Core.Bool.{Bool, true, false, _&&_}
 use lib.Dec.{eqb, ltb, leb}
 use Rattle.numbers.specs.Choice.{pick}
-use Rattle.ram.specs.Counter.{withinOf}
+use Rattle.counter.specs.Counter.{withinOf}
 use Rattle.diagnostic.specs.declared.Stage.{Stage}
 use Rattle.diagnostic.specs.declared.Stage.the-variants.{VcomSense, HvReadyDetection, VciDetection}
 use Rattle.diagnostic.specs.declared.DiagnosticKind.{DiagnosticKind}

@@ -82,7 +82,7 @@ fn bit(text: &mut [u8; text::ROOM], at: usize, numbers: &[u64]) -> usize {
 
 fn auto_write(text: &mut [u8; text::ROOM], at: usize, parameter: u8) -> usize {
     let mut plane = [0x5Au8; ram::PLANE_BYTES];
-    ram::auto_write(&mut plane, parameter);
+    auto_write::auto_write(&mut plane, parameter);
     text::number(text, at, hash::of_bytes(&plane))
 }
 

@@ -9,7 +9,7 @@ use lib.Dec.{eqb}
 use lib.ListN.{length, length-append, length-drop}
 use Rattle.numbers.specs.Choice.{pick}
 use Rattle.numbers.proofs.Painted.{length-tab}
-use Rattle.ram.specs.Plane.{autoWritten}
+use Rattle.auto_write.specs.Auto.{autoWritten}
 use Rattle.device.specs.Parts.{withRegs}
 use Rattle.registers.specs.Store.{stored}
 use Rattle.registers.proofs.Bounds.{stored-bounded}

@@ -2,7 +2,7 @@
 use Prim.Native.Nat.{ℕ}
 use lib.Dec.{eqb}
 use Rattle.numbers.specs.Choice.{pick}
-use Rattle.ram.specs.Plane.{autoWritten}
+use Rattle.auto_write.specs.Auto.{autoWritten}
 use Rattle.device.specs.declared.Ssd1677.{Ssd1677}
 use Rattle.device.specs.Parts.{withRegs}
 use Rattle.registers.specs.Store.{stored}

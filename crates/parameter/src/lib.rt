@@ -52,11 +52,11 @@ fn auto_write(
     ensures { λ r. ⌜ withRam r (now («black_white» .exit)) (now (red .exit)) (now (log .exit)) ≡ autoTaken command byte (withRam state (now («black_white» .entry)) (now (red .entry)) (now (log .entry))) ⌝ }
 {
     if command == 0x46 {
-        ram::auto_write(red, byte);
+        auto_write::auto_write(red, byte);
         let noted = check_listed(state, log, command, 0, byte);
         return busy_writing(noted);
     }
-    ram::auto_write(black_white, byte);
+    auto_write::auto_write(black_white, byte);
     let noted = check_listed(state, log, command, 0, byte);
     busy_writing(noted)
 }

@@ -1,4 +1,2 @@
 -- The root of ram's specs.
-pub mod Counter
 pub mod Plane
-pub mod Registers

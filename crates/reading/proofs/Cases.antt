@@ -6,8 +6,8 @@ use mathlib.Core.List.{List}
 use borrow.Author.Tests.{eq-eqb, ne-eqb}
 use Rattle.ram.specs.declared.Byte.{Byte}
 use Rattle.ram.specs.declared.Byte.the-variants.{Is, Nothing}
-use Rattle.ram.specs.declared.Counter.{Counter}
-use Rattle.ram.specs.Counter.{advancedOf}
+use Rattle.counter.specs.declared.Counter.{Counter}
+use Rattle.counter.specs.Counter.{advancedOf}
 use Rattle.ram.specs.Plane.{planeOf, readAt}
 use Rattle.diagnostic.specs.declared.DiagnosticKind.the-variants.{RamOutOfRange, NothingToRead}
 use Rattle.device.specs.declared.Active.{Active}

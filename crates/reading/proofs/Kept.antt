@@ -9,7 +9,7 @@ use Rattle.numbers.specs.Choice.{pick}
 use Rattle.ram.specs.declared.Byte.{Byte}
 use Rattle.ram.specs.declared.Byte.the-variants.{Is, Nothing}
 use Rattle.ram.specs.Plane.{planeOf, readAt}
-use Rattle.ram.proofs.Tens.{advanced-ten}
+use Rattle.ram_laws.proofs.Tens.{advanced-ten}
 use Rattle.diagnostic.specs.declared.DiagnosticKind.{DiagnosticKind}
 use Rattle.diagnostic.specs.declared.DiagnosticKind.the-variants.{RamOutOfRange, NothingToRead}
 use Rattle.device.specs.declared.Active.{Active}

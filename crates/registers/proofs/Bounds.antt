@@ -5,9 +5,9 @@ use Prim.Native.Nat.{ℕ, _+_, _*_, _/_, _%_, _≤_}
 use native.Mathlib.Omega.{arith}
 use lib.Dec.{eqb, ltb}
 use Rattle.numbers.specs.Choice.{pick}
-use Rattle.ram.specs.Registers.{tenBits}
-use Rattle.ram.specs.declared.Entry.{Entry}
-use Rattle.ram.proofs.Tens.{TenBitWindow, TenBitCounter, ten-bits-ten}
+use Rattle.counter.specs.Registers.{tenBits}
+use Rattle.counter.specs.declared.Entry.{Entry}
+use Rattle.ram_laws.proofs.Tens.{TenBitWindow, TenBitCounter, ten-bits-ten}
 use Rattle.device.specs.declared.Registers.{Registers}
 use Rattle.registers.specs.Reset.{resetOf}
 use Rattle.registers.specs.Store.{temperatureAfter, stored}

@@ -3,7 +3,7 @@ use mathlib.Core.Bool.{false}
 use mathlib.Core.List.{List}
 use Prim.Native.Nat.{ℕ}
 use lib.ListN.{set, replicate}
-use Rattle.ram.specs.Counter.{resetWindow, resetEntry}
+use Rattle.counter.specs.Counter.{resetWindow, resetEntry}
 use Rattle.device.specs.declared.Registers.{Registers}
 
 -- the 112 setting bytes: all 0x00 but three, VSH1 41h, VSH2 A8h and VSL 32h (document 01)

@@ -5,9 +5,9 @@ use lib.Dec.{eqb, ltb}
 use lib.ListN.{set}
 use Rattle.numbers.specs.Choice.{pick, bitOf}
 use Rattle.config.specs.declared.GateScan.{GateScan}
-use Rattle.ram.specs.declared.Window.{Window}
-use Rattle.ram.specs.declared.Counter.{Counter}
-use Rattle.ram.specs.Registers.{tenBits}
+use Rattle.counter.specs.declared.Window.{Window}
+use Rattle.counter.specs.declared.Counter.{Counter}
+use Rattle.counter.specs.Registers.{tenBits}
 use Rattle.device.specs.declared.Registers.{Registers}
 
 -- what a register holds after a byte of a command: `new` where that command writes it, and what it held where not

@@ -4,7 +4,7 @@ use mathlib.Core.Path.{_≡_, refl}
 use mathlib.Core.Bool.{Bool, true, false}
 use mathlib.Core.List.{List}
 use Rattle.numbers.proofs.Cases.{took, passed}
-use Rattle.ram.specs.Counter.{withinOf}
+use Rattle.counter.specs.Counter.{withinOf}
 use Rattle.waveform.specs.declared.Until.the-variants.{Cut}
 use Rattle.diagnostic.specs.declared.DiagnosticKind.{DiagnosticKind}
 use Rattle.diagnostic.specs.declared.DiagnosticKind.the-variants.{CounterOutsideWindow, WithoutClock, WithoutAnalog, ResetDuringDisplay}

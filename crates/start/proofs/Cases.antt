@@ -3,7 +3,7 @@ use Prim.Native.Nat.{ℕ, _+_, _*_, _%_}
 use mathlib.Core.Path.{_≡_, refl}
 use mathlib.Core.Bool.{Bool, true, false}
 use Rattle.numbers.proofs.Cases.{took, passed}
-use Rattle.ram.specs.Counter.{withinOf}
+use Rattle.counter.specs.Counter.{withinOf}
 use Rattle.diagnostic.specs.declared.DiagnosticKind.the-variants.{CounterOutsideWindow, WithoutClock, WithoutAnalog}
 use Rattle.diagnostic.specs.declared.Stage.{Stage}
 use Rattle.diagnostic.specs.declared.Stage.the-variants.{VcomSense}

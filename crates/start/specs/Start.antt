@@ -2,7 +2,7 @@
 use Prim.Native.Nat.{ℕ, _+_, _*_, _%_}
 use mathlib.Core.Bool.{Bool, _&&_}
 use Rattle.numbers.specs.Choice.{pick}
-use Rattle.ram.specs.Counter.{withinOf}
+use Rattle.counter.specs.Counter.{withinOf}
 use Rattle.diagnostic.specs.declared.Stage.{Stage}
 use Rattle.diagnostic.specs.declared.Stage.the-variants.{VcomSense}
 use Rattle.diagnostic.specs.declared.DiagnosticKind.the-variants.{CounterOutsideWindow, WithoutClock, WithoutAnalog}

@@ -37,21 +37,21 @@ use denote.Triple.Table.{entered, cited}
 use denote.Triple.Walked.{says, Stays, stay-ref, stay-none, walkOf, AllGo, goes-none, goes-ref, Walks, ends-at, walked, walk-meets}
 use denote.Triple.Clauses.{ensured, lasts}
 use denote.Exit.{yes}
-use Rattle.ram.specs.declared.Counter.{Counter}
-use Rattle.ram.specs.declared.Window.{Window}
-use Rattle.ram.specs.declared.Entry.{Entry}
-use Rattle.ram.specs.Counter.{advancedOf}
-use Rattle.ram.proofs.Counter.advanced.Symbol.{name as #ram·Counter·advanced}
+use Rattle.counter.specs.declared.Counter.{Counter}
+use Rattle.counter.specs.declared.Window.{Window}
+use Rattle.counter.specs.declared.Entry.{Entry}
+use Rattle.counter.specs.Counter.{advancedOf}
+use Rattle.counter.proofs.Counter.advanced.Symbol.{name as #counter·Counter·advanced}
 use Rattle.lent.proofs.advance.Key.{name as #lent·advance}
-use Rattle.ram.proofs.Counter as counter
-use Rattle.ram.proofs.Counter.Laws as counter-laws
-use Rattle.ram.proofs.Window as window
-use Rattle.ram.proofs.Window.Laws as window-laws
-use Rattle.ram.proofs.Entry as entry
-use Rattle.ram.proofs.Entry.Laws as entry-laws
-use Rattle.ram.proofs.Counter.advanced as advanced
-use Rattle.ram.proofs.Counter.advanced.Symbol as advanced-symbol
-use Rattle.ram.proofs.Counter.advanced.Met as advanced-met
+use Rattle.counter.proofs.Counter as counter
+use Rattle.counter.proofs.Counter.Laws as counter-laws
+use Rattle.counter.proofs.Window as window
+use Rattle.counter.proofs.Window.Laws as window-laws
+use Rattle.counter.proofs.Entry as entry
+use Rattle.counter.proofs.Entry.Laws as entry-laws
+use Rattle.counter.proofs.Counter.advanced as advanced
+use Rattle.counter.proofs.Counter.advanced.Symbol as advanced-symbol
+use Rattle.counter.proofs.Counter.advanced.Met as advanced-met
 use Rattle.lent.proofs.advance as advance
 use Rattle.lent.proofs.advance.Statement as stated
 use Rattle.lent.proofs.advance.Code as code
@@ -109,7 +109,7 @@ module _ {M : Type 1} (𝓤 : URA M) (H : Heap 𝓤) (A : Atoms 𝓤) (W : Given
   goes-advanced : ent 𝓤 (sep 𝓤 (sem 𝓤 H A ftrue) (sem 𝓤 H A passed)) (Advanced 𝓤 H A at-mem run .pre to-advanced)
   goes-advanced = qed W (‵ ftrue ∷ ‵ passed ∷ []) ∵ join ! $ frame ! $ done !
 
-  module _ (C : Calls 𝓤 H) (Λ : Loops 𝓤 H) (fm : FmC 𝓤 H (W .laws) C) (known : Triple 𝓤 (C #ram·Counter·advanced) (Advanced 𝓤 H A at-mem run)) where
+  module _ (C : Calls 𝓤 H) (Λ : Loops 𝓤 H) (fm : FmC 𝓤 H (W .laws) C) (known : Triple 𝓤 (C #counter·Counter·advanced) (Advanced 𝓤 H A at-mem run)) where
     walk : ent 𝓤 (onEntry 𝓤 H A advance.signature (κ, tt) (q, tt) x at) (WpFn 𝓤 H C Λ code.function (vptr b o ∷ window-value w ∷ entry-value e ∷ []) Post)
     walk =
         qed W ((‵ (flft κ q) ⊛ ‵ ftrue) ∷ ‵ (owns (MutRef (named 0) κ counter.the-row ∷ window.the-row ∷ entry.the-row ∷ []) x at) ∷ []) ∵ split ! $ move ! (2 ∷ []) $ fsplit ! $ fsplit3 ! $ drop ! $ move ! (0 ∷ 1 ∷ 3 ∷ []) $
@@ -140,7 +140,7 @@ module _ {M : Type 1} (𝓤 : URA M) (H : Heap 𝓤) (A : Atoms 𝓤) (W : Given
         keep ! (0 ∷ 1 ∷ 2 ∷ []) $ by ! (exits r eq)))))))))))))
 
 module _ {M : Type 1} (𝓤 : URA M) (H : Heap 𝓤) (A : Atoms 𝓤) (W : Given 𝓤 H A) (at-mem : Memory → SProp 𝓤) (run : Routine → Fun 𝓤) where
-  advance-walks : (C : Calls 𝓤 H) (Λ : Loops 𝓤 H) → FmC 𝓤 H (W .laws) C → Triple 𝓤 (C #ram·Counter·advanced) (Advanced 𝓤 H A at-mem run)
+  advance-walks : (C : Calls 𝓤 H) (Λ : Loops 𝓤 H) → FmC 𝓤 H (W .laws) C → Triple 𝓤 (C #counter·Counter·advanced) (Advanced 𝓤 H A at-mem run)
       → Walks 𝓤 H A advance.ended stayed (WpFn 𝓤 H C Λ code.function) (advance.clauses 𝓤 H A at-mem run)
   advance-walks C Λ fm known = walked 𝓤 H A advance.ended stayed (advance.clauses 𝓤 H A at-mem run) (WpFn 𝓤 H C Λ code.function)
       (λ κs. (ptr-vals, (laws.vals window.the-type window-laws.the-laws, (laws.vals entry.the-type entry-laws.the-laws, tt)))) (λ κs. (mut-tells (named 0) (κs .0) counter.the-row, (laws.tells window.the-type window-laws.the-laws, (laws.tells entry.the-type entry-laws.the-laws, tt))))
@@ -150,7 +150,7 @@ module _ {M : Type 1} (𝓤 : URA M) (H : Heap 𝓤) (A : Atoms 𝓤) (W : Given
   goes = (goes-ref 𝓤 H A W 1 0 tt (plain (λ _. counter.the-row)), (goes-none 𝓤 H A W 1 (λ _. window.the-row) yes (λ κs x f. refl), (goes-none 𝓤 H A W 1 (λ _. entry.the-row) yes (λ κs x f. refl), tt)))
 
 advance-meets : {M : Type 1} (𝓤 : URA M) (H : Heap 𝓤) (A : Atoms 𝓤) (W : Given 𝓤 H A) (at-mem : Memory → SProp 𝓤) (run : Routine → Fun 𝓤) (𝓣 : Tables 𝓤 H)
-    → Triple 𝓤 (𝓣 .C #ram·Counter·advanced) (Advanced 𝓤 H A at-mem run)
+    → Triple 𝓤 (𝓣 .C #counter·Counter·advanced) (Advanced 𝓤 H A at-mem run)
     → Meets 𝓤 H A advance.signature (WpFn 𝓤 H (𝓣 .C) (𝓣 .Λ) code.function) (advance.spec 𝓤 H A at-mem run)
 advance-meets 𝓤 H A W at-mem run 𝓣 known = walk-meets 𝓤 H A advance.ended stayed W (goes 𝓤 H A W at-mem run) (advance.clauses 𝓤 H A at-mem run) (WpFn 𝓤 H (𝓣 .C) (𝓣 .Λ) code.function) (WpFn-mono 𝓤 H (W .laws) 𝓣 code.function)
     (advance-walks 𝓤 H A W at-mem run (𝓣 .C) (𝓣 .Λ) (fmOf 𝓤 H (W .laws) 𝓣) known)
@@ -161,4 +161,4 @@ advance-spec 𝓤 H 𝓜 𝓖 𝓡 =
     entered 𝓤 H (tripleOf 𝓤 H (𝓖 .A) advance.signature (advance.spec 𝓤 H (𝓖 .A) (𝓜 .mem) (𝓡 .run)))
     (tables 𝓤 H 𝓜 𝓡 code.env .C) (tables 𝓤 H 𝓜 𝓡 code.env .Λ) #lent·advance code.function (code.unfolded 𝓤 H 𝓜 𝓡)
     (advance-meets 𝓤 H (𝓖 .A) (givenOf 𝓤 H 𝓜 𝓖) (𝓜 .mem) (𝓡 .run) (tablesOf 𝓤 H 𝓜 (tables 𝓤 H 𝓜 𝓡 code.env))
-    (cited 𝓤 H (Advanced 𝓤 H (𝓖 .A) (𝓜 .mem) (𝓡 .run)) 𝓜 𝓡 code.env #ram·Counter·advanced advanced-symbol.routine code.calls-ram·Counter·advanced (advanced-met.met 𝓤 H 𝓜 𝓖 𝓡)))
+    (cited 𝓤 H (Advanced 𝓤 H (𝓖 .A) (𝓜 .mem) (𝓡 .run)) 𝓜 𝓡 code.env #counter·Counter·advanced advanced-symbol.routine code.calls-counter·Counter·advanced (advanced-met.met 𝓤 H 𝓜 𝓖 𝓡)))

@@ -1,0 +1,2 @@
+-- The laws of auto_write.
+pub mod Checkerboard

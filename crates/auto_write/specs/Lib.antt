@@ -1,0 +1,2 @@
+-- The root of auto_write's specs.
+pub mod Auto

@@ -1,0 +1,2 @@
+-- The laws of counter.
+pub mod Steps

@@ -1,0 +1,3 @@
+-- The root of counter's specs.
+pub mod Counter
+pub mod Registers

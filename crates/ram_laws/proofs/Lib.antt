@@ -1,0 +1,4 @@
+-- The laws of the RAM.
+pub mod Cells
+pub mod Tens
+pub mod Figures
