@@ -26,7 +26,7 @@ fn report_reserved(state: Ssd1677, log: &mut [u8], command: u8, value: u8) -> Ss
     requires { ⌜ length (now log) ≡ 16384 ⌝ }
     ensures { λ r. ⌜ withLog r (now (log .exit)) ≡ reserved command value (withLog state (now (log .entry))) ⌝ }
 {
-    let journal = diagnostic::reserved(state.journal, log, state.now, command, value);
+    let journal = diagnostic_log::reserved(state.journal, log, state.now, command, value);
     part::set_journal(state, journal)
 }
 

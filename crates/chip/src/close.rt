@@ -41,7 +41,7 @@ pub fn report_missing(journal: Journal, log: &mut [u8], current: Current, time: 
             let received = active.received;
             if received < want {
                 let command = active.command;
-                diagnostic::report(
+                diagnostic_log::report(
                     journal,
                     log,
                     time,

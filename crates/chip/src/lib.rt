@@ -118,6 +118,6 @@ pub fn report(state: Ssd1677, log: &mut [u8], kind: DiagnosticKind) -> Ssd1677
     requires { ⌜ length (now log) ≡ 16384 ⌝ }
     ensures { λ r. ⌜ withLog r (now (log .exit)) ≡ logged kind (withLog state (now (log .entry))) ⌝ }
 {
-    let journal = diagnostic::report(state.journal, log, state.now, kind);
+    let journal = diagnostic_log::report(state.journal, log, state.now, kind);
     part::set_journal(state, journal)
 }

@@ -1,3 +1,3 @@
--- The laws of diagnostic that belong to no one function.
+-- The laws of diagnostic.
 pub mod Over
 pub mod Kept

@@ -1,4 +1,3 @@
 -- The root of diagnostic's specs.
 pub mod Record
 pub mod Log
-pub mod Names

@@ -83,7 +83,7 @@ fn report_all(log: &mut [u8]) -> Journal
     let mut turn: u64 = 0;
     while turn < 1100 {
         let time = 18446744073709551615 / (turn + 1);
-        journal = diagnostic::report(journal, &mut log[..], time, kind_of(turn));
+        journal = diagnostic_log::report(journal, &mut log[..], time, kind_of(turn));
         turn += 1;
     }
     journal

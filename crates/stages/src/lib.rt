@@ -57,7 +57,7 @@ pub fn note(run: Run, log: &mut [u8], time: u64, kind: DiagnosticKind) -> Run
     requires { ⌜ length (now log) ≡ 16384 ⌝ }
     ensures { λ r. ⌜ step r (now (log .exit)) ≡ noted time kind (step run (now (log .entry))) ⌝ }
 {
-    let journal = diagnostic::report(run.journal, log, time, kind);
+    let journal = diagnostic_log::report(run.journal, log, time, kind);
     let mut next = run;
     next.journal = journal;
     next

@@ -1,0 +1,2 @@
+-- The root of unsupported_names' specs.
+pub mod Names
