@@ -14,7 +14,7 @@ ghost use lib.ListN.{length};
 ghost use Rattle.numbers.specs.Choice.{pick};
 ghost use Rattle.numbers.specs.Lists.{tab};
 ghost use Rattle.auto_write.specs.Auto.{autoWritten};
-ghost use Rattle.scan.specs.Gates.{gatesStored};
+ghost use Rattle.gates.specs.Gates.{gatesStored};
 ghost use Rattle.scan.specs.Luts.{lutOf};
 ghost use Rattle.waveform.specs.declared.Drive.the-variants.{Lut};
 ghost use Rattle.panel.specs.Pixels.{grays};

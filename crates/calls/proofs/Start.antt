@@ -15,7 +15,7 @@ use Rattle.config.specs.declared.PanelGeometry.{PanelGeometry}
 use Rattle.config.specs.declared.Ssd1677Config.{Ssd1677Config}
 use Rattle.config.specs.Answer.{isAccepted, firstOf}
 use Rattle.otp.specs.Table.{startTests}
-use Rattle.scan.specs.Gates.{physicalRow, gatesStored}
+use Rattle.gates.specs.Gates.{physicalRow, gatesStored}
 use Rattle.panel.specs.Start.{panelAtPowerOn, powerOn}
 use Rattle.panel.proofs.Start.{some-swing}
 use Rattle.device.specs.declared.Current.the-variants.{Idle}

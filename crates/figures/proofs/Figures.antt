@@ -12,7 +12,7 @@ use Rattle.waveform.specs.Walks.{saturatedDrive, pushed, cutStep, wholeTransfer
 use Rattle.config.specs.Temperature.{sixteenthsOf}
 use Rattle.counter.specs.Counter.{stepOf, advancedOf}
 use Rattle.counter.specs.Registers.{tenBits}
-use Rattle.scan.specs.Gates.{rowOf, rowOfGate}
+use Rattle.gates.specs.Gates.{rowOf, rowOfGate}
 use Rattle.figures.specs.Figures.{computed, stated}
 
 pub figures : computed ≡ stated

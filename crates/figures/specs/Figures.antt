@@ -17,9 +17,9 @@ use Rattle.config.specs.Temperature.{sixteenthsOf}
 use Rattle.counter.specs.declared.Counter.{Counter}
 use Rattle.counter.specs.Counter.{resetEntry, advancedOf}
 use Rattle.counter.specs.Registers.{tenBits}
-use Rattle.scan.specs.declared.Row.{Row}
-use Rattle.scan.specs.declared.Row.the-variants.{Is, Nothing}
-use Rattle.scan.specs.Gates.{rowOfGate}
+use Rattle.gates.specs.declared.Row.{Row}
+use Rattle.gates.specs.declared.Row.the-variants.{Is, Nothing}
+use Rattle.gates.specs.Gates.{rowOfGate}
 
 -- the millivolts of a code, if it is listed
 abbrev pub millivolts : Millivolts → List ℤ

@@ -13,7 +13,7 @@ use Rattle.config.specs.declared.Ssd1677Config.{Ssd1677Config}
 use Rattle.config.specs.Answer.{Answer, accepted, refused, isAccepted, firstOf, answerOf}
 use Rattle.config.proofs.Answers.{stops, goes-on}
 use Rattle.otp.specs.Table.{startTests}
-use Rattle.scan.specs.Gates.{gatesStored}
+use Rattle.gates.specs.Gates.{gatesStored}
 use Rattle.panel.specs.declared.Display.{Display}
 use Rattle.panel.specs.declared.Panel.{Panel}
 use Rattle.panel.specs.Start.{Fresh, powerOn}

@@ -14,10 +14,10 @@ use Rattle.config.specs.declared.PanelGeometry.{PanelGeometry}
 use Rattle.ram.specs.declared.Pixel.{Pixel}
 use Rattle.ram.specs.declared.Pixel.the-variants as pixel
 use Rattle.ram.specs.Plane.{indexOf, readAt, bitAt}
-use Rattle.scan.specs.declared.Row.{Row}
-use Rattle.scan.specs.declared.Row.the-variants.{Is, Nothing}
+use Rattle.gates.specs.declared.Row.{Row}
+use Rattle.gates.specs.declared.Row.the-variants.{Is, Nothing}
 use Rattle.scan.specs.declared.Scan.{Scan}
-use Rattle.scan.specs.Gates.{rowOfGate}
+use Rattle.gates.specs.Gates.{rowOfGate}
 use Rattle.scan.specs.Luts.{undriven, applied, lutOfBits, lutOfPixels, sourceOf, lutInRow, lutOf}
 
 pub bit-there : (plane : List ℕ) (x row : ℕ) → length plane ≡ 81600 → x < 960 → row < 680

@@ -1,3 +1,2 @@
 -- The root of scan's specs.
-pub mod Gates
 pub mod Luts

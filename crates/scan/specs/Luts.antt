@@ -12,9 +12,9 @@ use Rattle.ram.specs.declared.Pixel.the-variants as pixel
 use Rattle.scan.specs.declared.PlaneOption.{PlaneOption}
 use Rattle.scan.specs.declared.PlaneOption.the-variants.{Normal, Zero, Inverse}
 use Rattle.scan.specs.declared.Scan.{Scan}
-use Rattle.scan.specs.declared.Row.{Row}
-use Rattle.scan.specs.declared.Row.the-variants.{Is, Nothing}
-use Rattle.scan.specs.Gates.{rowOfGate}
+use Rattle.gates.specs.declared.Row.{Row}
+use Rattle.gates.specs.declared.Row.the-variants.{Is, Nothing}
+use Rattle.gates.specs.Gates.{rowOfGate}
 
 -- the option of a plane by the low four bits: 4 bypass as 0, 8 inverse, any other normal (0x21, as panel.rs cites it)
 unfoldable pub optionOf : ℕ → PlaneOption

@@ -1,7 +1,7 @@
 -- `proved_gates` meets its contract.
 use mathlib.Core.Path.{ap, _∙_}
 use Rattle.config.specs.declared.PanelGeometry.{PanelGeometry}
-use Rattle.scan.specs.Gates.{gatesStored}
+use Rattle.gates.specs.Gates.{gatesStored}
 use borrow.Author.Needs.{needs}
 use Rattle.bench.proofs.proved_gates.Statement.{statement}
 use Rattle.bench.proofs.proved_gates.Tie as tie

@@ -3,7 +3,7 @@ use mathlib.Core.Path.{subst}
 use Prim.Native.Nat.{_<_}
 use native.Mathlib.Omega.{arith}
 use borrow.Author.Needs.{needs}
-use Rattle.scan.specs.Gates.{rowOr}
+use Rattle.gates.specs.Gates.{rowOr}
 use Rattle.scan.specs.Luts.{lutInRow, lutOfPixels}
 use Rattle.scan.proofs.lut_in_row.Statement.{statement}
 use Rattle.scan.proofs.lut_in_row.Tie as tie

@@ -6,9 +6,9 @@ use native.Mathlib.Omega.{arith}
 use borrow.Author.Needs.{needs}
 use lib.Arith.{digits-lt}
 use Rattle.numbers.proofs.Painted.{Painted, painted-none, painted-more, painted-all, painted-again, painted-on, painted-at}
-use Rattle.scan.specs.Gates.{rowOr}
+use Rattle.gates.specs.Gates.{rowOr}
 use Rattle.scan.specs.Luts.{lutOf}
-use Rattle.scan.proofs.Rows.{in-ram}
+use Rattle.gates.proofs.Rows.{in-ram}
 use Rattle.scan.proofs.Pixels.{pixel-is, source-lt}
 use Rattle.scan.proofs.start.Statement.{statement}
 use Rattle.scan.proofs.start.Tie as tie

@@ -9,8 +9,8 @@ use lib.Dec.{ltb, eqb}
 use borrow.Author.Tests.{eqb-true, eqb-false, ltb-true}
 use Rattle.numbers.specs.Choice.{pick}
 use Rattle.config.specs.declared.GateScan.{GateScan}
-use Rattle.scan.specs.declared.Row.the-variants.{Is, Nothing}
-use Rattle.scan.specs.Gates.{rowOf, rowOfGate, rowOr, nativeRow}
+use Rattle.gates.specs.declared.Row.the-variants.{Is, Nothing}
+use Rattle.gates.specs.Gates.{rowOf, rowOfGate, rowOr, nativeRow}
 
 -- `gate ^ 1`
 pub exchanged : (n : ℕ) → bitXor n 1 ≡ pick (eqb (n % 2) 0) (n + 1) (n - 1)

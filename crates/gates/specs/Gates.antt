@@ -7,8 +7,8 @@ use lib.ListN.{set}
 use Rattle.numbers.specs.Choice.{pick}
 use Rattle.config.specs.declared.GateScan.{GateScan}
 use Rattle.config.specs.declared.PanelGeometry.{PanelGeometry}
-use Rattle.scan.specs.declared.Row.{Row}
-use Rattle.scan.specs.declared.Row.the-variants.{Is, Nothing}
+use Rattle.gates.specs.declared.Row.{Row}
+use Rattle.gates.specs.declared.Row.the-variants.{Is, Nothing}
 
 -- how many of the gates 0 to lines − 1 have an even number (Table 8-2)
 abbrev pub evenGates : ℕ → ℕ

@@ -5,18 +5,19 @@
 use mathlib.Core.Path.{_≡_, refl, sym, ap, _∙_}
 use mathlib.Core.Bool.{Bool, true, false}
 use mathlib.Core.List.{List}
-use Prim.Native.Nat.{ℕ, zero, suc, _+_, _-_, _*_, _/_, _%_, _<_, _≤_}
+use Prim.Native.Nat.{ℕ, _+_, _-_, _*_, _/_, _%_, _<_, _≤_}
 use native.Mathlib.Omega.{arith}
 use lib.Dec.{ltb, eqb}
-use lib.ListN.{length, set}
+use lib.ListN.{length}
 use borrow.Author.Tests.{lt-ltb, ltb-true, ltb-false, eqb-true, eqb-false}
 use Rattle.numbers.specs.Choice.{pick}
 use Rattle.numbers.specs.Lists.{tab}
-use Rattle.numbers.proofs.Scattered.{scatter, scatter-tab}
+use Rattle.numbers.proofs.Scattered.{scatter-tab}
 use Rattle.config.specs.declared.GateScan.{GateScan}
 use Rattle.config.specs.declared.PanelGeometry.{PanelGeometry}
-use Rattle.scan.specs.declared.Row.the-variants.{Is}
-use Rattle.scan.specs.Gates.{evenGates, rowOf, rowOfGate, nativeRow, physicalRow, gatesStored}
+use Rattle.gates.specs.declared.Row.the-variants.{Is}
+use Rattle.gates.specs.Gates.{evenGates, rowOf, rowOfGate, nativeRow, physicalRow, gatesStored}
+use Rattle.gates.proofs.Stored.{stored-is}
 
 -- the gate of a row by SM and GD: Table 8-2 read the other way
 unfoldable pub gateOf : Bool → Bool → ℕ → ℕ → ℕ
@@ -126,11 +127,6 @@ module _ (scan : GateScan) (lines : ℕ) (small : lines ≤ 680) (even : scan .g
       }
 
 -- ---- the glass
-pub stored-is : (g : PanelGeometry) (n : ℕ) (rows : List ℕ) → scatter n (physicalRow g) rows ≡ gatesStored g n rows
-unfolding scatter gatesStored
-stored-is g zero rows = refl
-stored-is g (suc n) rows = ap (λ (l : List ℕ). set l (physicalRow g n) n) (stored-is g n rows)
-
 module _ (g : PanelGeometry) (small : g .height ≤ 680) (even : g .«native_scan» .gd ≡ true → g .height % 2 ≡ 0) where
   abbrev h : ℕ
   h = g .height

@@ -5,10 +5,10 @@ use Prim.Native.Nat.{_%_}
 use native.Mathlib.Omega.{arith}
 use borrow.Author.Needs.{needs}
 use lib.Dec.{eqb}
-use Rattle.scan.specs.Gates.{rowOf}
-use Rattle.scan.proofs.Rows.{exchanged}
-use Rattle.scan.proofs.row_of.Statement.{statement}
-use Rattle.scan.proofs.row_of.Tie as tie
+use Rattle.gates.specs.Gates.{rowOf}
+use Rattle.gates.proofs.Rows.{exchanged}
+use Rattle.gates.proofs.row_of.Statement.{statement}
+use Rattle.gates.proofs.row_of.Tie as tie
 
 add-half : tie.Need-add-half
 add-half c = search needs

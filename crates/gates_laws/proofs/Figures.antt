@@ -2,8 +2,8 @@
 use mathlib.Core.Path.{_≡_, refl}
 use mathlib.Core.Bool.{true, false}
 use Rattle.config.specs.declared.GateScan.{GateScan}
-use Rattle.scan.specs.declared.Row.the-variants.{Is, Nothing}
-use Rattle.scan.specs.Gates.{rowOf, rowOfGate}
+use Rattle.gates.specs.declared.Row.the-variants.{Is, Nothing}
+use Rattle.gates.specs.Gates.{rowOf, rowOfGate}
 
 -- ★ 680 lines, sm only, gate 5: row 342
 pub gate-5-of-680 : rowOfGate 5 (record { sm = true; gd = false }) 680 ≡ Is 342

@@ -1,9 +1,9 @@
 -- `scan::native_row` meets its contract: what `ram_row_of_gate` answers, put into the definition.
 use mathlib.Core.Path.{sym, _∙_}
 use borrow.Author.Needs.{needs}
-use Rattle.scan.specs.Gates.{nativeRow}
-use Rattle.scan.proofs.native_row.Statement.{statement}
-use Rattle.scan.proofs.native_row.Tie as tie
+use Rattle.gates.specs.Gates.{nativeRow}
+use Rattle.gates.proofs.native_row.Statement.{statement}
+use Rattle.gates.proofs.native_row.Tie as tie
 
 ram-row-of-gate-requires : tie.Need-ram-row-of-gate-requires
 ram-row-of-gate-requires c κs = search needs

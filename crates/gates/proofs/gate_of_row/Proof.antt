@@ -5,10 +5,10 @@ use Prim.Native.Nat.{_≤_, _-_}
 use native.Mathlib.Omega.{arith}
 use borrow.Author.Needs.{needs}
 use Rattle.numbers.proofs.Scattered.{Scattered, scattered-none, scattered-more, scattered-past, scattered-all}
-use Rattle.scan.specs.Gates.{physicalRow}
-use Rattle.scan.proofs.OneToOne.{stored-is}
-use Rattle.scan.proofs.gate_of_row.Statement.{statement}
-use Rattle.scan.proofs.gate_of_row.Tie as tie
+use Rattle.gates.specs.Gates.{physicalRow}
+use Rattle.gates.proofs.Stored.{stored-is}
+use Rattle.gates.proofs.gate_of_row.Statement.{statement}
+use Rattle.gates.proofs.gate_of_row.Tie as tie
 
 abbrev Inv-loop : tie.InvT-loop
 Inv-loop gates₀ geometry height gate₀ gates gate = Scattered gate (physicalRow geometry) gates₀ gates × (gate ≤ height)

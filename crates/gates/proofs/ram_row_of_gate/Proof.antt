@@ -2,9 +2,9 @@
 use borrow.Author.Needs.{needs}
 use borrow.Author.Tests.{lt-ltb, le-ltb}
 use native.Mathlib.Omega.{arith}
-use Rattle.scan.specs.Gates.{rowOfGate}
-use Rattle.scan.proofs.ram_row_of_gate.Statement.{statement}
-use Rattle.scan.proofs.ram_row_of_gate.Tie as tie
+use Rattle.gates.specs.Gates.{rowOfGate}
+use Rattle.gates.proofs.ram_row_of_gate.Statement.{statement}
+use Rattle.gates.proofs.ram_row_of_gate.Tie as tie
 
 returns : tie.Need-returns
 unfolding rowOfGate

@@ -1,10 +1,10 @@
 -- `scan::physical_row` meets its contract: a native row is below the height, so that it can be counted from the bottom.
 use borrow.Author.Needs.{needs}
 use native.Mathlib.Omega.{arith}
-use Rattle.scan.specs.Gates.{physicalRow}
-use Rattle.scan.proofs.Rows.{native-lt}
-use Rattle.scan.proofs.physical_row.Statement.{statement}
-use Rattle.scan.proofs.physical_row.Tie as tie
+use Rattle.gates.specs.Gates.{physicalRow}
+use Rattle.gates.proofs.Rows.{native-lt}
+use Rattle.gates.proofs.physical_row.Statement.{statement}
+use Rattle.gates.proofs.physical_row.Tie as tie
 
 native-row-requires : tie.Need-native-row-requires
 native-row-requires c κs = search needs

@@ -1,0 +1,3 @@
+-- The laws of gates.
+pub mod Rows
+pub mod Stored

@@ -1,0 +1,2 @@
+-- The root of gates' specs.
+pub mod Gates

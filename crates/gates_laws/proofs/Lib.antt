@@ -1,0 +1,3 @@
+-- The laws of gates and rows.
+pub mod OneToOne
+pub mod Figures
