@@ -182,7 +182,7 @@ fn table_of(table: &mut [u8; TABLE], numbers: &[u64]) {
 
 fn validated_with(table: &[u8], length: usize, config: Ssd1677Config) -> ConfigError {
     if length <= table.len() {
-        return otp::validate(config, &table[0..length]);
+        return validate::validate(config, &table[0..length]);
     }
     ConfigError::BadTable
 }

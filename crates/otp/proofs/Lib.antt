@@ -2,4 +2,3 @@
 pub mod Bytes
 pub mod Search
 pub mod Found
-pub mod Approximations

@@ -2,4 +2,3 @@
 pub mod Table
 pub mod Search
 pub mod Waveform
-pub mod Approximation

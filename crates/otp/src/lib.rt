@@ -4,19 +4,14 @@ ghost use mathlib.Core.Path.{_≡_};
 ghost use mathlib.Core.List.{[], _∷_};
 ghost use Prim.Native.Nat.{_+_, _*_, _<_};
 ghost use lib.ListN.{length, getD};
-ghost use Rattle.voltage.specs.Codes.{sourceVoltage, vslVoltage, vcomVoltage};
 ghost use Rattle.config.specs.Answer.{firstOf, answerOf};
 ghost use Rattle.config.specs.Temperature.{sixteenthsOf};
-ghost use Rattle.otp.specs.Table.{entriesOf, badEntry, badTable, tableTest, unlisted, unlistedVoltage, voltagesTest, startTests};
+ghost use Rattle.otp.specs.Table.{entriesOf, badEntry, badTable, tableTest};
 ghost use Rattle.otp.specs.Search.{anyOf, lastOf};
-ghost use Rattle.otp.specs.Approximation.{approximate, approximateEntry, approximated, outcomeOf};
 ghost use Rattle.otp.specs.Waveform.{modeByte, covers, foundEntry, partOf};
 use config::ConfigError;
 use config::DisplayMode;
-use config::Ssd1677Config;
 use config::Temperature;
-use glass::Provenance;
-use voltage::Millivolts;
 
 pub const ENTRY_BYTES: usize = 118;
 
@@ -142,127 +137,4 @@ pub fn find_waveform(otp: &[u8], mode: DisplayMode, register: u16) -> &[u8]
     let at = ENTRY_BYTES * entry;
     let end = at + ENTRY_BYTES;
     &otp[at..end]
-}
-
-fn is_unlisted(millivolts: Millivolts) -> bool
-    ensures { λ r. ⌜ r ≡ unlisted millivolts ⌝ }
-{
-    match millivolts {
-        Millivolts::Listed(_) => false,
-        Millivolts::Unlisted => true,
-    }
-}
-
-fn is_unlisted_source(code: u8) -> bool
-    ensures { λ r. ⌜ r ≡ unlisted (sourceVoltage code) ⌝ }
-{
-    is_unlisted(voltage::source_millivolts(code))
-}
-
-fn is_unlisted_vsl(code: u8) -> bool
-    ensures { λ r. ⌜ r ≡ unlisted (vslVoltage code) ⌝ }
-{
-    is_unlisted(voltage::vsl_millivolts(code))
-}
-
-fn is_unlisted_vcom(code: u8) -> bool
-    ensures { λ r. ⌜ r ≡ unlisted (vcomVoltage code) ⌝ }
-{
-    is_unlisted(voltage::vcom_millivolts(code))
-}
-
-// Bytes 106 to 109 of the setting, which begins at byte 6 of the entry.
-fn has_unlisted_voltage(otp: &[u8], entry: usize) -> bool
-    requires { ⌜ entry < entriesOf (now otp) ⌝ }
-    ensures { λ r. ⌜ r ≡ unlistedVoltage (now (otp .entry)) entry ⌝ }
-{
-    let at = ENTRY_BYTES * entry;
-    let vsh1 = is_unlisted_source(otp[at + 112]);
-    let vsh2 = is_unlisted_source(otp[at + 113]);
-    let vsl = is_unlisted_vsl(otp[at + 114]);
-    let vcom = is_unlisted_vcom(otp[at + 115]);
-    vsh1 | vsh2 | vsl | vcom
-}
-
-pub fn voltages_error(otp: &[u8]) -> ConfigError
-    ensures { λ r. ⌜ answerOf r ≡ firstOf (voltagesTest (now (otp .entry)) ∷ []) ⌝ }
-{
-    let entries = otp.len() / ENTRY_BYTES;
-    let mut entry: usize = 0;
-    while entry < entries {
-        if has_unlisted_voltage(otp, entry) {
-            return ConfigError::OtpVoltage(entry);
-        }
-        entry += 1;
-    }
-    ConfigError::Accepted
-}
-
-// The parameters a model cannot be built on.
-pub fn validate(config: Ssd1677Config, otp: &[u8]) -> ConfigError
-    ensures { λ r. ⌜ answerOf r ≡ firstOf (startTests config (now (otp .entry))) ⌝ }
-{
-    let parameters = config::config_error(config);
-    if config::is_accepted(parameters) {
-        let table = table_error(otp);
-        if config::is_accepted(table) {
-            return voltages_error(otp);
-        }
-        return table;
-    }
-    parameters
-}
-
-fn is_approximate(provenance: Provenance) -> bool
-    ensures { λ r. ⌜ r ≡ approximate provenance ⌝ }
-{
-    match provenance {
-        Provenance::Approximation => true,
-        Provenance::Measured => false,
-    }
-}
-
-fn is_approximate_entry(otp: &[u8], entry: usize) -> bool
-    requires { ⌜ entry < entriesOf (now otp) ⌝ }
-    ensures { λ r. ⌜ r ≡ approximateEntry (now (otp .entry)) entry ⌝ }
-{
-    otp[ENTRY_BYTES * entry + 1] == 0
-}
-
-fn any_approximate_entry(otp: &[u8]) -> bool
-    ensures { λ r. ⌜ r ≡ anyOf (approximateEntry (now (otp .entry))) (entriesOf (now (otp .entry))) ⌝ }
-{
-    let entries = otp.len() / ENTRY_BYTES;
-    let mut entry: usize = 0;
-    let mut any = false;
-    while entry < entries {
-        let one = is_approximate_entry(otp, entry);
-        any = any | one;
-        entry += 1;
-    }
-    any
-}
-
-// Whether a configuration is an approximation, or that its table is none.
-pub enum IsApproximation {
-    Is(bool),
-    BadTable,
-}
-
-// Whether any part of what the model shows rests on values not measured on a device: the optics, the durations or a waveform of the
-// table. An interface showing the panel says "approximation" when it is true.
-pub fn is_approximation(config: Ssd1677Config, otp: &[u8]) -> IsApproximation
-    ensures { λ r. ⌜ outcomeOf r ≡ approximated config (now (otp .entry)) ⌝ }
-{
-    let optics = config.optics;
-    let timing = config.timing;
-    let of_glass = optics.provenance;
-    let of_durations = timing.provenance;
-    if is_bad_table(otp) {
-        return IsApproximation::BadTable;
-    }
-    let glass = is_approximate(of_glass);
-    let durations = is_approximate(of_durations);
-    let entries = any_approximate_entry(otp);
-    IsApproximation::Is(glass | durations | entries)
 }

@@ -37,7 +37,7 @@ pub struct Started {
 fn check(config: Ssd1677Config, otp: &[u8], lengths: Lengths) -> StartError
     ensures { λ r. ⌜ startAnswerOf r ≡ firstOf (allTests config (now (otp .entry)) lengths) ⌝ }
 {
-    let error = otp::validate(config, otp);
+    let error = validate::validate(config, otp);
     let fit = guard::lengths::lengths_fit(config.panel, lengths);
     if config::is_accepted(error) {
         if fit {

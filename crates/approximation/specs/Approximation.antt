@@ -8,10 +8,10 @@ use Rattle.glass.specs.declared.Provenance.{Provenance}
 use Rattle.glass.specs.declared.Provenance.the-variants.{Approximation, Measured}
 use Rattle.config.specs.declared.Ssd1677Config.{Ssd1677Config}
 use Rattle.config.specs.Answer.{Answer, accepted, refused, firstOf}
-use Rattle.otp.specs.declared.IsApproximation.{IsApproximation}
-use Rattle.otp.specs.declared.IsApproximation.the-variants.{Is, BadTable}
+use Rattle.approximation.specs.declared.IsApproximation.{IsApproximation}
+use Rattle.approximation.specs.declared.IsApproximation.the-variants.{Is, BadTable}
 use Rattle.otp.specs.Table.{entriesOf, provenanceAt, badTable, tableTest}
 use Rattle.otp.specs.Search.{anyOf}
 
 -- a provenance that is not measured
 abbrev pub approximate : Provenance → Bool

@@ -1,14 +1,14 @@
--- `otp::validate` meets its contract: the tests of each call, one list after the other.
+-- `validate::validate` meets its contract: the tests of each call, one list after the other.
 use mathlib.Core.Path.{sym, _∙_}
 use mathlib.Core.List.{List, [], _∷_}
 use Prim.Native.Nat.{ℕ}
 use Rattle.config.specs.Answer.{Test}
 use Rattle.config.specs.Tests.{configTests}
 use Rattle.config.proofs.Answers.{stops, goes-on}
 use Rattle.otp.specs.Table.{tableTest, voltagesTest}
 use borrow.Author.Needs.{needs}
-use Rattle.otp.proofs.validate.Statement.{statement}
-use Rattle.otp.proofs.validate.Tie as tie
+use Rattle.validate.proofs.validate.Statement.{statement}
+use Rattle.validate.proofs.validate.Tie as tie
 
 config-error-requires : tie.Need-config-error-requires
 config-error-requires c κs = search needs

@@ -1,4 +1,4 @@
--- `otp::voltages_error` meets its contract: the loop has passed no unlisted voltage.
+-- `validate::voltages_error` meets its contract: the loop has passed no unlisted voltage.
 use mathlib.Core.Path.{_≡_, refl, sym, ap, _∙_}
 use mathlib.Core.List.{[]}
 use Prim.Native.Nat.{_-_, _≤_}
@@ -8,9 +8,9 @@ use borrow.Author.Tests.{lt-ltb, le-ltb}
 use Rattle.config.specs.Answer.{refused, answerOf}
 use Rattle.config.proofs.Answers.{refuses, passes, none-left}
 use Rattle.config.proofs.Lowest.{Passed, lowest-at, lowest-none}
 use Rattle.otp.specs.Table.{entriesOf, unlistedVoltage, unlistedEntry, voltagesTest}
-use Rattle.otp.proofs.voltages_error.Statement.{statement}
-use Rattle.otp.proofs.voltages_error.Tie as tie
+use Rattle.validate.proofs.voltages_error.Statement.{statement}
+use Rattle.validate.proofs.voltages_error.Tie as tie
 
 abbrev Inv-loop : tie.InvT-loop
 Inv-loop otp entries entry₀ entry = (entry ≤ entries) × Passed (unlistedVoltage otp) entry

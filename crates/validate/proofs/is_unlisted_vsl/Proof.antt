@@ -1,9 +1,9 @@
--- `otp::is_unlisted_vsl` meets its contract.
+-- `validate::is_unlisted_vsl` meets its contract.
 use mathlib.Core.Path.{ap, _∙_}
 use Rattle.otp.specs.Table.{unlisted}
 use borrow.Author.Needs.{needs}
-use Rattle.otp.proofs.is_unlisted_vsl.Statement.{statement}
-use Rattle.otp.proofs.is_unlisted_vsl.Tie as tie
+use Rattle.validate.proofs.is_unlisted_vsl.Statement.{statement}
+use Rattle.validate.proofs.is_unlisted_vsl.Tie as tie
 
 vsl-millivolts-requires : tie.Need-vsl-millivolts-requires
 vsl-millivolts-requires c κs = search needs

@@ -1,10 +1,10 @@
--- `otp::is_approximation` meets its contract.
+-- `approximation::is_approximation` meets its contract.
 use mathlib.Core.Path.{sym, _∙_}
-use Rattle.otp.specs.Approximation.{outcomeOf}
-use Rattle.otp.proofs.Approximations.{refused-is, answered-is}
+use Rattle.approximation.specs.Approximation.{outcomeOf}
+use Rattle.approximation.proofs.Approximations.{refused-is, answered-is}
 use borrow.Author.Needs.{needs}
-use Rattle.otp.proofs.is_approximation.Statement.{statement}
-use Rattle.otp.proofs.is_approximation.Tie as tie
+use Rattle.approximation.proofs.is_approximation.Statement.{statement}
+use Rattle.approximation.proofs.is_approximation.Tie as tie
 
 is-bad-table-requires : tie.Need-is-bad-table-requires
 is-bad-table-requires c κs = search needs

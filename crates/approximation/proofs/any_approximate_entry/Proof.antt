@@ -1,13 +1,13 @@
--- `otp::any_approximate_entry` meets its contract.
+-- `approximation::any_approximate_entry` meets its contract.
 use mathlib.Core.Path.{_≡_, ap, _∙_}
 use Prim.Native.Nat.{_-_, _/_, _≤_}
 use native.Mathlib.Omega.{arith}
 use lib.ListN.{length}
-use Rattle.otp.specs.Approximation.{approximateEntry}
+use Rattle.approximation.specs.Approximation.{approximateEntry}
 use Rattle.otp.specs.Search.{anyOf}
 use Rattle.otp.proofs.Search.{any-none, any-more}
-use Rattle.otp.proofs.any_approximate_entry.Statement.{statement}
-use Rattle.otp.proofs.any_approximate_entry.Tie as tie
+use Rattle.approximation.proofs.any_approximate_entry.Statement.{statement}
+use Rattle.approximation.proofs.any_approximate_entry.Tie as tie
 
 abbrev Inv-loop : tie.InvT-loop
 Inv-loop otp entries entry₀ any₀ entry any = (entry ≤ entries) × (any ≡ anyOf (approximateEntry otp) entry)

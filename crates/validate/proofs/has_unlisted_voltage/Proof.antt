@@ -1,8 +1,8 @@
--- `otp::has_unlisted_voltage` meets its contract.
+-- `validate::has_unlisted_voltage` meets its contract.
 use Rattle.otp.specs.Table.{unlistedVoltage}
 use borrow.Author.Needs.{needs}
-use Rattle.otp.proofs.has_unlisted_voltage.Statement.{statement}
-use Rattle.otp.proofs.has_unlisted_voltage.Tie as tie
+use Rattle.validate.proofs.has_unlisted_voltage.Statement.{statement}
+use Rattle.validate.proofs.has_unlisted_voltage.Tie as tie
 
 mul-at : tie.Need-mul-at
 mul-at c = search needs

@@ -1,9 +1,9 @@
--- `otp::is_unlisted_vcom` meets its contract.
+-- `validate::is_unlisted_vcom` meets its contract.
 use mathlib.Core.Path.{ap, _∙_}
 use Rattle.otp.specs.Table.{unlisted}
 use borrow.Author.Needs.{needs}
-use Rattle.otp.proofs.is_unlisted_vcom.Statement.{statement}
-use Rattle.otp.proofs.is_unlisted_vcom.Tie as tie
+use Rattle.validate.proofs.is_unlisted_vcom.Statement.{statement}
+use Rattle.validate.proofs.is_unlisted_vcom.Tie as tie
 
 vcom-millivolts-requires : tie.Need-vcom-millivolts-requires
 vcom-millivolts-requires c κs = search needs

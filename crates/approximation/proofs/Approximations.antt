@@ -5,9 +5,9 @@ use mathlib.Core.List.{List}
 use Prim.Native.Nat.{ℕ}
 use Rattle.config.specs.declared.Ssd1677Config.{Ssd1677Config}
 use Rattle.config.specs.Answer.{accepted, refused, firstOf}
 use Rattle.otp.specs.Table.{entriesOf, badTable}
 use Rattle.otp.specs.Search.{anyOf}
-use Rattle.otp.specs.Approximation.{approximate, approximateEntry, approximated}
+use Rattle.approximation.specs.Approximation.{approximate, approximateEntry, approximated}
 
 module _ (config : Ssd1677Config) (otp : List ℕ) where
   pub refused-is : badTable otp ≡ true → record { told = refused 12 0; approximation = false } ≡ approximated config otp

@@ -1,0 +1,2 @@
+-- The laws of approximation.
+pub mod Approximations

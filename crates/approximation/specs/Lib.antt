@@ -1,0 +1,2 @@
+-- The root of approximation's specs.
+pub mod Approximation
