@@ -9,7 +9,7 @@ use native.Mathlib.Omega.{arith}
 use Rattle.numbers.specs.Choice.{pick}
 use Rattle.numbers.proofs.Painted.{length-tab}
 use Rattle.panel.specs.Finish.{Ending, published, finished}
-use Rattle.panel.proofs.Exactly.{states-length, pixels-length}
+use Rattle.panel_laws.proofs.Exactly.{states-length, pixels-length}
 use Rattle.waveform.specs.declared.Until.the-variants.{Whole}
 use Rattle.diagnostic.specs.declared.DiagnosticKind.the-variants.{WithoutClock, WithoutAnalog}
 use Rattle.diagnostic.specs.declared.Stage.the-variants as stage

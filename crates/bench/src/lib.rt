@@ -161,7 +161,7 @@ pub extern "C" fn proved_finish(
         let panel = made::panel_of(swing, border, width, height, generation);
         let display = made::display_of(setting, register, partial, started);
         let until = made::until_of(cut, until);
-        let finished = panel::finish(
+        let finished = finish::finish(
             panel,
             display,
             positive_drives_black,

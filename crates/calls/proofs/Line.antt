@@ -11,7 +11,7 @@ use Rattle.diagnostic.specs.declared.DiagnosticKind.the-variants.{MissingData, 
 use Rattle.diagnostic.specs.Log.{Entries, reported}
 use Rattle.diagnostic.proofs.Kept.{reported-length, reported-count}
 use Rattle.panel.specs.Finish.{finished, published}
-use Rattle.panel.proofs.Exactly.{states-length}
+use Rattle.panel_laws.proofs.Exactly.{states-length}
 use Rattle.device.specs.declared.Current.{Current}
 use Rattle.device.specs.declared.Current.the-variants.{Idle, Ignoring, Active}
 use Rattle.device.specs.declared.Power.{Power}

@@ -17,7 +17,7 @@ use Rattle.config.specs.Answer.{isAccepted, firstOf}
 use Rattle.otp.specs.Table.{startTests}
 use Rattle.gates.specs.Gates.{physicalRow, gatesStored}
 use Rattle.panel.specs.Start.{panelAtPowerOn, powerOn}
-use Rattle.panel.proofs.Start.{some-swing}
+use Rattle.panel_laws.proofs.Start.{some-swing}
 use Rattle.device.specs.declared.Current.the-variants.{Idle}
 use Rattle.device.specs.declared.Ssd1677.{Ssd1677}
 use Rattle.registers.proofs.Bounds.{reset-bounded}

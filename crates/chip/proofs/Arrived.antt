@@ -9,7 +9,7 @@ use Rattle.numbers.specs.Choice.{pick}
 use Rattle.waveform.specs.declared.Until.the-variants.{Whole}
 use Rattle.panel.specs.Finish.{finished}
 use Rattle.panel.specs.Finish as glass
-use Rattle.panel.proofs.Exactly.{states-length}
+use Rattle.panel_laws.proofs.Exactly.{states-length}
 use Rattle.device.specs.declared.Bus.{Bus}
 use Rattle.device.specs.declared.Deadline.{Deadline}
 use Rattle.device.specs.declared.Deadline.the-variants.{Never, At}

@@ -78,7 +78,7 @@ pub fn end_display(state: Ssd1677, states: &mut [i64], luts: &[u8], pixels: &mut
         let timing = config.timing;
         let periods = timing.frame_period;
         let panel = state.panel;
-        let finished = panel::finish(
+        let finished = finish::finish(
             panel,
             display,
             optics.positive_drives_black,

@@ -103,7 +103,7 @@ fn once(
         if 1 <= panel.swing {
             if luts.len() == states.len() {
                 if pixels.len() == states.len() {
-                    return panel::finish(
+                    return finish::finish(
                         panel,
                         display,
                         black,
@@ -146,7 +146,7 @@ fn times(
 
 fn refreshed(numbers: &[u64], states: &mut [i64], luts: &mut [u8], pixels: &mut [u8]) -> Panel {
     let geometry = geometry(numbers);
-    let fresh = panel::new(
+    let fresh = panel_start::new(
         geometry,
         optics(numbers),
         &mut states[..],

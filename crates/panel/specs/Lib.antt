@@ -3,4 +3,3 @@ pub mod Border
 pub mod Start
 pub mod Pixels
 pub mod Finish
-pub mod Refresh

@@ -151,7 +151,7 @@ fn power_up(
     requires { ⌜ 1 ≤ config .optics .«full_swing» ⌝ }
     ensures { λ r. ⌜ powered r (buffers (now (states .exit)) (now (luts .exit)) (now (pixels .exit)) (now («black_white» .exit)) (now (red .exit)) (now (gates .exit)) (now (log .exit))) ≡ poweredUp config (buffers (now (states .entry)) (now (luts .entry)) (now (pixels .entry)) (now («black_white» .entry)) (now (red .entry)) (now (gates .entry)) (now (log .entry))) ⌝ }
 {
-    let panel = panel::new(config.panel, config.optics, states, luts, pixels);
+    let panel = panel_start::new(config.panel, config.optics, states, luts, pixels);
     clear(black_white, red, log);
     scan::gate_of_row(gates, config.panel);
     chip_with(config, panel)

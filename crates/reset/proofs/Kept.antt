@@ -9,7 +9,7 @@ use Rattle.numbers.specs.Choice.{pick}
 use Rattle.diagnostic.specs.declared.DiagnosticKind.{DiagnosticKind}
 use Rattle.diagnostic.specs.declared.DiagnosticKind.the-variants.{ResetDuringDisplay}
 use Rattle.panel.specs.Finish.{finished, published}
-use Rattle.panel.proofs.Exactly.{states-length, pixels-length}
+use Rattle.panel_laws.proofs.Exactly.{states-length, pixels-length}
 use Rattle.device.specs.declared.Ssd1677.{Ssd1677}
 use Rattle.device.specs.declared.Power.{Power}
 use Rattle.device.specs.declared.Power.the-variants.{Running, Asleep, InReset}

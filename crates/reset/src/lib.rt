@@ -39,7 +39,7 @@ fn finish_cut(state: Ssd1677, states: &mut [i64], luts: &[u8], pixels: &mut [u8]
     let periods = timing.frame_period;
     let panel = state.panel;
     let into = chip::ns_between(display.started, state.now);
-    let finished = panel::finish(
+    let finished = finish::finish(
         panel,
         display,
         optics.positive_drives_black,

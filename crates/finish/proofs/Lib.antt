@@ -1,0 +1,3 @@
+-- Laws of finish that belong to no one function.
+pub mod Drives
+pub mod Steps

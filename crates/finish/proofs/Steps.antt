@@ -1,0 +1,82 @@
+-- The parts of a display's end, put together. Assumes nothing.
+use mathlib.Core.Path.{_≡_, refl, sym, ap, _∙_}
+use mathlib.Core.Bool.{Bool, true, false}
+use mathlib.Core.List.{List}
+use Prim.Native.Nat.{ℕ}
+use lib.Dec.{ltb}
+use lib.IntN.{ℤ, pos}
+use lib.ListN.{length, getD}
+use borrow.Author.Tests.{ltb-true}
+use Rattle.numbers.specs.Choice.{pick}
+use Rattle.numbers.specs.Lists.{tab}
+use Rattle.numbers.proofs.Painted.{length-tab, getD-tab, tab-ext}
+use Rattle.glass.specs.declared.Transfer.{Transfer}
+use Rattle.glass.specs.Greys.{grayZ}
+use Rattle.glass.specs.Transfers.{identityT, applyT}
+use Rattle.waveform.specs.declared.Drive.{Drive}
+use Rattle.waveform.specs.declared.Drive.the-variants.{Lut}
+use Rattle.waveform.specs.declared.Until.{Until}
+use Rattle.waveform.specs.declared.Until.the-variants.{Whole, Cut}
+use Rattle.waveform.specs.Setting.{waveformOf}
+use Rattle.waveform.specs.Walks.{transferOf, wholeTransfer, cutTransfer}
+use Rattle.panel.specs.declared.Panel.{Panel}
+use Rattle.finish.specs.declared.refresh.Refresh.{Refresh}
+use Rattle.panel.specs.Border.{borderDrive}
+use Rattle.panel.specs.Pixels.{stateBy, statesBy, grays}
+use Rattle.panel.specs.Finish.{Glass, glass, Ending, settingTransfer, transferBy, borderBy, published, withBorder, finished}
+use Rattle.finish.specs.Refresh.{refreshOf, transferIn, fourTransfers, inTable}
+
+-- ---- the pixels
+-- greys of states that are given by place
+pub grays-tab : (swing : ℤ) (n : ℕ) (f : ℕ → ℤ) → tab n (λ i. grayZ (f i) swing) ≡ grays swing (tab n f)
+unfolding grays
+grays-tab swing n f =
+    tab-ext n (λ i. grayZ (f i) swing) (λ i. grayZ (getD (tab n f) i (pos 0)) swing) (λ i l. ap (λ (z : ℤ). grayZ z swing) (sym (getD-tab n f i (pos 0) l)))
+    ∙ ap (λ (k : ℕ). tab k (λ i. grayZ (getD (tab n f) i (pos 0)) swing)) (sym (length-tab n f))
+
+-- the table of four has each LUT's transfer
+state-is : (r : Refresh) (lut : ℕ) (state : ℤ) → stateBy (inTable (fourTransfers r)) lut state ≡ stateBy (λ k. transferIn r (Lut k)) lut state
+unfolding stateBy fourTransfers
+state-is r lut state = by (ltb lut 4) refl
+  where
+    by : (t : Bool) → ltb lut 4 ≡ t → pick t (applyT (inTable (tab 4 (λ k. transferIn r (Lut k))) lut) state) state ≡ pick t (applyT (transferIn r (Lut lut)) state) state
+    by true e = ap (λ (t : Transfer). applyT t state) (getD-tab 4 (λ k. transferIn r (Lut k)) lut (identityT (pos 0)) (ltb-true _ _ e))
+    by false e = refl
+
+pub table-is : (r : Refresh) (luts : List ℕ) (states : List ℤ) (ts : List Transfer) → ts ≡ fourTransfers r
+    → statesBy (inTable ts) luts states ≡ statesBy (λ k. transferIn r (Lut k)) luts states
+unfolding statesBy
+table-is r luts states ts made =
+    ap (λ (l : List Transfer). tab (length states) (λ i. stateBy (inTable l) (getD luts i 0) (getD states i (pos 0)))) made
+    ∙ tab-ext (length states) (λ i. stateBy (inTable (fourTransfers r)) (getD luts i 0) (getD states i (pos 0)))
+    (λ i. stateBy (λ k. transferIn r (Lut k)) (getD luts i 0) (getD states i (pos 0))) (λ i l. state-is r (getD luts i 0) (getD states i (pos 0)))
+
+-- ---- the whole end
+abbrev refreshIn : Ending → ℤ → Refresh
+refreshIn e swing = refreshOf (waveformOf (e .display .setting) (e .periods)) swing (e .black) (e .until)
+
+-- the decoded waveform's transfer is the setting's
+transfer-is : (e : Ending) (swing : ℤ) (drive : Drive) → transferIn (refreshIn e swing) drive ≡ transferBy e swing drive
+unfolding transferIn transferBy wholeTransfer cutTransfer
+transfer-is e swing drive = by (e .until)
+  where
+    by : (until : Until)
+        → transferOf (waveformOf (e .display .setting) (e .periods)) drive swing (e .black) until ≡ settingTransfer (e .display .setting) (e .periods) drive swing (e .black) until
+    by Whole = refl
+    by (Cut until) = refl
+
+pub finishes : (e : Ending) (luts : List ℕ) (g : Glass) (r : Refresh) (states : List ℤ) (pixels : List ℕ) (p q : Panel)
+    → r ≡ refreshIn e (g .panel .swing)
+    → states ≡ statesBy (λ lut. transferIn r (Lut lut)) luts (g .states)
+    → pixels ≡ grays (r .swing) (statesBy (λ lut. transferIn r (Lut lut)) luts (g .states))
+    → p ≡ withBorder (g .panel) (borderBy (transferIn r) (borderDrive (e .display .border)) (g .panel .border))
+    → q ≡ published (e .display) (e .at) (e .until) p
+    → glass q states pixels ≡ finished e luts g
+unfolding finished
+finishes e luts g r states pixels p q e₁ e₂ e₃ e₄ e₅ =
+    let same : transferIn r ≡ transferBy e (g .panel .swing) = ap transferIn e₁ ∙ (λ i drive. transfer-is e (g .panel .swing) drive i) in
+    let border = e₄ ∙ (λ i. withBorder (g .panel) (borderBy (same i) (borderDrive (e .display .border)) (g .panel .border))) in
+    λ i. glass
+    ((e₅ ∙ ap (published (e .display) (e .at) (e .until)) border) i)
+    ((e₂ ∙ (λ j. statesBy (λ lut. same j (Lut lut)) luts (g .states))) i)
+    ((e₃ ∙ (λ j. grays (e₁ j .swing) (statesBy (λ lut. same j (Lut lut)) luts (g .states)))) i)

@@ -1,0 +1,2 @@
+-- The root of finish's specs.
+pub mod Refresh

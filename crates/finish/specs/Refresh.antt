@@ -1,0 +1,45 @@
+-- What the parts of a display's end share.
+use mathlib.Core.Path.{_≡_}
+use mathlib.Core.Bool.{Bool}
+use mathlib.Core.List.{List}
+use Prim.Native.Nat.{ℕ}
+use lib.IntN.{ℤ, pos}
+use lib.Signed.{_≤ℤ_}
+use lib.ListN.{length, getD}
+use Rattle.numbers.specs.Lists.{tab}
+use Rattle.glass.specs.declared.Transfer.{Transfer}
+use Rattle.glass.specs.Transfers.{identityT}
+use Rattle.waveform.specs.declared.Drive.{Drive}
+use Rattle.waveform.specs.declared.Drive.the-variants.{Lut}
+use Rattle.waveform.specs.declared.Until.{Until}
+use Rattle.waveform.specs.declared.Waveform.{Waveform}
+use Rattle.waveform.specs.Phases.{Takes}
+use Rattle.waveform.specs.Walks.{Walkable, transferOf}
+use Rattle.finish.specs.declared.refresh.Refresh.{Refresh}
+
+-- a waveform that any drive may walk
+abbrev pub AllWalkable : Waveform → Type 0
+AllWalkable w = (drive : Drive) → Takes drive → Walkable w drive
+
+-- a display of a waveform, by the swing, the sign and how much of it counts
+abbrev pub refreshOf : Waveform → ℤ → Bool → Until → Refresh
+refreshOf w swing black until = record { waveform = w; swing = swing; «positive_drives_black» = black; until = until }
+
+-- the transfer of a drive
+unfoldable pub transferIn : Refresh → Drive → Transfer
+transferIn r drive = transferOf (r .waveform) drive (r .swing) (r .«positive_drives_black») (r .until)
+
+-- those of LUTs 0 to 3
+unfoldable pub fourTransfers : Refresh → List Transfer
+fourTransfers r = tab 4 (λ lut. transferIn r (Lut lut))
+
+-- the transfer that a table has for a LUT
+abbrev pub inTable : List Transfer → ℕ → Transfer
+inTable ts lut = getD ts lut (identityT (pos 0))
+
+-- what refilling the pixels asks
+pub record Repaintable (r : Refresh) (luts : List ℕ) (states : List ℤ) (pixels : List ℕ) : Type 0 where
+  pub walkable : AllWalkable (r .waveform)
+  pub some : pos 1 ≤ℤ r .swing
+  pub luts-long : length luts ≡ length states
+  pub pixels-long : length pixels ≡ length states

@@ -1,0 +1,127 @@
+// The parts of a display's end, whole or cut: its transfers, made once, and what they move.
+use glass::Transfer;
+use panel::Border;
+use panel::Display;
+use panel::Panel;
+use waveform::Drive;
+use waveform::Until;
+use waveform::Waveform;
+ghost use mathlib.Core.Path.{_≡_};
+ghost use Rattle.waveform.specs.Walks.{Walkable};
+ghost use Rattle.waveform.specs.Setting.{waveformOf};
+ghost use Rattle.panel.specs.Border.{borderDrive};
+ghost use Rattle.panel.specs.Pixels.{stateBy, statesBy, grays};
+ghost use Rattle.panel.specs.Finish.{borderBy, withBorder};
+ghost use Rattle.finish.specs.Refresh.{AllWalkable, Repaintable, refreshOf, transferIn, fourTransfers, inTable};
+
+// What the transfers of a display are made from.
+pub struct Refresh {
+    pub waveform: Waveform,
+    pub swing: i64,
+    pub positive_drives_black: bool,
+    pub until: Until,
+}
+
+// The display's 112 setting bytes decoded, with the frame period of each frame-rate code.
+pub(crate) fn refresh_of(
+    panel: Panel,
+    display: Display,
+    positive_drives_black: bool,
+    frame_period: [u64; 16],
+    until: Until,
+) -> Refresh
+    ensures { λ r. ⌜ r ≡ refreshOf (waveformOf (display .setting) «frame_period») (panel .swing) «positive_drives_black» until ⌝ }
+{
+    let setting = display.setting;
+    let waveform = setting::from_setting(&setting, &frame_period);
+    Refresh {
+        waveform,
+        swing: panel.swing,
+        positive_drives_black,
+        until,
+    }
+}
+
+fn transfer(refresh: Refresh, drive: Drive) -> Transfer
+    requires { ⌜ Walkable (refresh .waveform) drive ⌝ }
+    ensures { λ r. ⌜ r ≡ transferIn refresh drive ⌝ }
+{
+    let waveform = refresh.waveform;
+    let until = refresh.until;
+    walk::transfer(
+        waveform,
+        drive,
+        refresh.swing,
+        refresh.positive_drives_black,
+        until,
+    )
+}
+
+// Those of LUTs 0 to 3.
+fn transfers(refresh: Refresh) -> [Transfer; 4]
+    requires { ⌜ AllWalkable (refresh .waveform) ⌝ }
+    ensures { λ r. ⌜ r ≡ fourTransfers refresh ⌝ }
+{
+    let lut0 = transfer(refresh, Drive::Lut(0));
+    let lut1 = transfer(refresh, Drive::Lut(1));
+    let lut2 = transfer(refresh, Drive::Lut(2));
+    let lut3 = transfer(refresh, Drive::Lut(3));
+    [lut0, lut1, lut2, lut3]
+}
+
+fn moved(transfers: [Transfer; 4], lut: u8, state: i64) -> i64
+    ensures { λ r. ⌜ r ≡ stateBy (inTable transfers) lut state ⌝ }
+{
+    if lut < 4 {
+        let transfer = transfers[lut as usize];
+        return transfer.apply(state);
+    }
+    state
+}
+
+// One pass: each driven state moved, and every pixel the grey of its state.
+fn paint(
+    refresh: Refresh,
+    transfers: [Transfer; 4],
+    luts: &[u8],
+    states: &mut [i64],
+    pixels: &mut [u8],
+)
+    requires { ⌜ Repaintable refresh (now luts) (now states) (now pixels) ⌝ }
+    ensures { λ _. ⌜ now (states .exit) ≡ statesBy (inTable transfers) (now (luts .entry)) (now (states .entry)) ⌝ }
+    ensures { λ _. ⌜ now (pixels .exit) ≡ grays (refresh .swing) (statesBy (inTable transfers) (now (luts .entry)) (now (states .entry))) ⌝ }
+{
+    for i in 0..states.len() {
+        let state = moved(transfers, luts[i], states[i]);
+        states[i] = state;
+        pixels[i] = glass::gray(state, refresh.swing);
+    }
+}
+
+// All pixels, by transfers made once.
+pub(crate) fn repaint(refresh: Refresh, luts: &[u8], states: &mut [i64], pixels: &mut [u8])
+    requires { ⌜ Repaintable refresh (now luts) (now states) (now pixels) ⌝ }
+    ensures { λ _. ⌜ now (states .exit) ≡ statesBy (λ lut. transferIn refresh (Drive.Lut lut)) (now (luts .entry)) (now (states .entry)) ⌝ }
+    ensures { λ _. ⌜ now (pixels .exit) ≡ grays (refresh .swing) (statesBy (λ lut. transferIn refresh (Drive.Lut lut)) (now (luts .entry)) (now (states .entry))) ⌝ }
+{
+    let transfers = transfers(refresh);
+    paint(refresh, transfers, luts, &mut states[..], &mut pixels[..]);
+}
+
+// The border, driven or left.
+pub(crate) fn drive_border(refresh: Refresh, border: u8, panel: Panel) -> Panel
+    requires { ⌜ AllWalkable (refresh .waveform) ⌝ }
+    ensures { λ r. ⌜ r ≡ withBorder panel (borderBy (transferIn refresh) (borderDrive border) (panel .border)) ⌝ }
+{
+    let drives = panel::border_drive(border);
+    match drives {
+        Border::Driven(drive) => {
+            let transfer = transfer(refresh, drive);
+            let state = transfer.apply(panel.border);
+            let mut moved = panel;
+            moved.border = state;
+            moved
+        }
+        Border::Left => panel,
+    }
+}

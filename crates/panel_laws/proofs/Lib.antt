@@ -1,0 +1,3 @@
+-- The laws of the glass.
+pub mod Start
+pub mod Exactly

@@ -1,0 +1,1 @@
+// Theorems of the glass. There is no code here: the definitions stand in panel/specs, the laws in proofs/.
