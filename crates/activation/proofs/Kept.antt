@@ -19,7 +19,7 @@ use Rattle.chip.specs.Moments.{afterNs}
 use Rattle.chip.specs.Advance.{Ready, WithGlass, withGlass, endingOf, glassOf, isOver, ended, clocked, advanced}
 use Rattle.chip.specs.Advance as clock
 use Rattle.stages.specs.Run.{Step, noted}
-use Rattle.stages.proofs.Kept.{either}
+use Rattle.stages_laws.proofs.Kept.{either}
 use Rattle.activation.specs.Display.{Displayed, scanOf, displayOf, unchanged, begun, shown}
 use Rattle.activation.specs.Activation.{settled, WithLuts, withLuts, Lent, staged, WithBuffers, stagedIn, activated}
 

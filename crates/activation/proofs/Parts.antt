@@ -19,7 +19,7 @@ use Rattle.chip.specs.Advance.{WithGlass, withGlass}
 use Rattle.chip.proofs.Arrived.{current-busy, config-advanced, swing-advanced, regs-advanced, journal-advanced, current-advanced, states-advanced}
 use Rattle.stages.specs.declared.Run.{Run}
 use Rattle.stages.specs.Run.{controlOf, Step, step, noted, waited, withClock, withAnalog}
-use Rattle.stages.proofs.Kept.{either, Holds, HoldsOf, noted-holds, waited-holds, loaded-holds}
+use Rattle.stages_laws.proofs.Kept.{either, Holds, HoldsOf, noted-holds, waited-holds, loaded-holds}
 use Rattle.activation.specs.Display.{warned, Displayed, unchanged, begun, shown}
 use Rattle.activation.specs.Activation.{analogOff, clockOff, runOf, settled, withLuts, Lent, before, during, staged, WithBuffers, stagedIn, activated}
 use Rattle.activation.proofs.Kept.{luts-staged}

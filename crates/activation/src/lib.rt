@@ -220,7 +220,7 @@ fn run_stages(
     let config = state.config;
     let timing = config.timing;
     let control = stages::control_of(regs.update_control_2);
-    let a = stages::load(
+    let a = loading::load(
         run_of(state),
         log,
         state.now,

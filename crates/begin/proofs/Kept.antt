@@ -29,7 +29,7 @@ use Rattle.chip.specs.Report.{logged}
 use Rattle.chip.proofs.Arrived.{current-busy}
 use Rattle.reset.specs.Reset.{restored}
 use Rattle.start.specs.Start.{withBusyFor, softReset, isPowered, unpowered, sensingTime, vcomSensed, pointed}
-use Rattle.stages.proofs.Kept.{either}
+use Rattle.stages_laws.proofs.Kept.{either}
 use Rattle.activation.specs.Activation.{WithBuffers, Lent, activated}
 use Rattle.activation.proofs.Kept.{ready-activated}
 use Rattle.activation.proofs.Parts.{config-activated, swing-activated, states-activated, luts-activated, current-activated, regs-activated, activated-holds}

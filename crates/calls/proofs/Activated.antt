@@ -23,7 +23,7 @@ use Rattle.chip.specs.Moments.{afterNs, busyFor}
 use Rattle.chip.specs.Advance.{withGlass}
 use Rattle.stages.specs.declared.Run.{Run}
 use Rattle.stages.specs.Run.{controlOf, Step, noted, waited, withClock, withAnalog}
-use Rattle.stages.proofs.Kept.{either}
+use Rattle.stages_laws.proofs.Kept.{either}
 use Rattle.activation.specs.Display.{warned, displayOf, Displayed, unchanged, begun, shown}
 use Rattle.activation.specs.Activation.{analogOff, clockOff, settled, withLuts, Lent, before, during, staged, WithBuffers, stagedIn, activated}
 use Rattle.calls.specs.Sound.{inert, UnderWay, Held}

@@ -24,7 +24,7 @@ use Rattle.chip.specs.Close.{WithLog, withLog, closed}
 use Rattle.chip.specs.Report.{logged}
 use Rattle.reset.specs.Reset.{restored}
 use Rattle.start.specs.Start.{withBusyFor, softReset, isPowered, unpowered, sensingTime, vcomSensed, pointed}
-use Rattle.stages.proofs.Kept.{either}
+use Rattle.stages_laws.proofs.Kept.{either}
 use Rattle.activation.specs.Activation.{WithBuffers, Lent, activated}
 use Rattle.begin.specs.Begin.{onDevice, onLog, made, run, byKind, isHeldOff, begun}
 use Rattle.calls.specs.Sound.{takesNone, UnderWay, Held}

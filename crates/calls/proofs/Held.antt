@@ -28,7 +28,7 @@ use Rattle.ssd1677.specs.Calls.{lineTaken}
 use Rattle.ssd1677.specs.Command.{commandTaken}
 use Rattle.ssd1677.specs.Data.{dataIn}
 use Rattle.ssd1677.specs.Read.{readIn}
-use Rattle.stages.proofs.Kept.{either}
+use Rattle.stages_laws.proofs.Kept.{either}
 use Rattle.calls.specs.World.{World, Call, advance, set-reset, write-command, write-data, read-data, set-ambient, take-diagnostics, glassOf, lentOf, taken}
 use Rattle.calls.specs.Sound.{inert, UnderWay, Held}
 use Rattle.calls.proofs.Kept.{Typed}

@@ -1,15 +1,15 @@
--- `stages::load_temperature` meets its contract.
+-- `loading::load_temperature` meets its contract.
 use Rattle.stages.specs.Run.{step, through, waited}
 use Rattle.stages.specs.Stages.{sensed}
 use Rattle.stages.proofs.Cases.{reads, reads-none}
 use Rattle.stages.specs.declared.Run.{Run}
 use Rattle.numbers.proofs.Cases.{took, passed}
 use denote.Ref.{now}
 use borrow.Author.Tests.{eq-eqb, ne-eqb}
 use mathlib.Core.Path.{ap, _∙_}
 use borrow.Author.Needs.{needs}
-use Rattle.stages.proofs.load_temperature.Statement.{statement}
-use Rattle.stages.proofs.load_temperature.Tie as tie
+use Rattle.loading.proofs.load_temperature.Statement.{statement}
+use Rattle.loading.proofs.load_temperature.Tie as tie
 
 wait-requires : tie.Need-wait-requires
 wait-requires c κs = search needs

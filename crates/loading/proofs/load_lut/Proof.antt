@@ -1,8 +1,8 @@
--- `stages::load_lut` meets its contract.
+-- `loading::load_lut` meets its contract.
 use Rattle.stages.proofs.Cases.{finds, finds-none}
 use borrow.Author.Needs.{needs}
-use Rattle.stages.proofs.load_lut.Statement.{statement}
-use Rattle.stages.proofs.load_lut.Tie as tie
+use Rattle.loading.proofs.load_lut.Statement.{statement}
+use Rattle.loading.proofs.load_lut.Tie as tie
 
 find-waveform-requires : tie.Need-find-waveform-requires
 find-waveform-requires c κs = search needs

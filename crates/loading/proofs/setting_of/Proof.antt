@@ -1,11 +1,11 @@
--- `stages::setting_of` meets its contract: 112 bytes copied over as many zeros.
+-- `loading::setting_of` meets its contract: 112 bytes copied over as many zeros.
 use lib.ListN.{take, drop, length-drop, length-take, replicate}
 use native.Mathlib.Omega.{arith}
 use denote.Ref.{now}
 use Rattle.diagnostic.proofs.Over.{over}
 use borrow.Author.Needs.{needs}
-use Rattle.stages.proofs.setting_of.Statement.{statement}
-use Rattle.stages.proofs.setting_of.Tie as tie
+use Rattle.loading.proofs.setting_of.Statement.{statement}
+use Rattle.loading.proofs.setting_of.Tie as tie
 
 sub-copy : tie.Need-sub-copy
 sub-copy c = search needs

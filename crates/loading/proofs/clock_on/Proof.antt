@@ -1,10 +1,10 @@
--- `stages::clock_on` meets its contract.
+-- `loading::clock_on` meets its contract.
 use Rattle.stages.specs.Stages.{clockOn}
 use Rattle.numbers.proofs.Cases.{took, passed}
 use mathlib.Core.Path.{refl}
 use borrow.Author.Needs.{needs}
-use Rattle.stages.proofs.clock_on.Statement.{statement}
-use Rattle.stages.proofs.clock_on.Tie as tie
+use Rattle.loading.proofs.clock_on.Statement.{statement}
+use Rattle.loading.proofs.clock_on.Tie as tie
 
 wait-requires : tie.Need-wait-requires
 wait-requires c κs = search needs

@@ -1,8 +1,8 @@
--- `stages::load` meets its contract.
+-- `loading::load` meets its contract.
 use Rattle.stages.proofs.Cases.{loads}
 use borrow.Author.Needs.{needs}
-use Rattle.stages.proofs.load.Statement.{statement}
-use Rattle.stages.proofs.load.Tie as tie
+use Rattle.loading.proofs.load.Statement.{statement}
+use Rattle.loading.proofs.load.Tie as tie
 
 mode-of-requires : tie.Need-mode-of-requires
 mode-of-requires c κs = search needs

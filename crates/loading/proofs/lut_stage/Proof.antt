@@ -1,12 +1,12 @@
--- `stages::lut_stage` meets its contract.
+-- `loading::lut_stage` meets its contract.
 use Rattle.stages.specs.Run.{step, through, waited}
 use Rattle.stages.specs.Stages.{lutLoaded}
 use Rattle.stages.specs.declared.Run.{Run}
 use Rattle.numbers.proofs.Cases.{took, passed}
 use mathlib.Core.Path.{refl, ap, _∙_}
 use borrow.Author.Needs.{needs}
-use Rattle.stages.proofs.lut_stage.Statement.{statement}
-use Rattle.stages.proofs.lut_stage.Tie as tie
+use Rattle.loading.proofs.lut_stage.Statement.{statement}
+use Rattle.loading.proofs.lut_stage.Tie as tie
 
 load-lut-requires : tie.Need-load-lut-requires
 load-lut-requires c κs = search needs

@@ -1,13 +1,13 @@
--- `stages::analog_on` meets its contract.
+-- `loading::analog_on` meets its contract.
 use Rattle.stages.specs.Run.{step}
 use Rattle.stages.specs.Stages.{analogOn}
 use Rattle.stages.specs.declared.Run.{Run}
 use Rattle.numbers.proofs.Cases.{took, passed}
 use denote.Ref.{now}
 use mathlib.Core.Path.{refl, ap}
 use borrow.Author.Needs.{needs}
-use Rattle.stages.proofs.analog_on.Statement.{statement}
-use Rattle.stages.proofs.analog_on.Tie as tie
+use Rattle.loading.proofs.analog_on.Statement.{statement}
+use Rattle.loading.proofs.analog_on.Tie as tie
 
 wait-requires : tie.Need-wait-requires
 wait-requires c κs = search needs

@@ -1,10 +1,10 @@
--- `stages::temperature_stage` meets its contract.
+-- `loading::temperature_stage` meets its contract.
 use Rattle.stages.specs.Stages.{temperatureLoaded}
 use Rattle.numbers.proofs.Cases.{took, passed}
 use mathlib.Core.Path.{refl}
 use borrow.Author.Needs.{needs}
-use Rattle.stages.proofs.temperature_stage.Statement.{statement}
-use Rattle.stages.proofs.temperature_stage.Tie as tie
+use Rattle.loading.proofs.temperature_stage.Statement.{statement}
+use Rattle.loading.proofs.temperature_stage.Tie as tie
 
 load-temperature-requires : tie.Need-load-temperature-requires
 load-temperature-requires c κs = search needs

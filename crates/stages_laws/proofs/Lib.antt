@@ -1,0 +1,2 @@
+-- The laws of the stages.
+pub mod Kept
