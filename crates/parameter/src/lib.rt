@@ -25,7 +25,7 @@ fn register_byte(state: Ssd1677, log: &mut [u8], command: u8, index: u16, byte: 
     requires { ⌜ length (now log) ≡ 16384 ⌝ }
     ensures { λ r. ⌜ withLog r (now (log .exit)) ≡ registerTaken command index byte (withLog state (now (log .entry))) ⌝ }
 {
-    let regs = registers::store(state.regs, command, index, byte);
+    let regs = store::store(state.regs, command, index, byte);
     let stored = part::set_regs(state, regs);
     check_listed(stored, log, command, index, byte)
 }

@@ -68,7 +68,7 @@ fn read_register(state: Ssd1677, active: Active) -> Reading
     let busy = busy::busy(state, state.now);
     let command = active.command;
     let index = active.read;
-    let byte = registers::read_register(state.regs, state.status, busy, command, index);
+    let byte = read_register::read_register(state.regs, state.status, busy, command, index);
     let range = active.range_reported;
     let nothing = active.nothing_reported;
     let state = go_on(state, active, range, nothing);

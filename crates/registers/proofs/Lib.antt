@@ -1,4 +1,2 @@
 -- The laws of registers.
-pub mod Bytes
-pub mod Unwritten
 pub mod Bounds

@@ -1,0 +1,2 @@
+-- The laws of store.
+pub mod Unwritten
