@@ -29,7 +29,7 @@ use Rattle.chip.specs.Close.{WithLog, withLog}
 use Rattle.chip.specs.Report.{logged}
 use Rattle.acts.specs.Ram.{WithRam, withRam, onDevice, onLog}
 use Rattle.parameter.specs.Parameter.{parameterTaken}
-use Rattle.acts.proofs.Kept.{Sound, KeptRam, on-log, logged-kept}
+use Rattle.acts_laws.proofs.Kept.{Sound, KeptRam, on-log, logged-kept}
 use Rattle.parameter.proofs.Kept.{parameter-kept}
 use Rattle.data.specs.Data.{counted, made, going, surplus, upTo, planeFor, put, isInside, stepped, outOfRange, ramWritten, byKind, unasked, dataTaken}
 

@@ -18,7 +18,7 @@ use Rattle.chip.specs.Close.{WithLog, withLog}
 use Rattle.acts.specs.Ram.{WithRam, withRam, onDevice, onLog}
 use Rattle.acts.specs.Reserved.{checked}
 use Rattle.acts.specs.Acts.{slept, hvReady, vciSensed}
-use Rattle.acts.proofs.Kept.{Kept, KeptRam, same-all, kept-then, ram-then, on-log, checked-kept, busy-kept, slept-kept, hv-ready-kept, vci-sensed-kept}
+use Rattle.acts_laws.proofs.Kept.{Kept, KeptRam, same-all, kept-then, ram-then, on-log, checked-kept, busy-kept, slept-kept, hv-ready-kept, vci-sensed-kept}
 use Rattle.parameter.specs.Parameter.{registerTaken, writing, autoFilled, autoTaken, parameterTaken}
 
 module _ (byte : ℕ) (k : WithLog) where

@@ -75,9 +75,9 @@ pub fn parameter(
     ensures { λ r. ⌜ withRam r (now («black_white» .exit)) (now (red .exit)) (now (log .exit)) ≡ parameterTaken command index byte (withRam state (now («black_white» .entry)) (now (red .entry)) (now (log .entry))) ⌝ }
 {
     match command {
-        0x10 => acts::deep_sleep(state, black_white, red, log, byte),
-        0x14 => acts::hv_ready_detection(state, log, byte),
-        0x15 => acts::vci_detection(state, log, byte),
+        0x10 => deep_sleep::deep_sleep(state, black_white, red, log, byte),
+        0x14 => detection::hv_ready_detection(state, log, byte),
+        0x15 => detection::vci_detection(state, log, byte),
         0x46 => auto_write(state, black_white, red, log, 0x46, byte),
         0x47 => auto_write(state, black_white, red, log, 0x47, byte),
         _ => register_byte(state, log, command, index, byte),

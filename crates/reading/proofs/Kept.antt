@@ -21,7 +21,7 @@ use Rattle.device.specs.declared.Power.{Power}
 use Rattle.device.specs.declared.Power.the-variants.{Running, Asleep, InReset}
 use Rattle.chip.specs.Close.{WithLog, withLog}
 use Rattle.chip.specs.Report.{logged}
-use Rattle.acts.proofs.Kept.{Sound, logged-kept}
+use Rattle.acts_laws.proofs.Kept.{Sound, logged-kept}
 use Rattle.data.specs.Data.{made}
 use Rattle.reading.specs.Reading.{WithByte, withByte, counted, going, nothingRead, registerRead, chosen, outOfRange, moved, ramFound, ramRead, byteRead, byKind, byCurrent, readTaken}
 

@@ -1,8 +1,8 @@
--- `acts::vci_detection` meets its contract.
+-- `detection::vci_detection` meets its contract.
 use Rattle.acts.proofs.Cases.{is-sensed}
 use borrow.Author.Needs.{needs}
-use Rattle.acts.proofs.vci_detection.Statement.{statement}
-use Rattle.acts.proofs.vci_detection.Tie as tie
+use Rattle.detection.proofs.vci_detection.Statement.{statement}
+use Rattle.detection.proofs.vci_detection.Tie as tie
 
 vci-listed-requires : tie.Need-vci-listed-requires
 vci-listed-requires c κs = search needs

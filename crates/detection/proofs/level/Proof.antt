@@ -1,7 +1,7 @@
--- `acts::level`: the mask is the remainder by 8.
+-- `detection::level`: the mask is the remainder by 8.
 use lib.Bits.{and-mask}
-use Rattle.acts.proofs.level.Statement.{statement}
-use Rattle.acts.proofs.level.Tie as tie
+use Rattle.detection.proofs.level.Statement.{statement}
+use Rattle.detection.proofs.level.Tie as tie
 
 returns : tie.Need-returns
 returns c = and-mask (c .args .byte) 3

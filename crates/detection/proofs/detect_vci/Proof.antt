@@ -1,8 +1,8 @@
--- `acts::detect_vci` meets its contract.
+-- `detection::detect_vci` meets its contract.
 use Rattle.acts.proofs.Cases.{senses, senses-not}
 use borrow.Author.Needs.{needs}
-use Rattle.acts.proofs.detect_vci.Statement.{statement}
-use Rattle.acts.proofs.detect_vci.Tie as tie
+use Rattle.detection.proofs.detect_vci.Statement.{statement}
+use Rattle.detection.proofs.detect_vci.Tie as tie
 
 powered-requires : tie.Need-powered-requires
 powered-requires c κs = search needs

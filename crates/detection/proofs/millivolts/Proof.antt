@@ -1,8 +1,8 @@
--- `acts::millivolts` meets its contract.
+-- `detection::millivolts` meets its contract.
 use Rattle.acts.proofs.Cases.{level-of, level-else}
 use borrow.Author.Needs.{needs}
-use Rattle.acts.proofs.millivolts.Statement.{statement}
-use Rattle.acts.proofs.millivolts.Tie as tie
+use Rattle.detection.proofs.millivolts.Statement.{statement}
+use Rattle.detection.proofs.millivolts.Tie as tie
 
 level-requires : tie.Need-level-requires
 level-requires c κs = search needs

@@ -1,8 +1,8 @@
--- `acts::detect_hv` meets its contract.
+-- `detection::detect_hv` meets its contract.
 use Rattle.acts.proofs.Cases.{readies, readies-not}
 use borrow.Author.Needs.{needs}
-use Rattle.acts.proofs.detect_hv.Statement.{statement}
-use Rattle.acts.proofs.detect_hv.Tie as tie
+use Rattle.detection.proofs.detect_hv.Statement.{statement}
+use Rattle.detection.proofs.detect_hv.Tie as tie
 
 powered-requires : tie.Need-powered-requires
 powered-requires c κs = search needs

@@ -1,9 +1,9 @@
--- `acts::deep_sleep` meets its contract.
+-- `deep_sleep::deep_sleep` meets its contract.
 use Rattle.acts.proofs.Cases.{stays-awake, loses, keeps}
 use Rattle.acts.specs.Ram.{WithRam, withRam}
 use borrow.Author.Needs.{needs}
-use Rattle.acts.proofs.deep_sleep.Statement.{statement}
-use Rattle.acts.proofs.deep_sleep.Tie as tie
+use Rattle.deep_sleep.proofs.deep_sleep.Statement.{statement}
+use Rattle.deep_sleep.proofs.deep_sleep.Tie as tie
 
 -- the state and the buffers as lent
 abbrev given : tie.Start → WithRam

@@ -1,8 +1,8 @@
--- `acts::fall_asleep` meets its contract.
+-- `deep_sleep::fall_asleep` meets its contract.
 use Rattle.acts.specs.Acts.{asleep}
 use borrow.Author.Needs.{needs}
-use Rattle.acts.proofs.fall_asleep.Statement.{statement}
-use Rattle.acts.proofs.fall_asleep.Tie as tie
+use Rattle.deep_sleep.proofs.fall_asleep.Statement.{statement}
+use Rattle.deep_sleep.proofs.fall_asleep.Tie as tie
 
 set-slept-requires : tie.Need-set-slept-requires
 set-slept-requires c κs = search needs

@@ -1,8 +1,8 @@
--- `acts::hv_ready_detection` meets its contract.
+-- `detection::hv_ready_detection` meets its contract.
 use Rattle.acts.proofs.Cases.{is-ready}
 use borrow.Author.Needs.{needs}
-use Rattle.acts.proofs.hv_ready_detection.Statement.{statement}
-use Rattle.acts.proofs.hv_ready_detection.Tie as tie
+use Rattle.detection.proofs.hv_ready_detection.Statement.{statement}
+use Rattle.detection.proofs.hv_ready_detection.Tie as tie
 
 hv-listed-requires : tie.Need-hv-listed-requires
 hv-listed-requires c κs = search needs

@@ -1,7 +1,7 @@
--- `acts::mode`: the mask is the remainder by 4.
+-- `deep_sleep::mode`: the mask is the remainder by 4.
 use lib.Bits.{and-mask}
-use Rattle.acts.proofs.mode.Statement.{statement}
-use Rattle.acts.proofs.mode.Tie as tie
+use Rattle.deep_sleep.proofs.mode.Statement.{statement}
+use Rattle.deep_sleep.proofs.mode.Tie as tie
 
 returns : tie.Need-returns
 returns c = and-mask (c .args .byte) 2

@@ -1,0 +1,2 @@
+-- The laws of the parameters that act at once.
+pub mod Kept
