@@ -1,4 +1,4 @@
--- `scan::gate_of_row` meets its contract: after each turn one gate more is stored at its row.
+-- `gates::gate_of_row` meets its contract: after each turn one gate more is stored at its row.
 use mathlib.Core.Path.{_∙_}
 use mathlib.Core.Logic.{⊎-elim}
 use Prim.Native.Nat.{_≤_, _-_}

@@ -1,4 +1,4 @@
--- `scan::native_row` meets its contract: what `ram_row_of_gate` answers, put into the definition.
+-- `gates::native_row` meets its contract: what `ram_row_of_gate` answers, put into the definition.
 use mathlib.Core.Path.{sym, _∙_}
 use borrow.Author.Needs.{needs}
 use Rattle.gates.specs.Gates.{nativeRow}

@@ -1,4 +1,4 @@
--- `scan::physical_row` meets its contract: a native row is below the height, so that it can be counted from the bottom.
+-- `gates::physical_row` meets its contract: a native row is below the height, so that it can be counted from the bottom.
 use borrow.Author.Needs.{needs}
 use native.Mathlib.Omega.{arith}
 use Rattle.gates.specs.Gates.{physicalRow}

@@ -1,4 +1,4 @@
--- `scan::ram_row_of_gate` meets its contract: the three tests are the definition's.
+-- `gates::ram_row_of_gate` meets its contract: the three tests are the definition's.
 use borrow.Author.Needs.{needs}
 use borrow.Author.Tests.{lt-ltb, le-ltb}
 use native.Mathlib.Omega.{arith}

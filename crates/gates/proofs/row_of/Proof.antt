@@ -1,4 +1,4 @@
--- `scan::row_of` meets its contract: each branch is a row of the table.
+-- `gates::row_of` meets its contract: each branch is a row of the table.
 use mathlib.Core.Path.{_≡_}
 use mathlib.Core.Bool.{true, false}
 use Prim.Native.Nat.{_%_}
