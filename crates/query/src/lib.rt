@@ -1,51 +1,19 @@
-// What can be asked of a state, and what a host changes in it beside the events (mod.rs, `is_busy` to `dropped_diagnostics`). Each call
-// refuses a state with 13.
+// What a host changes in a state beside the events (mod.rs, `set_ambient`, `take_diagnostics`). Each call refuses a state with 13. What can
+// be asked of one is defined here too; the functions are in `query_busy` and `query_state`.
 ghost use mathlib.Core.Path.{_≡_};
 ghost use Rattle.guard.specs.Refusals.{numberOf};
 ghost use Rattle.query.specs.Outcome.{outcome, stateGuarded};
-ghost use Rattle.query.specs.Queries.{busyAsked, pinAsked, deadlineAsked, configAsked, imageAsked, droppedAsked, withAmbient, ambientSet, withCount, emptied, diagnosticsTaken};
+ghost use Rattle.query.specs.Queries.{withAmbient, ambientSet, withCount, emptied, diagnosticsTaken};
 use config::Ssd1677Config;
-use device::Deadline;
 use device::Ssd1677;
 use device::part;
 use diagnostic::Journal;
-use glass::PanelImage;
 use guard::Refusal;
 
 // The state that a call leaves, or the one that it was handed and refuses.
 pub struct Answer {
     pub refusal: Refusal,
     pub state: Ssd1677,
-}
-
-// Whether the controller is busy, or the level of its pin.
-pub struct Level {
-    pub refusal: Refusal,
-    pub level: bool,
-}
-
-// The next instant at which something changes without a call.
-pub struct Next {
-    pub refusal: Refusal,
-    pub deadline: Deadline,
-}
-
-// The parameters that the chip was built with.
-pub struct Parameters {
-    pub refusal: Refusal,
-    pub config: Ssd1677Config,
-}
-
-// The header of the image that the glass shows.
-pub struct Image {
-    pub refusal: Refusal,
-    pub image: PanelImage,
-}
-
-// How many diagnostics found no room.
-pub struct Dropped {
-    pub refusal: Refusal,
-    pub count: u64,
 }
 
 // How many records were waiting in the log, and the state in which none does.
@@ -63,71 +31,6 @@ pub fn check_state(state: Ssd1677) -> Refusal
         return Refusal::Accepted;
     }
     Refusal::State
-}
-
-// Whether the chip is busy: an operation runs, or it sleeps. Not while RES# is low.
-pub fn is_busy(state: Ssd1677, time: u64) -> Level
-    ensures { λ r. ⌜ outcome (numberOf (r .refusal)) (r .level) ≡ busyAsked state time ⌝ }
-{
-    let refusal = check_state(state);
-    let busy = busy::busy(state, time);
-    let level = guard::is_accepted(refusal) & busy;
-    Level { refusal, level }
-}
-
-// The level of the BUSY pin: high while busy, unless the configuration inverts it.
-pub fn busy_pin(state: Ssd1677, time: u64) -> Level
-    ensures { λ r. ⌜ outcome (numberOf (r .refusal)) (r .level) ≡ pinAsked state time ⌝ }
-{
-    let refusal = check_state(state);
-    let pin = busy::pin(state, time);
-    let level = guard::is_accepted(refusal) & pin;
-    Level { refusal, level }
-}
-
-// When BUSY falls, or a display ends and its image is published.
-pub fn next_deadline(state: Ssd1677) -> Next
-    ensures { λ r. ⌜ outcome (numberOf (r .refusal)) (r .deadline) ≡ deadlineAsked state ⌝ }
-{
-    let refusal = check_state(state);
-    if guard::is_accepted(refusal) {
-        let deadline = busy::deadline(state);
-        return Next { refusal, deadline };
-    }
-    let deadline = Deadline::Never;
-    Next { refusal, deadline }
-}
-
-// The parameters that the chip was built with.
-pub fn config(state: Ssd1677) -> Parameters
-    ensures { λ r. ⌜ outcome (numberOf (r .refusal)) (r .config) ≡ configAsked state ⌝ }
-{
-    let refusal = check_state(state);
-    let config = state.config;
-    Parameters { refusal, config }
-}
-
-// The header of the image that the glass shows since the last refresh (generation 0 before any); its pixels are the lent buffer.
-pub fn panel_image(state: Ssd1677) -> Image
-    ensures { λ r. ⌜ outcome (numberOf (r .refusal)) (r .image) ≡ imageAsked state ⌝ }
-{
-    let refusal = check_state(state);
-    let panel = state.panel;
-    let image = panel.image;
-    Image { refusal, image }
-}
-
-// How many diagnostics were dropped because the log was full.
-pub fn dropped_diagnostics(state: Ssd1677) -> Dropped
-    ensures { λ r. ⌜ outcome (numberOf (r .refusal)) (r .count) ≡ droppedAsked state ⌝ }
-{
-    let refusal = check_state(state);
-    if guard::is_accepted(refusal) {
-        let journal = state.journal;
-        let count = journal.dropped;
-        return Dropped { refusal, count };
-    }
-    Dropped { refusal, count: 0 }
 }
 
 fn with_ambient(config: Ssd1677Config, register: u16) -> Ssd1677Config

@@ -218,8 +218,8 @@ fn query(progress: Progress, state: Ssd1677, text: &mut [u8; text::ROOM], time: 
     if !progress.started {
         return progress;
     }
-    let busy = query::is_busy(state, time);
-    let pin = query::busy_pin(state, time);
+    let busy = query_busy::is_busy(state, time);
+    let pin = query_busy::busy_pin(state, time);
     let refusal = busy.refusal;
     let number = guard::number(refusal);
     if number == 0 {

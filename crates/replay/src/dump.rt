@@ -58,9 +58,9 @@ fn levels(
 fn busy(text: &mut [u8; text::ROOM], at: usize, state: Ssd1677) -> usize {
     let bus = state.bus;
     let until = bus.busy_until;
-    let busy = query::is_busy(state, state.now);
-    let pin = query::busy_pin(state, state.now);
-    let answer = query::next_deadline(state);
+    let busy = query_busy::is_busy(state, state.now);
+    let pin = query_busy::busy_pin(state, state.now);
+    let answer = query_busy::next_deadline(state);
     let next = answer.deadline;
     levels(text, at, busy.level, pin.level, next, until)
 }

@@ -1,9 +1,9 @@
--- `query::panel_image` meets its contract.
+-- `query_state::panel_image` meets its contract.
 use Rattle.query.proofs.Cases.{hands}
 use Rattle.query.specs.Queries.{imageAsked}
 use borrow.Author.Needs.{needs}
-use Rattle.query.proofs.panel_image.Statement.{statement}
-use Rattle.query.proofs.panel_image.Tie as tie
+use Rattle.query_state.proofs.panel_image.Statement.{statement}
+use Rattle.query_state.proofs.panel_image.Tie as tie
 
 check-state-requires : tie.Need-check-state-requires
 check-state-requires c κs = search needs

@@ -1,9 +1,9 @@
--- `query::is_busy` meets its contract.
+-- `query_busy::is_busy` meets its contract.
 use Rattle.query.proofs.Cases.{tells}
 use Rattle.query.specs.Queries.{busyAsked}
 use borrow.Author.Needs.{needs}
-use Rattle.query.proofs.is_busy.Statement.{statement}
-use Rattle.query.proofs.is_busy.Tie as tie
+use Rattle.query_busy.proofs.is_busy.Statement.{statement}
+use Rattle.query_busy.proofs.is_busy.Tie as tie
 
 check-state-requires : tie.Need-check-state-requires
 check-state-requires c κs = search needs

@@ -1,9 +1,9 @@
--- `query::busy_pin` meets its contract.
+-- `query_busy::busy_pin` meets its contract.
 use Rattle.query.proofs.Cases.{tells}
 use Rattle.query.specs.Queries.{pinAsked}
 use borrow.Author.Needs.{needs}
-use Rattle.query.proofs.busy_pin.Statement.{statement}
-use Rattle.query.proofs.busy_pin.Tie as tie
+use Rattle.query_busy.proofs.busy_pin.Statement.{statement}
+use Rattle.query_busy.proofs.busy_pin.Tie as tie
 
 check-state-requires : tie.Need-check-state-requires
 check-state-requires c κs = search needs

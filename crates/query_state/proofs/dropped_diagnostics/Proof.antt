@@ -1,10 +1,10 @@
--- `query::dropped_diagnostics` meets its contract.
+-- `query_state::dropped_diagnostics` meets its contract.
 use Rattle.query.proofs.Cases.{grants, refuses}
 use Rattle.query.specs.Queries.{droppedAsked}
 use mathlib.Core.Path.{refl}
 use borrow.Author.Needs.{needs}
-use Rattle.query.proofs.dropped_diagnostics.Statement.{statement}
-use Rattle.query.proofs.dropped_diagnostics.Tie as tie
+use Rattle.query_state.proofs.dropped_diagnostics.Statement.{statement}
+use Rattle.query_state.proofs.dropped_diagnostics.Tie as tie
 
 check-state-requires : tie.Need-check-state-requires
 check-state-requires c κs = search needs

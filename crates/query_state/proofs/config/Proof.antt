@@ -1,9 +1,9 @@
--- `query::config` meets its contract.
+-- `query_state::config` meets its contract.
 use Rattle.query.proofs.Cases.{hands}
 use Rattle.query.specs.Queries.{configAsked}
 use borrow.Author.Needs.{needs}
-use Rattle.query.proofs.config.Statement.{statement}
-use Rattle.query.proofs.config.Tie as tie
+use Rattle.query_state.proofs.config.Statement.{statement}
+use Rattle.query_state.proofs.config.Tie as tie
 
 check-state-requires : tie.Need-check-state-requires
 check-state-requires c κs = search needs

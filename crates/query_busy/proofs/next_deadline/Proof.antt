@@ -1,9 +1,9 @@
--- `query::next_deadline` meets its contract.
+-- `query_busy::next_deadline` meets its contract.
 use Rattle.query.proofs.Cases.{grants, refuses}
 use Rattle.query.specs.Queries.{deadlineAsked}
 use borrow.Author.Needs.{needs}
-use Rattle.query.proofs.next_deadline.Statement.{statement}
-use Rattle.query.proofs.next_deadline.Tie as tie
+use Rattle.query_busy.proofs.next_deadline.Statement.{statement}
+use Rattle.query_busy.proofs.next_deadline.Tie as tie
 
 check-state-requires : tie.Need-check-state-requires
 check-state-requires c κs = search needs
