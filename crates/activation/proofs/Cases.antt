@@ -24,8 +24,8 @@ use Rattle.device.specs.declared.Ssd1677.{Ssd1677}
 use Rattle.device.specs.declared.Registers.{Registers}
 use Rattle.device.specs.declared.Bus.{Bus}
 use Rattle.device.specs.Parts.{withActivated, withLoaded}
-use Rattle.chip.specs.Moments.{afterNs, busyFor}
-use Rattle.chip.specs.Advance.{WithGlass, withGlass, advanced}
+use Rattle.moment.specs.Moments.{afterNs, busyFor}
+use Rattle.clock.specs.Advance.{WithGlass, withGlass, advanced}
 use Rattle.stages.specs.declared.Control.{Control}
 use Rattle.stages.specs.declared.Run.{Run}
 use Rattle.stages.specs.Run.{controlOf, Step, step, noted, waited}

@@ -15,9 +15,9 @@ use Rattle.diagnostic.specs.declared.DiagnosticKind.the-variants.{WithoutClock,
 use Rattle.diagnostic.specs.declared.Stage.the-variants as stage
 use Rattle.scan.specs.Luts.{lutOf}
 use Rattle.device.specs.declared.Ssd1677.{Ssd1677}
-use Rattle.chip.specs.Moments.{afterNs}
-use Rattle.chip.specs.Advance.{Ready, WithGlass, withGlass, endingOf, glassOf, isOver, ended, clocked, advanced}
-use Rattle.chip.specs.Advance as clock
+use Rattle.moment.specs.Moments.{afterNs}
+use Rattle.clock.specs.Advance.{Ready, WithGlass, withGlass, endingOf, glassOf, isOver, ended, clocked, advanced}
+use Rattle.clock.specs.Advance as clock
 use Rattle.stages.specs.Run.{Step, noted}
 use Rattle.stages_laws.proofs.Kept.{either}
 use Rattle.activation.specs.Display.{Displayed, scanOf, displayOf, unchanged, begun, shown}

@@ -15,8 +15,9 @@ use Rattle.waveform.specs.Duration.{durationOf}
 use Rattle.device.specs.declared.Registers.{Registers}
 use Rattle.device.specs.declared.Ssd1677.{Ssd1677}
 use Rattle.device.specs.Parts.{withLoaded}
-use Rattle.chip.specs.Advance.{WithGlass, withGlass}
-use Rattle.chip.proofs.Arrived.{current-busy, config-advanced, swing-advanced, regs-advanced, journal-advanced, current-advanced, states-advanced}
+use Rattle.clock.specs.Advance.{WithGlass, withGlass}
+use Rattle.moment.proofs.Current.{current-busy}
+use Rattle.clock.proofs.Arrived.{config-advanced, swing-advanced, regs-advanced, journal-advanced, current-advanced, states-advanced}
 use Rattle.stages.specs.declared.Run.{Run}
 use Rattle.stages.specs.Run.{controlOf, Step, step, noted, waited, withClock, withAnalog}
 use Rattle.stages_laws.proofs.Kept.{either, Holds, HoldsOf, noted-holds, waited-holds, loaded-holds}

@@ -7,8 +7,8 @@ use Rattle.numbers.specs.Choice.{pick}
 use Rattle.panel.specs.declared.Display.{Display}
 use Rattle.device.specs.declared.Ssd1677.{Ssd1677}
 use Rattle.device.specs.Parts.{withActivated, withLoaded}
-use Rattle.chip.specs.Moments.{busyFor}
-use Rattle.chip.specs.Advance.{Ready, WithGlass, withGlass, advanced}
+use Rattle.moment.specs.Moments.{busyFor}
+use Rattle.clock.specs.Advance.{Ready, WithGlass, withGlass, advanced}
 use Rattle.stages.specs.declared.Control.{Control}
 use Rattle.stages.specs.declared.Run.{Run}
 use Rattle.stages.specs.Run.{controlOf, Step, step, withClock, withAnalog, waited}

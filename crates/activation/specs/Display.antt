@@ -19,7 +19,7 @@ use Rattle.scan.specs.Luts.{optionOf, lutOf}
 use Rattle.panel.specs.declared.Display.{Display}
 use Rattle.device.specs.declared.Registers.{Registers}
 use Rattle.device.specs.declared.Ssd1677.{Ssd1677}
-use Rattle.chip.specs.Moments.{afterNs}
+use Rattle.moment.specs.Moments.{afterNs}
 use Rattle.stages.specs.declared.Run.{Run}
 use Rattle.stages.specs.Run.{Step, step, noted, waited}
 

@@ -68,9 +68,9 @@ fn duration_of(lut: [u8; 112], frame_period: [u64; 16]) -> u64
 fn display_of(setting: [u8; 112], border: u8, time: u64, before: u64, ns: u64, two: bool) -> Display
     ensures { λ r. ⌜ r ≡ displayOf setting border time before ns two ⌝ }
 {
-    let started = chip::after(time, before);
+    let started = moment::after(time, before);
     let whole = numbers::saturating_add_u64(before, ns);
-    let ends = chip::after(time, whole);
+    let ends = moment::after(time, whole);
     let kind = kind_of(two);
     Display {
         running: true,
@@ -192,7 +192,7 @@ fn settle(state: Ssd1677, run: Run, display: Display) -> Ssd1677
 {
     let lut = run.lut;
     let regs = part::set_loaded(state.regs, run.temperature, lut);
-    let bus = chip::busy_for(state.bus, state.now, run.ns);
+    let bus = moment::busy_for(state.bus, state.now, run.ns);
     part::set_activated(
         state,
         regs,
@@ -262,5 +262,5 @@ pub fn activate(
     ensures { λ r. ⌜ withBuffers r (now (states .exit)) (now (luts .exit)) (now (pixels .exit)) (now (log .exit)) ≡ activated (lent (now («black_white» .entry)) (now (red .entry)) (now (gates .entry)) (now (otp .entry))) (withBuffers state (now (states .entry)) (now (luts .entry)) (now (pixels .entry)) (now (log .entry))) ⌝ }
 {
     let settled = run_stages(state, luts, black_white, red, gates, log, otp);
-    chip::advance(settled, states, &luts[..], pixels, settled.now)
+    clock::advance(settled, states, &luts[..], pixels, settled.now)
 }

@@ -19,7 +19,7 @@ use Rattle.device.specs.declared.Bus.{Bus}
 use Rattle.device.specs.declared.Deadline.the-variants.{At}
 use Rattle.device.specs.Parts.{withStatus, withUntil}
 use Rattle.registers.proofs.Bounds.{Bounded}
-use Rattle.chip.specs.Moments.{afterNs, busyFor}
+use Rattle.moment.specs.Moments.{afterNs, busyFor}
 use Rattle.chip.specs.Close.{WithLog, withLog, entriesOf}
 use Rattle.chip.specs.Report.{logged}
 use Rattle.start.specs.Start.{withBusyFor, isPowered, unpowered}

@@ -23,10 +23,10 @@ use Rattle.command.specs.Table.{kindOf}
 use Rattle.registers.proofs.Bounds.{Bounded, reset-bounded}
 use Rattle.guard.specs.Kinds.{currentFine}
 use Rattle.guard.proofs.SameKind.{active-fine}
-use Rattle.chip.specs.Advance.{Ready}
+use Rattle.clock.specs.Advance.{Ready}
 use Rattle.chip.specs.Close.{WithLog, withLog}
 use Rattle.chip.specs.Report.{logged}
-use Rattle.chip.proofs.Arrived.{current-busy}
+use Rattle.moment.proofs.Current.{current-busy}
 use Rattle.reset.specs.Reset.{restored}
 use Rattle.start.specs.Start.{withBusyFor, softReset, isPowered, unpowered, sensingTime, vcomSensed, pointed}
 use Rattle.stages_laws.proofs.Kept.{either}

@@ -8,7 +8,7 @@ use Rattle.otp.specs.Table.{badTable}
 use Rattle.ram.specs.declared.Byte.the-variants.{Nothing as none}
 use Rattle.device.specs.declared.Ssd1677.{Ssd1677}
 use Rattle.device.specs.Parts.{withConfig, withJournal}
-use Rattle.chip.specs.Advance.{advanced}
+use Rattle.clock.specs.Advance.{advanced}
 use Rattle.guard.specs.declared.lengths.Lengths.{Lengths}
 use Rattle.guard.specs.declared.lengths.Lent.{Lent}
 use Rattle.guard.specs.declared.lengths.Lent.the-variants.{Nothing, Of}

@@ -19,8 +19,8 @@ use Rattle.device.specs.declared.Deadline.the-variants.{At}
 use Rattle.device.specs.declared.Power.the-variants.{Running}
 use Rattle.device.specs.declared.Ssd1677.{Ssd1677}
 use Rattle.device.specs.Parts.{withUntil, withLoaded, withActivated}
-use Rattle.chip.specs.Moments.{afterNs, busyFor}
-use Rattle.chip.specs.Advance.{withGlass}
+use Rattle.moment.specs.Moments.{afterNs, busyFor}
+use Rattle.clock.specs.Advance.{withGlass}
 use Rattle.stages.specs.declared.Run.{Run}
 use Rattle.stages.specs.Run.{controlOf, Step, noted, waited, withClock, withAnalog}
 use Rattle.stages_laws.proofs.Kept.{either}

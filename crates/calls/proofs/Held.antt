@@ -14,7 +14,7 @@ use Rattle.device.specs.declared.Power.{Power}
 use Rattle.device.specs.declared.Power.the-variants.{Running, Asleep, InReset}
 use Rattle.device.specs.declared.Ssd1677.{Ssd1677}
 use Rattle.busy.specs.Busy.{pending, busyIn, busyAt, earlier, displayEnd, deadlineOf}
-use Rattle.chip.specs.Advance.{WithGlass, advanced}
+use Rattle.clock.specs.Advance.{WithGlass, advanced}
 use Rattle.chip.specs.Close.{WithLog, withLog, closed}
 use Rattle.chip.specs.Report.{logged}
 use Rattle.reset.specs.Reset.{restored, WithGlassLog, withGlassLog, onDevice, onLog, onGlass, isDriving, cutShort, dropped, cut, inReset, asserted, released, byLine}

@@ -12,9 +12,9 @@ use Rattle.device.specs.declared.Current.the-variants.{Ignoring, Active}
 use Rattle.registers.proofs.Bounds.{Bounded}
 use Rattle.guard.specs.declared.lengths.Lent.the-variants.{Of}
 use Rattle.guard.specs.Kinds.{currentFine}
-use Rattle.chip.specs.Advance.{Ready, WithGlass, advanced}
+use Rattle.clock.specs.Advance.{Ready, WithGlass, advanced}
 use Rattle.chip.specs.Close.{withLog, closed}
-use Rattle.chip.proofs.Arrived.{config-advanced, swing-advanced, regs-advanced, journal-advanced, current-advanced, states-advanced}
+use Rattle.clock.proofs.Arrived.{config-advanced, swing-advanced, regs-advanced, journal-advanced, current-advanced, states-advanced}
 use Rattle.reset.specs.Reset.{withGlassLog}
 use Rattle.reset.proofs.Kept.{ready-closed, ready-line}
 use Rattle.activation.specs.Activation.{withBuffers}

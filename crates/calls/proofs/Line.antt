@@ -20,7 +20,7 @@ use Rattle.registers.proofs.Bounds.{Bounded, reset-bounded}
 use Rattle.guard.specs.Kinds.{currentFine}
 use Rattle.chip.specs.Close.{expectedOf, missing, WithLog, withLog, entriesOf, closed}
 use Rattle.chip.specs.Report.{logged}
-use Rattle.chip.proofs.Arrived.{current-busy}
+use Rattle.moment.proofs.Current.{current-busy}
 use Rattle.reset.specs.Reset.{restored, WithGlassLog, onDevice, onLog, onGlass, isDriving, cutShort, dropped, cut, inReset, asserted, released, byLine}
 
 -- ---- 26 if parameters lack

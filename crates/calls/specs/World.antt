@@ -5,7 +5,7 @@ use mathlib.Core.List.{List}
 use lib.IntN.{ℤ}
 use Rattle.device.specs.declared.Ssd1677.{Ssd1677}
 use Rattle.device.specs.Parts.{withConfig, withJournal}
-use Rattle.chip.specs.Advance.{WithGlass, withGlass, advanced}
+use Rattle.clock.specs.Advance.{WithGlass, withGlass, advanced}
 use Rattle.reset.specs.Reset.{WithGlassLog, withGlassLog}
 use Rattle.activation.specs.Activation.{WithBuffers, withBuffers, Lent, lent}
 use Rattle.power_on.specs.Start.{Powered}

@@ -1,4 +1,2 @@
 -- The laws of chip that belong to no one function.
 pub mod Cases
-pub mod Kept
-pub mod Arrived

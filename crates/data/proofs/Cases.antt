@@ -1,12 +1,13 @@
 -- What each return of the code hands over, over plain variables. Assumes nothing.
 use Prim.Native.Nat.{ℕ, _≤_, _<_, zero-le}
-use mathlib.Core.Path.{_≡_, refl, _∙_}
+use mathlib.Core.Path.{_≡_, refl, sym, ap, _∙_}
 use mathlib.Core.Bool.{Bool, true, false}
 use mathlib.Core.List.{List}
 use lib.Dec.{eqb}
 use lib.Seq.{set-out}
 use borrow.Author.Tests.{lt-ltb, le-ltb, ltb-false}
 use Rattle.numbers.specs.Choice.{pick}
+use Rattle.numbers.proofs.Cases.{took, passed}
 use Rattle.counter.specs.declared.Counter.{Counter}
 use Rattle.ram.specs.declared.Place.{Place}
 use Rattle.ram.specs.declared.Place.the-variants.{At, Outside}
@@ -29,8 +30,10 @@ use Rattle.chip.specs.Close.{WithLog, withLog}
 use Rattle.chip.specs.Report.{logged}
 use Rattle.acts.specs.Ram.{WithRam, withRam, onDevice}
 use Rattle.parameter.specs.Parameter.{parameterTaken}
+use Rattle.data.specs.declared.Streamed.{Streamed}
 use Rattle.data.specs.Most.{isStream, mostOf}
 use Rattle.data.specs.Data.{counted, made, going, surplus, upTo, planeFor, put, stepped, outOfRange, ramWritten, byKind, unasked, dataTaken}
+use Rattle.data.specs.Stream.{leftAs, isStreamed, streamed}
 
 pub goes-on : (d r : Ssd1677) (a b : Active) (bus : Bus) → b ≡ a → bus ≡ withCurrent (d .bus) (current.Active b) → r ≡ withBus d bus
     → r ≡ made (current.Active a) d
@@ -111,7 +114,7 @@ module _ (byte : ℕ) (a : Active) (w : WithRam) (wrote : Bool) (b d : List ℕ)
       by true p q = rw (e₄, e₃, e₂, e₁, p, q)
       by false p q = rw (e₄, e₃, e₂, e₁, p, q)
 
-  stays : wrote ≡ false → (b ≡ w .blackWhite) × (d ≡ w .red)
+  pub stays : wrote ≡ false → (b ≡ w .blackWhite) × (d ≡ w .red)
   stays h = by (eqb (a .command) 0x24) (rw (← found) h) black-white red
     where
       by : (t : Bool) → wroteAt (planeOf (w .blackWhite) (w .red) (pick t BlackWhite Red)) (w .device .regs .counter) ≡ false
@@ -175,3 +178,26 @@ module _ (byte : ℕ) (w z : WithRam) (c : Current) where
     pub is-other : (most : ℕ) → t ≡ false → most ≡ mostOf (a .kind) → z ≡ upTo most byte a w → z ≡ dataTaken byte w c
     unfolding dataTaken
     is-other most h m e = rw is (by-kind byte a w z (a .kind) (rw (← tells, h, ← m) e))
+
+-- a byte of RAM data apart from all else
+module _ (byte : ℕ) (d : Ssd1677) (b r : List ℕ) (c : Current) where
+  module _ (a : Active) (t : Bool) (is : c ≡ current.Active a) (tells : t ≡ isStream (a .kind)) where
+    pub streams : (wrote : Bool) → t ≡ true → wrote ≡ wroteAt (planeOf b r (planeFor (a .command))) (d .regs .counter) → wrote ≡ isStreamed d b r c
+    streams wrote h found = rw (is, ← tells, h) found
+
+    pub streams-not : t ≡ false → false ≡ isStreamed d b r c
+    streams-not h = rw (is, ← tells, h)
+
+  pub streams-idle : c ≡ current.Idle → false ≡ isStreamed d b r c
+  streams-idle is = rw is
+
+  pub streams-ignoring : c ≡ current.Ignoring → false ≡ isStreamed d b r c
+  streams-ignoring is = rw is
+
+  pub streamed-as : (z w : WithRam) → true ≡ isStreamed d b r c → w ≡ withRam d b r (w .log) → z ≡ dataTaken byte w c → z ≡ streamed byte w c
+  streamed-as z w y e f = took _ _ _ _ (ap (λ (x : WithRam). isStreamed (x .device) (x .blackWhite) (x .red) c) e ∙ sym y) f
+
+  pub leaves : (s : Streamed) (e f : List ℕ) → s ≡ leftAs (d .regs .counter) (d .bus) → false ≡ isStreamed d b r c → e ≡ b → f ≡ r
+      → (s .done ≡ isStreamed d b r c)
+      × ((l : List ℕ) → withRam (withPointed d (s .counter) (s .bus)) e f l ≡ streamed byte (withRam d b r l) c)
+  leaves s e f is n p q = (ap (λ (x : Streamed). x .done) is ∙ n, λ l. passed _ _ _ _ (sym n) (rw (is, p, q)))

@@ -1,3 +1,4 @@
 -- The laws of data that belong to no one function.
 pub mod Cases
 pub mod Kept
+pub mod Taken

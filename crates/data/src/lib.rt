@@ -13,8 +13,11 @@ ghost use Rattle.chip.specs.Close.{withLog};
 ghost use Rattle.chip.specs.Report.{logged};
 ghost use Rattle.acts.specs.Ram.{withRam, onDevice};
 ghost use Rattle.data.specs.Most.{isStream, mostOf};
+ghost use Rattle.device.specs.Parts.{withPointed};
+ghost use Rattle.data.specs.Stream.{leftAs, isStreamed, streamed};
 ghost use Rattle.data.specs.Data.{counted, made, going, surplus, upTo, stepped, outOfRange, planeFor, unasked, dataTaken};
 use device::Active;
+use device::Bus;
 use device::Current;
 use device::Kind;
 use device::Params;
@@ -23,6 +26,25 @@ use device::Ssd1677;
 use device::part;
 use diagnostic::DiagnosticKind;
 use ram::Counter;
+
+// What a byte of RAM data leaves.
+pub struct Streamed {
+    // The byte was one, and its plane has taken it.
+    pub done: bool,
+    pub counter: Counter,
+    pub bus: Bus,
+}
+
+// Nothing was done.
+fn left(counter: Counter, bus: Bus) -> Streamed
+    ensures { λ r. ⌜ r ≡ leftAs counter bus ⌝ }
+{
+    Streamed {
+        done: false,
+        counter,
+        bus,
+    }
+}
 
 // Whether a command of the kind takes RAM data.
 fn is_stream(kind: Kind) -> bool
@@ -203,8 +225,41 @@ fn take_unasked(state: Ssd1677, log: &mut [u8], byte: u8) -> Ssd1677
     part::set_bus(noted, bus)
 }
 
-// A byte with D/C# high, written by the MCU. A frame is 48,000 bytes of RAM data: such a byte stores the counter and the bus alone, and
-// does so here, since each function that the state goes through by value may copy it.
+// A byte of RAM data that its plane takes, which leaves the state as it is but for the counter and the bus; another byte leaves all.
+// A frame is 48,000 of them, so what they change comes back by itself and the state is read alone: each function that hands it back by value may copy it.
+pub fn stream(state: Ssd1677, black_white: &mut [u8], red: &mut [u8], byte: u8) -> Streamed
+    ensures { λ r. ⌜ r .done ≡ isStreamed state (now («black_white» .entry)) (now (red .entry)) (state .bus .current) ⌝ }
+    ensures { λ r. ⌜ ((l : List ℕ) → withRam (withPointed state (r .counter) (r .bus)) (now («black_white» .exit)) (now (red .exit)) l ≡ streamed byte (withRam state (now («black_white» .entry)) (now (red .entry)) l) (state .bus .current)) ⌝ }
+{
+    let at = state.regs.counter;
+    let bus = state.bus;
+    let current = bus.current;
+    match current {
+        Current::Active(active) => {
+            let kind = active.kind;
+            if is_stream(kind) {
+                if put(black_white, red, active.command, at, byte) {
+                    let window = state.regs.window;
+                    let entry = state.regs.entry;
+                    let counter = at.advanced(window, entry);
+                    let next = count(active, active.extra_reported, active.range_reported);
+                    let after = part::set_current(bus, Current::Active(next));
+                    return Streamed {
+                        done: true,
+                        counter,
+                        bus: after,
+                    };
+                }
+                return left(at, bus);
+            }
+            left(at, bus)
+        }
+        Current::Idle => left(at, bus),
+        Current::Ignoring => left(at, bus),
+    }
+}
+
+// A byte with D/C# high, written by the MCU.
 pub fn write(
     state: Ssd1677,
     black_white: &mut [u8],

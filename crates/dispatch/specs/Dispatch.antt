@@ -3,7 +3,7 @@ use mathlib.Core.List.{List}
 use Prim.Native.Nat.{ℕ}
 use lib.IntN.{ℤ}
 use Rattle.device.specs.declared.Ssd1677.{Ssd1677}
-use Rattle.chip.specs.Advance.{WithGlass, withGlass}
+use Rattle.clock.specs.Advance.{WithGlass, withGlass}
 use Rattle.reset.specs.Reset.{WithGlassLog, withGlassLog}
 use Rattle.activation.specs.Activation.{WithBuffers, withBuffers, lent}
 use Rattle.query.specs.Outcome.{Outcome, outcome}

@@ -11,7 +11,7 @@ use Rattle.config.specs.declared.Ssd1677Config.{Ssd1677Config}
 use Rattle.panel.specs.declared.Display.{Display}
 use Rattle.panel.specs.declared.Panel.{Panel}
 use Rattle.device.specs.declared.Ssd1677.{Ssd1677}
-use Rattle.chip.specs.Advance.{WithGlass, withGlass}
+use Rattle.clock.specs.Advance.{WithGlass, withGlass}
 use Rattle.chip.specs.Close.{WithLog, withLog}
 use Rattle.reset.specs.Reset.{WithGlassLog, withGlassLog}
 use Rattle.activation.specs.Activation.{WithBuffers, withBuffers}

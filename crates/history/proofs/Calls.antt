@@ -9,7 +9,7 @@ use Rattle.guard.specs.declared.Refusal.{Refusal}
 use Rattle.guard.specs.declared.Refusal.the-variants.{Accepted, Buffer, Table, State}
 use Rattle.guard.specs.Lengths.{glassLent, glassLogLent, planesLogLent}
 use Rattle.guard.specs.Refusals.{guarded, guardedWithTable}
-use Rattle.chip.specs.Advance.{advanced}
+use Rattle.clock.specs.Advance.{advanced}
 use Rattle.device.specs.Parts.{withConfig, withJournal}
 use Rattle.query.specs.Outcome.{Outcome, outcome, unless, stateGuarded}
 use Rattle.query.specs.Queries.{withAmbient, ambientSet, WithCount, withCount, emptied, diagnosticsTaken}

@@ -8,7 +8,7 @@ use Rattle.numbers.specs.Choice.{pick}
 use Rattle.diagnostic.specs.declared.DiagnosticKind.the-variants.{ResetDuringDisplay}
 use Rattle.device.specs.declared.Power.{Power}
 use Rattle.device.specs.declared.Power.the-variants.{Running, Asleep, InReset}
-use Rattle.chip.specs.Advance.{WithGlass, withGlass, advanced}
+use Rattle.clock.specs.Advance.{WithGlass, withGlass, advanced}
 use Rattle.chip.specs.Close.{WithLog, withLog, closed}
 use Rattle.chip.specs.Report.{logged}
 use Rattle.reset.specs.Reset.{WithGlassLog, withGlassLog, onDevice, onLog, onGlass, restored, isDriving, cutShort, dropped, cut, inReset, asserted, released, byLine}

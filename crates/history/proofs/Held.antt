@@ -13,7 +13,7 @@ use Rattle.guard.specs.Refusals.{numberOf}
 use Rattle.query.specs.Outcome.{Outcome, outcome}
 use Rattle.query.specs.Queries.{WithCount}
 use Rattle.device.specs.declared.Ssd1677.{Ssd1677}
-use Rattle.chip.specs.Advance.{WithGlass}
+use Rattle.clock.specs.Advance.{WithGlass}
 use Rattle.reset.specs.Reset.{WithGlassLog}
 use Rattle.activation.specs.Activation.{WithBuffers}
 use Rattle.ssd1677.specs.Data.{WithPlanes}

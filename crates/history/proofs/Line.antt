@@ -18,8 +18,8 @@ use Rattle.device.specs.declared.Deadline.the-variants.{Never, At}
 use Rattle.device.specs.declared.Power.{Power}
 use Rattle.device.specs.declared.Power.the-variants.{Running, Asleep, InReset}
 use Rattle.device.specs.declared.Ssd1677.{Ssd1677}
-use Rattle.chip.specs.Moments.{nsBetween, lowered}
-use Rattle.chip.specs.Advance.{WithGlass, withGlass, isOver, clocked, quieted, published, endingOf, glassOf, ended, advanced}
+use Rattle.moment.specs.Moments.{nsBetween, lowered}
+use Rattle.clock.specs.Advance.{WithGlass, withGlass, isOver, clocked, quieted, published, endingOf, glassOf, ended, advanced}
 use Rattle.chip.specs.Close.{closed}
 use Rattle.chip.specs.Report.{logged}
 use Rattle.reset.specs.Reset.{WithGlassLog, onDevice, onLog, onGlass, restored, isDriving, cutShort, dropped, cut, inReset, asserted, released, byLine}

@@ -14,9 +14,9 @@ use Rattle.device.specs.declared.Deadline.{Deadline}
 use Rattle.device.specs.declared.Deadline.the-variants.{Never, At}
 use Rattle.device.specs.declared.Ssd1677.{Ssd1677}
 use Rattle.busy.specs.Busy.{pending}
-use Rattle.chip.specs.Moments.{lowered}
-use Rattle.chip.specs.Advance.{WithGlass, isOver, clocked, quieted, published, endingOf, ended, advanced}
-use Rattle.chip.specs.Advance as chip
+use Rattle.moment.specs.Moments.{lowered}
+use Rattle.clock.specs.Advance.{WithGlass, isOver, clocked, quieted, published, endingOf, ended, advanced}
+use Rattle.clock.specs.Advance as chip
 use Rattle.history.specs.Reckon.{upTo, Worked, refresh}
 use Rattle.history.proofs.Line.{cutIn, bus-moved, now-moved}
 

@@ -17,8 +17,8 @@ use Rattle.device.specs.declared.Power.the-variants.{Running, Asleep, InReset}
 use Rattle.device.specs.declared.Ssd1677.{Ssd1677}
 use Rattle.command.specs.Table.{rows, kindOf}
 use Rattle.busy.specs.Busy.{pending}
-use Rattle.chip.specs.Moments.{afterNs}
-use Rattle.chip.specs.Advance.{withGlass}
+use Rattle.moment.specs.Moments.{afterNs}
+use Rattle.clock.specs.Advance.{withGlass}
 use Rattle.stages.specs.Run.{controlOf, Step, noted}
 use Rattle.activation.specs.Display.{Displayed, displayOf, begun, shown, unchanged}
 use Rattle.activation.specs.Activation.{WithLuts, withLuts, Lent, WithBuffers, settled, before, during, staged, stagedIn, activated}

@@ -9,7 +9,7 @@ use Rattle.numbers.specs.Saturation.{largest}
 use Rattle.config.specs.declared.Ssd1677Config.{Ssd1677Config}
 use Rattle.config.specs.Answer.{isAccepted}
 use Rattle.diagnostic.specs.declared.Journal.{Journal}
-use Rattle.chip.specs.Advance.{advanced}
+use Rattle.clock.specs.Advance.{advanced}
 use Rattle.power_on.specs.Start.{Buffers, Powered, poweredOn, poweredUp, started}
 use Rattle.ssd1677.specs.Calls.{lineTaken}
 use Rattle.ssd1677.specs.Command.{commandTaken}

@@ -11,7 +11,7 @@ use Rattle.config.specs.declared.Ssd1677Config.{Ssd1677Config}
 use Rattle.device.specs.declared.Power.{Power}
 use Rattle.device.specs.declared.Power.the-variants.{Running, Asleep, InReset}
 use Rattle.busy.specs.Busy.{pending}
-use Rattle.chip.specs.Advance.{WithGlass, advanced}
+use Rattle.clock.specs.Advance.{WithGlass, advanced}
 use Rattle.chip.specs.Close.{withLog, closed}
 use Rattle.reset.specs.Reset.{WithGlassLog, onGlass, byLine}
 use Rattle.activation.specs.Activation.{WithBuffers}

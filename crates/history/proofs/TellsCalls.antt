@@ -18,7 +18,7 @@ use Rattle.device.specs.declared.Power.the-variants.{Running, Asleep, InReset}
 use Rattle.command.specs.declared.Known.{Known}
 use Rattle.command.specs.declared.Known.the-variants.{Of, Unknown}
 use Rattle.command.specs.Table.{kindOf}
-use Rattle.chip.specs.Advance.{WithGlass, withGlass, isOver, clocked, quieted, published, endingOf, glassOf, ended, advanced}
+use Rattle.clock.specs.Advance.{WithGlass, withGlass, isOver, clocked, quieted, published, endingOf, glassOf, ended, advanced}
 use Rattle.chip.specs.Close.{WithLog, withLog, closed}
 use Rattle.chip.specs.Report.{logged}
 use Rattle.reset.specs.Reset.{WithGlassLog, withGlassLog, restored, isDriving, cutShort, dropped, cut, inReset, asserted, released, byLine}

@@ -22,8 +22,8 @@ use Rattle.device.specs.declared.Current.the-variants.{Idle}
 use Rattle.device.specs.Parts.{withBus, withDisplay, withJournal, withPowers}
 use Rattle.device.specs.Parts as part
 use Rattle.registers.specs.Reset.{resetOf}
-use Rattle.chip.specs.Moments.{nsBetween, busyFor}
-use Rattle.chip.specs.Advance.{WithGlass, withGlass, stopped, endingOf, glassOf}
+use Rattle.moment.specs.Moments.{nsBetween, busyFor}
+use Rattle.clock.specs.Advance.{WithGlass, withGlass, stopped, endingOf, glassOf}
 use Rattle.chip.specs.Close.{WithLog, withLog, closed}
 use Rattle.chip.specs.Report.{logged}
 use Rattle.reset.specs.Reset.{restored, WithGlassLog, withGlassLog, isDriving, cutShort, cut, inReset, asserted, released, byLine}

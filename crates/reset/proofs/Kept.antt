@@ -13,7 +13,7 @@ use Rattle.panel_laws.proofs.Exactly.{states-length, pixels-length}
 use Rattle.device.specs.declared.Ssd1677.{Ssd1677}
 use Rattle.device.specs.declared.Power.{Power}
 use Rattle.device.specs.declared.Power.the-variants.{Running, Asleep, InReset}
-use Rattle.chip.specs.Advance.{Ready, WithGlass, withGlass}
+use Rattle.clock.specs.Advance.{Ready, WithGlass, withGlass}
 use Rattle.chip.specs.Close.{WithLog, withLog, closed}
 use Rattle.chip.specs.Report.{logged}
 use Rattle.reset.specs.Reset.{restored, WithGlassLog, onDevice, onLog, onGlass, isDriving, cutShort, dropped, cut, inReset, asserted, released, byLine}

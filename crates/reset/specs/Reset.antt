@@ -15,8 +15,8 @@ use Rattle.device.specs.declared.Current.the-variants.{Idle, Ignoring}
 use Rattle.device.specs.declared.Deadline.the-variants.{Never}
 use Rattle.device.specs.Parts.{withBus, withDisplay, withPowers}
 use Rattle.registers.specs.Reset.{resetOf}
-use Rattle.chip.specs.Moments.{nsBetween, busyFor}
-use Rattle.chip.specs.Advance.{WithGlass, withGlass, stopped, endingOf, glassOf, published}
+use Rattle.moment.specs.Moments.{nsBetween, busyFor}
+use Rattle.clock.specs.Advance.{WithGlass, withGlass, stopped, endingOf, glassOf, published}
 use Rattle.chip.specs.Close.{WithLog, withLog, closed}
 use Rattle.chip.specs.Report.{logged}
 

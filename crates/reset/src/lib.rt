@@ -1,7 +1,7 @@
 // The reset line, and what a reset restores (mod.rs, `set_reset`, `restore_registers`).
 ghost use mathlib.Core.Path.{_≡_};
 ghost use lib.ListN.{length};
-ghost use Rattle.chip.specs.Advance.{Ready, withGlass};
+ghost use Rattle.clock.specs.Advance.{Ready, withGlass};
 ghost use Rattle.reset.specs.Reset.{restored, withGlassLog, cutShort, cut, inReset, asserted, released, byLine};
 use device::Bus;
 use device::Current;
@@ -38,7 +38,7 @@ fn finish_cut(state: Ssd1677, states: &mut [i64], luts: &[u8], pixels: &mut [u8]
     let timing = config.timing;
     let periods = timing.frame_period;
     let panel = state.panel;
-    let into = chip::ns_between(display.started, state.now);
+    let into = moment::ns_between(display.started, state.now);
     let finished = finish::finish(
         panel,
         display,
@@ -50,7 +50,7 @@ fn finish_cut(state: Ssd1677, states: &mut [i64], luts: &[u8], pixels: &mut [u8]
         luts,
         &mut pixels[..],
     );
-    let off = chip::stop(display);
+    let off = clock::stop(display);
     part::set_glass(state, finished, off)
 }
 
@@ -71,7 +71,7 @@ fn cut_display(
         let noted = chip::report(state, log, DiagnosticKind::ResetDuringDisplay);
         return finish_cut(noted, states, luts, pixels);
     }
-    let off = chip::stop(display);
+    let off = clock::stop(display);
     part::set_display(state, off)
 }
 
@@ -117,7 +117,7 @@ fn release_reset(state: Ssd1677) -> Ssd1677
         current: Current::Idle,
         busy_until,
     };
-    let bus = chip::busy_for(running, state.now, timing.hardware_reset);
+    let bus = moment::busy_for(running, state.now, timing.hardware_reset);
     part::set_bus(state, bus)
 }
 

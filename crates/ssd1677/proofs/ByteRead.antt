@@ -5,7 +5,7 @@ use mathlib.Core.Bool.{Bool, true, false}
 use mathlib.Core.List.{List}
 use lib.ListN.{length}
 use Rattle.ram.specs.declared.Byte.the-variants.{Nothing}
-use Rattle.chip.specs.Advance.{Ready, WithGlass, withGlass, advanced}
+use Rattle.clock.specs.Advance.{Ready, WithGlass, withGlass, advanced}
 use Rattle.chip.specs.Close.{withLog}
 use Rattle.reset.specs.Reset.{WithGlassLog, withGlassLog}
 use Rattle.reading.specs.Reading.{WithByte, readTaken}

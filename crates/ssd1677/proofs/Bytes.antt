@@ -1,5 +1,5 @@
 -- The bytes of the bus: what each return of the code hands over, over plain variables. Assumes nothing.
-use Prim.Native.Nat.{ℕ, _+_, _*_, _≤_, _<_}
+use Prim.Native.Nat.{ℕ, _+_, _*_, _≤_, _<_, max}
 use mathlib.Core.Path.{_≡_, refl, sym, ap, subst, _∙_}
 use mathlib.Core.Bool.{Bool, true, false}
 use mathlib.Core.List.{List}
@@ -10,9 +10,11 @@ use native.Mathlib.Nat.{mul-comm}
 use Rattle.device.specs.declared.Registers.{Registers}
 use Rattle.device.specs.declared.Ssd1677.{Ssd1677}
 use Rattle.config.specs.declared.PanelGeometry.{PanelGeometry}
-use Rattle.chip.specs.Advance.{Ready, WithGlass, withGlass, advanced}
+use Rattle.device.specs.Parts.{withNow}
+use Rattle.clock.specs.Advance.{Ready, WithGlass, withGlass, isQuiet, advanced}
+use Rattle.clock.proofs.Cases.{rests}
 use Rattle.chip.specs.Close.{WithLog, withLog, closed}
-use Rattle.chip.proofs.Arrived.{config-advanced, regs-advanced}
+use Rattle.clock.proofs.Arrived.{config-advanced, regs-advanced}
 use Rattle.reset.proofs.Kept.{ready-closed}
 use Rattle.activation.specs.Display.{Startable}
 use Rattle.activation.specs.Activation.{WithBuffers, withBuffers, Lent, Activatable}
@@ -29,7 +31,7 @@ use Rattle.guard.proofs.Accepted.{fine-state, fine-lengths}
 use Rattle.query.specs.Outcome.{outcome}
 use Rattle.query.proofs.Cases.{grants, refuses}
 use Rattle.ssd1677.specs.Command.{commandTaken, commandWritten}
-use Rattle.ssd1677.specs.Data.{WithPlanes, besides, dataIn, dataWritten}
+use Rattle.ssd1677.specs.Data.{WithPlanes, withPlanes, besides, dataIn, dataWritten}
 use Rattle.ssd1677.proofs.Passed.{ready-fine, log-fine, state-passed, lengths-passed, table-state-passed, table-lengths-passed}
 
 -- ---- a data byte
@@ -56,6 +58,13 @@ module _ (luts : List ℕ) (time byte : ℕ) (w : WithPlanes) (l : Lengths) (r :
       → outcome (numberOf r) (besides a m) ≡ dataWritten luts time byte w
   unfolding dataWritten dataIn
   data-moves a m h e f = grants r _ same w (dataIn luts time byte w) b (besides a m) t h (rw (f, e))
+
+  -- where the clock alone moves
+  pub data-rests : (m : Ssd1677) (q : Bool) (v : WithRam) → b ≡ true → m ≡ withNow (w .device) (max (w .device .now) time) → q ≡ isQuiet m → q ≡ true
+      → v ≡ dataTaken byte (withRam m (w .blackWhite) (w .red) (w .log)) (m .bus .current)
+      → outcome (numberOf r) (withPlanes (v .device) (w .states) (w .pixels) (v .blackWhite) (v .red) (v .log)) ≡ dataWritten luts time byte w
+  data-rests m q v h e f g k =
+      data-moves (withGlass m (w .states) (w .pixels)) v h (rests luts time (withGlass (w .device) (w .states) (w .pixels)) m q e f g) k
 
   pub data-refused : b ≡ false → outcome (numberOf r) w ≡ dataWritten luts time byte w
   unfolding dataWritten

@@ -4,7 +4,7 @@ use mathlib.Core.Path.{_≡_, refl, sym, ap, subst, _∙_}
 use mathlib.Core.Bool.{Bool, true, false}
 use mathlib.Core.List.{List}
 use lib.ListN.{length}
-use Rattle.chip.specs.Advance.{Ready, WithGlass, withGlass, advanced}
+use Rattle.clock.specs.Advance.{Ready, WithGlass, withGlass, advanced}
 use Rattle.reset.specs.Reset.{WithGlassLog, withGlassLog, byLine}
 use Rattle.activation.proofs.Kept.{ready-advanced}
 use Rattle.guard.specs.declared.lengths.Lengths.{Lengths}

@@ -6,7 +6,7 @@ use mathlib.Core.List.{List}
 use native.Mathlib.Omega.{arith}
 use lib.IntN.{ℤ}
 use lib.ListN.{length}
-use Rattle.chip.specs.Advance.{Ready}
+use Rattle.clock.specs.Advance.{Ready}
 use Rattle.device.specs.declared.Ssd1677.{Ssd1677}
 use Rattle.guard.specs.declared.lengths.Lengths.{Lengths}
 use Rattle.guard.specs.declared.lengths.Lent.{Lent}

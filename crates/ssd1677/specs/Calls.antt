@@ -3,7 +3,7 @@ use Prim.Native.Nat.{ℕ}
 use mathlib.Core.Bool.{Bool}
 use mathlib.Core.List.{List}
 use lib.ListN.{length}
-use Rattle.chip.specs.Advance.{WithGlass, advanced}
+use Rattle.clock.specs.Advance.{WithGlass, advanced}
 use Rattle.reset.specs.Reset.{WithGlassLog, onGlass, byLine}
 use Rattle.guard.specs.Lengths.{glassLent, glassLogLent}
 use Rattle.guard.specs.Refusals.{guarded}

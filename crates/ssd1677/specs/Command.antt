@@ -1,7 +1,7 @@
 -- A command byte (mod.rs, `write_command`): refused, or done in the order of the Rust.
 use Prim.Native.Nat.{ℕ}
 use lib.ListN.{length}
-use Rattle.chip.specs.Advance.{WithGlass, withGlass, advanced}
+use Rattle.clock.specs.Advance.{WithGlass, withGlass, advanced}
 use Rattle.chip.specs.Close.{closed}
 use Rattle.activation.specs.Activation.{WithBuffers, withBuffers, Lent}
 use Rattle.begin.specs.Begin.{onLog, begun}

@@ -4,7 +4,7 @@ use mathlib.Core.List.{List}
 use lib.IntN.{ℤ}
 use lib.ListN.{length}
 use Rattle.device.specs.declared.Ssd1677.{Ssd1677}
-use Rattle.chip.specs.Advance.{WithGlass, withGlass, advanced}
+use Rattle.clock.specs.Advance.{WithGlass, withGlass, advanced}
 use Rattle.acts.specs.Ram.{WithRam, withRam}
 use Rattle.data.specs.Data.{dataTaken}
 use Rattle.guard.specs.Lengths.{planesLogLent}

@@ -4,7 +4,7 @@ use mathlib.Core.List.{List}
 use lib.ListN.{length}
 use Rattle.ram.specs.declared.Byte.{Byte}
 use Rattle.ram.specs.declared.Byte.the-variants.{Nothing}
-use Rattle.chip.specs.Advance.{withGlass, advanced}
+use Rattle.clock.specs.Advance.{withGlass, advanced}
 use Rattle.chip.specs.Close.{withLog}
 use Rattle.reset.specs.Reset.{WithGlassLog, withGlassLog}
 use Rattle.reading.specs.Reading.{readTaken}

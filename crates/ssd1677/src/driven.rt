@@ -38,7 +38,7 @@ pub fn read_data(
     );
     let refusal = guard::check(state, lengths);
     if guard::is_accepted(refusal) {
-        let present = chip::advance(state, states, luts, pixels, time);
+        let present = clock::advance(state, states, luts, pixels, time);
         let reading = reading::read(present, black_white, red, log);
         let state = reading.state;
         let byte = reading.byte;

@@ -4,9 +4,10 @@ ghost use Rattle.guard.specs.Refusals.{numberOf};
 ghost use Rattle.query.specs.Outcome.{outcome};
 ghost use Rattle.ssd1677.specs.Data.{withPlanes, dataWritten};
 use device::Ssd1677;
+use device::part;
 use query::Answer;
 
-// A byte with D/C# high, written by the MCU.
+// A byte with D/C# high, written by the MCU. A byte of RAM data, of which a frame has 48,000, is done here at once.
 pub fn write_data(
     state: Ssd1677,
     states: &mut [i64],
@@ -30,7 +31,17 @@ pub fn write_data(
     );
     let refusal = guard::check(state, lengths);
     if guard::is_accepted(refusal) {
-        let present = chip::advance(state, states, luts, pixels, time);
+        let moved = clock::move_clock(state, time);
+        if clock::is_quiet(moved) {
+            let step = data::stream(moved, black_white, red, byte);
+            if step.done {
+                let state = part::set_pointed(moved, step.counter, step.bus);
+                return Answer { refusal, state };
+            }
+            let state = data::write(moved, black_white, red, log, byte);
+            return Answer { refusal, state };
+        }
+        let present = clock::advance(state, states, luts, pixels, time);
         let state = data::write(present, black_white, red, log, byte);
         return Answer { refusal, state };
     }

@@ -23,7 +23,7 @@ pub fn set_reset(
     let lengths = guard::lengths::glass_log_lent(states.len(), luts.len(), pixels.len(), log.len());
     let refusal = guard::check(state, lengths);
     if guard::is_accepted(refusal) {
-        let present = chip::advance(state, states, luts, pixels, time);
+        let present = clock::advance(state, states, luts, pixels, time);
         let state = reset::set_line(present, states, luts, pixels, log, asserted);
         return Answer { refusal, state };
     }

@@ -24,7 +24,7 @@ fn take_command(
     requires { ⌜ Activatable state (now states) (now luts) (now pixels) (now «black_white») (now red) (now gates) (now log) ⌝ }
     ensures { λ r. ⌜ withBuffers r (now (states .exit)) (now (luts .exit)) (now (pixels .exit)) (now (log .exit)) ≡ commandTaken (lent (now («black_white» .entry)) (now (red .entry)) (now (gates .entry)) (now (otp .entry))) time command (withBuffers state (now (states .entry)) (now (luts .entry)) (now (pixels .entry)) (now (log .entry))) ⌝ }
 {
-    let present = chip::advance(state, states, &luts[..], pixels, time);
+    let present = clock::advance(state, states, &luts[..], pixels, time);
     let closed = chip::close::close_command(present, log);
     begin::begin(
         closed,

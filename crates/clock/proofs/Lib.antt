@@ -1,0 +1,4 @@
+-- The laws of clock that belong to no one function.
+pub mod Cases
+pub mod Kept
+pub mod Arrived

@@ -1,0 +1,2 @@
+-- The root of clock's specs.
+pub mod Advance

@@ -1,0 +1,29 @@
+-- What each return of the code hands over, over plain variables. Assumes nothing.
+use Prim.Native.Nat.{ℕ, _≤_, _<_}
+use mathlib.Core.Path.{_≡_}
+use lib.Dec.{leb}
+use borrow.Author.Tests.{lt-ltb, le-ltb, le-leb, lt-leb}
+use Rattle.device.specs.declared.Bus.{Bus}
+use Rattle.device.specs.declared.Deadline.{Deadline}
+use Rattle.device.specs.declared.Deadline.the-variants.{Never, At}
+use Rattle.device.specs.Parts.{withUntil}
+use Rattle.moment.specs.Moments.{afterNs, hasCome, lowered, busyFor}
+
+module _ (bus : Bus) (u : Deadline) (moment until : ℕ) (is : u ≡ At until) where
+  pub falls : (r : Bus) → until ≤ moment → r ≡ withUntil bus Never → r ≡ lowered u bus moment
+  falls r h e = rw (is, le-leb until moment h) e
+
+  pub stays : moment < until → bus ≡ lowered u bus moment
+  stays h = rw (is, lt-leb until moment h)
+
+module _ (bus : Bus) (moment ns : ℕ) where
+  pub rises : (r : Bus) (until : ℕ) → 0 < ns → until ≡ afterNs moment ns → r ≡ withUntil bus (At until) → r ≡ busyFor bus moment ns
+  unfolding busyFor
+  rises r until h e f = rw (lt-ltb 0 ns h, ← e) f
+
+  pub rises-not : ns ≤ 0 → bus ≡ busyFor bus moment ns
+  unfolding busyFor
+  rises-not h = rw (le-ltb 0 ns h)
+
+pub comes : (u : Deadline) (moment until : ℕ) → u ≡ At until → leb until moment ≡ hasCome u moment
+comes u moment until is = rw is

@@ -1,0 +1,3 @@
+-- The laws of moment that belong to no one function.
+pub mod Cases
+pub mod Current

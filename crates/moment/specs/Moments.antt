@@ -1,0 +1,32 @@
+-- Moments in nanoseconds, and BUSY (document 01: computed moments stop at 2^64 − 1).
+use Prim.Native.Nat.{ℕ, _+_, _-_, min}
+use mathlib.Core.Bool.{Bool, false}
+use lib.Dec.{leb, ltb}
+use Rattle.numbers.specs.Choice.{pick}
+use Rattle.numbers.specs.Saturation.{largest}
+use Rattle.device.specs.declared.Bus.{Bus}
+use Rattle.device.specs.declared.Deadline.{Deadline}
+use Rattle.device.specs.declared.Deadline.the-variants.{Never, At}
+use Rattle.device.specs.Parts.{withUntil}
+
+-- a span in nanoseconds after a moment (mod.rs, `after`, with one cycle a nanosecond)
+unfoldable pub afterNs : ℕ → ℕ → ℕ
+afterNs moment ns = min (moment + ns) (largest 64)
+
+-- the span from one moment to another, 0 when that is earlier (mod.rs, `ns_between`)
+unfoldable pub nsBetween : ℕ → ℕ → ℕ
+nsBetween from to = to - from
+
+-- the end of BUSY has come
+abbrev pub hasCome : Deadline → ℕ → Bool
+hasCome Never moment = false
+hasCome (At until) moment = leb until moment
+
+-- BUSY falls when its time has come (mod.rs, `advance`)
+abbrev pub lowered : Deadline → Bus → ℕ → Bus
+lowered Never bus moment = bus
+lowered (At until) bus moment = pick (leb until moment) (withUntil bus Never) bus
+
+-- BUSY is high for a span from a moment on; a span of 0 leaves it as it is (mod.rs, `busy_for`)
+unfoldable pub busyFor : Bus → ℕ → ℕ → Bus
+busyFor bus moment ns = pick (ltb 0 ns) (withUntil bus (At (afterNs moment ns))) bus

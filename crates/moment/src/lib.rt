@@ -1,0 +1,58 @@
+// Moments, and when BUSY rises and falls (mod.rs, `after`, `ns_between`, `busy_for`, `advance`).
+ghost use mathlib.Core.Path.{_≡_};
+ghost use Rattle.moment.specs.Moments.{afterNs, nsBetween, hasCome, lowered, busyFor};
+use device::Bus;
+use device::Deadline;
+use device::part;
+
+// `ns` nanoseconds after a moment.
+pub fn after(moment: u64, ns: u64) -> u64
+    ensures { λ r. ⌜ r ≡ afterNs moment ns ⌝ }
+{
+    numbers::saturating_add_u64(moment, ns)
+}
+
+// Nanoseconds from one moment to another, 0 when that is earlier.
+pub fn ns_between(from: u64, to: u64) -> u64
+    ensures { λ r. ⌜ r ≡ nsBetween from to ⌝ }
+{
+    numbers::saturating_sub_u64(to, from)
+}
+
+// Whether the end of BUSY has come; there may be none.
+pub fn has_come(busy_until: Deadline, moment: u64) -> bool
+    ensures { λ r. ⌜ r ≡ hasCome «busy_until» moment ⌝ }
+{
+    match busy_until {
+        Deadline::Never => false,
+        Deadline::At(until) => until <= moment,
+    }
+}
+
+// BUSY falls when its time has come.
+pub fn lower_busy(bus: Bus, moment: u64) -> Bus
+    ensures { λ r. ⌜ r ≡ lowered (bus .«busy_until») bus moment ⌝ }
+{
+    let busy_until = bus.busy_until;
+    match busy_until {
+        Deadline::Never => bus,
+        Deadline::At(until) => {
+            if until <= moment {
+                part::set_until(bus, Deadline::Never)
+            } else {
+                bus
+            }
+        }
+    }
+}
+
+// BUSY high for `ns` nanoseconds from a moment on; nothing for 0.
+pub fn busy_for(bus: Bus, moment: u64, ns: u64) -> Bus
+    ensures { λ r. ⌜ r ≡ busyFor bus moment ns ⌝ }
+{
+    if 0 < ns {
+        let until = after(moment, ns);
+        return part::set_until(bus, Deadline::At(until));
+    }
+    bus
+}
