@@ -44,7 +44,7 @@ pub(super) struct Lent {
     pub(super) black_white: Vec<u8>,
     pub(super) red: Vec<u8>,
     gates: Vec<u16>,
-    log: Vec<u8>,
+    pub(super) log: Vec<u8>,
 }
 
 impl Lent {

@@ -170,5 +170,6 @@ impl Sides {
             assert!(inside::luts(display) == self.lent.luts, "LUTs");
         }
         assert!(device.diagnostics.is_empty(), "{:?}", device.diagnostics);
+        assert!(self.lent.log.iter().all(|&byte| byte == 0), "the log");
     }
 }
