@@ -7,9 +7,13 @@ mod beside;
 #[cfg(compare)]
 mod compare;
 #[cfg(time)]
+mod device;
+#[cfg(time)]
 mod glass;
 #[cfg(time)]
 mod inside;
+#[cfg(time)]
+mod lent;
 #[cfg(time)]
 mod memory;
 mod proved;
@@ -17,28 +21,34 @@ mod random;
 #[cfg(compare)]
 mod settings;
 #[cfg(time)]
+mod traffic;
+#[cfg(time)]
 mod waveform;
 
 use super::Ssd1677;
 
 #[cfg(time)]
+fn functions(table: &beside::Table) {
+    glass::grays(table);
+    waveform::transfers(table);
+    glass::starts(table);
+    glass::finishes(table);
+    memory::auto_writes(table);
+    memory::data_bytes(table);
+}
+
+#[cfg(time)]
 impl crate::Judge for Ssd1677 {
     fn run(arguments: &[String]) -> bool {
-        let rounds = match arguments {
-            [rounds] => rounds.parse().ok(),
-            _ => None,
-        };
-        let Some(rounds) = rounds else {
-            eprintln!("usage: time ROUNDS");
-            return false;
-        };
-        let table = beside::Table::new(rounds);
-        glass::grays(&table);
-        waveform::transfers(&table);
-        glass::starts(&table);
-        glass::finishes(&table);
-        memory::auto_writes(&table);
-        memory::data_bytes(&table);
+        let rounds = arguments.get(1).and_then(|rounds| rounds.parse().ok());
+        match (arguments.first().map(String::as_str), rounds) {
+            (Some("functions"), Some(rounds)) => functions(&beside::Table::new(rounds)),
+            (Some("device"), Some(rounds)) => device::rows(&beside::Table::new(rounds)),
+            _ => {
+                eprintln!("usage: time functions|device ROUNDS");
+                return false;
+            }
+        }
         true
     }
 }

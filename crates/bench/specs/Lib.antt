@@ -2,3 +2,4 @@
 pub mod Asked
 pub mod Made
 pub mod Runs
+pub mod Whole

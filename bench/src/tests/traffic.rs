@@ -1,0 +1,175 @@
+//! Lists of events, and both sides that make them of a device from its start on.
+
+use std::time::Duration;
+
+use emu_core::Cycles;
+
+use super::beside::timed;
+use super::inside;
+use super::lent::Lent;
+use super::proved::Published;
+use crate::lines::ONE_GIGAHERTZ;
+use crate::ssd1677::config::{DisplayMode, OtpWaveform, Provenance};
+use crate::ssd1677::panel::RefreshKind;
+use crate::ssd1677::ram::Plane;
+use crate::ssd1677::{Ssd1677, Ssd1677Config};
+
+const COMMAND: u8 = 1;
+const DATA: u8 = 2;
+const READ: u8 = 3;
+const RESET: u8 = 4;
+const ADVANCE: u8 = 5;
+
+/// A byte on a bus of 20 MHz, in nanoseconds.
+const BYTE: u64 = 400;
+const MILLISECOND: u64 = 1_000_000;
+
+/// Events by their kinds (docs/replay-format.md), times and values.
+#[derive(Clone, Default)]
+pub(super) struct Events {
+    pub(super) kinds: Vec<u8>,
+    pub(super) times: Vec<u64>,
+    pub(super) values: Vec<u8>,
+    time: u64,
+}
+
+impl Events {
+    fn push(&mut self, kind: u8, value: u8) {
+        self.kinds.push(kind);
+        self.times.push(self.time);
+        self.values.push(value);
+    }
+
+    /// A command and its data bytes.
+    pub(super) fn command(&mut self, command: u8, bytes: &[u8]) {
+        self.time += BYTE;
+        self.push(COMMAND, command);
+        self.data(bytes);
+    }
+
+    pub(super) fn data(&mut self, bytes: &[u8]) {
+        for &byte in bytes {
+            self.time += BYTE;
+            self.push(DATA, byte);
+        }
+    }
+
+    /// The clock moves on by so many nanoseconds.
+    pub(super) fn wait(&mut self, nanoseconds: u64) {
+        self.time += nanoseconds;
+        self.push(ADVANCE, 0);
+    }
+
+    /// RES# low, and high again.
+    pub(super) fn reset(&mut self) {
+        self.push(RESET, 1);
+        self.time += MILLISECOND;
+        self.push(RESET, 0);
+    }
+
+    /// These events and some more.
+    pub(super) fn then(&self, more: impl FnOnce(&mut Events)) -> Events {
+        let mut events = self.clone();
+        more(&mut events);
+        events
+    }
+}
+
+/// The table of a configuration as the port is lent it (document 01).
+fn table(otp: &[OtpWaveform]) -> Vec<u8> {
+    let entry = |w: &OtpWaveform| {
+        let mode = match w.mode {
+            DisplayMode::One => 0,
+            DisplayMode::Two => 1,
+        };
+        let provenance = u8::from(w.provenance == Provenance::Measured);
+        let (lower, upper) = (w.lower.register().to_be_bytes(), w.upper.register().to_be_bytes());
+        [&[mode, provenance][..], &lower, &upper, &w.setting].concat()
+    };
+    otp.iter().flat_map(entry).collect()
+}
+
+fn header(device: &Ssd1677) -> Published {
+    let image = device.panel_image();
+    let kind = match image.kind {
+        RefreshKind::PowerOn => 0,
+        RefreshKind::Full => 1,
+        RefreshKind::Partial => 2,
+    };
+    [
+        image.width.into(),
+        image.height.into(),
+        image.border.into(),
+        image.generation,
+        kind,
+        image.interrupted.into(),
+        image.started.0,
+        image.at.0,
+    ]
+}
+
+/// Both sides of one configuration, with what the last run of each left.
+pub(super) struct Sides {
+    config: Ssd1677Config,
+    otp: Vec<u8>,
+    device: Option<Ssd1677>,
+    lent: Lent,
+    published: Published,
+}
+
+impl Sides {
+    pub(super) fn new(config: Ssd1677Config) -> Sides {
+        Sides {
+            otp: table(&config.otp),
+            device: None,
+            lent: Lent::new(config.panel.width, config.panel.height),
+            published: [0; 8],
+            config,
+        }
+    }
+
+    /// The reference: a start, and the call of each event.
+    pub(super) fn rust(&mut self, events: &Events) -> Duration {
+        let config = self.config.clone();
+        // Its memory is given back before the time runs.
+        self.device = None;
+        timed(|| {
+            let mut device = Ssd1677::new(config, ONE_GIGAHERTZ).expect("a start");
+            let places = events.kinds.iter().zip(&events.times).zip(&events.values);
+            for ((&kind, &time), &value) in places {
+                match kind {
+                    COMMAND => device.write_command(Cycles(time), value),
+                    DATA => device.write_data(Cycles(time), value),
+                    READ => drop(device.read_data(Cycles(time))),
+                    RESET => device.set_reset(Cycles(time), value != 0),
+                    _ => device.advance(Cycles(time)),
+                }
+            }
+            self.device = Some(device);
+        })
+    }
+
+    pub(super) fn proved(&mut self, events: &Events) -> Duration {
+        let mut made = 0;
+        let time = timed(|| {
+            (made, self.published) = self.lent.traffic(&self.otp, events);
+        });
+        assert_eq!(made, events.kinds.len(), "refused");
+        time
+    }
+
+    /// Ends the run where the last runs of the two sides left something else.
+    pub(super) fn compare(&self) {
+        let device = self.device.as_ref().expect("a run");
+        assert_eq!(header(device), self.published, "the image's header");
+        assert!(device.panel_image().pixels == self.lent.pixels, "pixels");
+        assert!(inside::glass(&device.panel).states == self.lent.states, "states");
+        assert!(device.ram(Plane::BlackWhite) == self.lent.black_white, "black and white");
+        assert!(device.ram(Plane::Red) == self.lent.red, "red");
+        if let Some(display) = &device.display {
+            assert!(inside::luts(display) == self.lent.luts, "LUTs");
+        }
+        assert!(device.diagnostics.is_empty(), "{:?}", device.diagnostics);
+        assert!(self.lent.log.iter().all(|&byte| byte == 0), "the log");
+    }
+}

@@ -1,0 +1,61 @@
+-- Steps one after the other: one more, the last where it is refused, and the end. Assumes nothing.
+use mathlib.Core.Path.{_≡_, refl, sym, ap, _∙_}
+use mathlib.Core.Bool.{true, false}
+use mathlib.Core.List.{List}
+use Prim.Native.Nat.{ℕ, suc, _+_, _-_, _<_}
+use native.Mathlib.Omega.{arith}
+use lib.Dec.{eqb}
+use Rattle.numbers.specs.Choice.{pick}
+use Rattle.query.specs.Outcome.{Outcome, outcome}
+use Rattle.guard.specs.declared.Refusal.{Refusal}
+use Rattle.guard.specs.declared.Refusal.the-variants.{Accepted, Buffer, Table, State}
+use Rattle.guard.specs.Refusals.{numberOf, accepts}
+use Rattle.ram.specs.declared.Byte.{Byte}
+use Rattle.event.specs.declared.Event.{Event}
+use Rattle.dispatch.specs.Dispatch.{World, told, dispatched}
+use Rattle.traffic.specs.Traffic.{Fed, fed, feeding, unread, made}
+
+never : false ≡ true → ⊥
+never e = let z : _≡_ {A = ℕ} 0 1 = cc in omega arith
+
+module _ {A : Type 0} (step : ℕ → A → Outcome A) where
+  -- where a step goes on
+  abbrev onward : ℕ → ℕ → Outcome A → Fed A
+  onward n i o = pick (eqb (o .number) 0) (feeding step n (i + 1) (o .held)) (fed (o .number) i (o .held))
+
+  one : (n i : ℕ) (w : A) → feeding step (suc n) i w ≡ onward n i (step i w)
+  unfolding feeding
+  one n i w = refl
+
+  -- the steps that are left, after one of them
+  left : (count i : ℕ) → i < count → count - i ≡ suc (count - (i + 1))
+  left count i h = omega (arith, h)
+
+  next : (count i : ℕ) (w : A) → i < count → feeding step (count - i) i w ≡ onward (count - (i + 1)) i (step i w)
+  next count i w h = ap (λ (k : ℕ). feeding step k i w) (left count i h) ∙ one (count - (i + 1)) i w
+
+  -- an accepted step
+  pub fed-more : (count i : ℕ) (f : Fed A) (w : A) {v : A} (refusal : Refusal) → i < count → accepts refusal ≡ true
+      → outcome (numberOf refusal) v ≡ step i w → feeding step (count - i) i w ≡ f → feeding step (count - (i + 1)) (i + 1) v ≡ f
+  fed-more count i f w Accepted h a e g = ap (onward (count - (i + 1)) i) e ∙ sym (next count i w h) ∙ g
+  fed-more count i f w Buffer h a e g = absurd (never a)
+  fed-more count i f w Table h a e g = absurd (never a)
+  fed-more count i f w State h a e g = absurd (never a)
+
+  -- a refused step is the last
+  pub fed-last : (count i : ℕ) (f : Fed A) (w : A) {v : A} (refusal : Refusal) → i < count → accepts refusal ≡ false
+      → outcome (numberOf refusal) v ≡ step i w → feeding step (count - i) i w ≡ f → fed (numberOf refusal) i v ≡ f
+  fed-last count i f w Accepted h a e g = absurd (never (sym a))
+  fed-last count i f w Buffer h a e g = ap (onward (count - (i + 1)) i) e ∙ sym (next count i w h) ∙ g
+  fed-last count i f w Table h a e g = ap (onward (count - (i + 1)) i) e ∙ sym (next count i w h) ∙ g
+  fed-last count i f w State h a e g = ap (onward (count - (i + 1)) i) e ∙ sym (next count i w h) ∙ g
+
+  -- all were accepted
+  pub fed-all : (count i : ℕ) (f : Fed A) (w : A) → count - i ≡ 0 → feeding step (count - i) i w ≡ f → fed 0 i w ≡ f
+  unfolding feeding
+  fed-all count i f w h g = sym (ap (λ (k : ℕ). feeding step k i w) h) ∙ g
+
+-- the step of a place, by what its event does
+pub made-one : (gates otp : List ℕ) (events : ℕ → Event) (i : ℕ) (w : World) {v : World} {number : ℕ} {byte : Byte} {event : Event}
+    → outcome number (told v byte) ≡ dispatched gates otp w event → event ≡ events i → outcome number v ≡ made gates otp events i w
+made-one gates otp events i w e f = ap unread e ∙ ap (λ (x : Event). unread (dispatched gates otp w x)) f

@@ -1,0 +1,2 @@
+-- The root of traffic's proofs.
+pub mod Feeding

@@ -1,0 +1,2 @@
+-- The root of traffic's specs.
+pub mod Traffic

@@ -1,0 +1,61 @@
+-- Events made one after the other, up to the first call that is refused (change request #102).
+use mathlib.Core.Bool.{not}
+use mathlib.Core.List.{List, [], _∷_}
+use Prim.Native.Nat.{ℕ, zero, suc, _+_, min}
+use lib.Dec.{eqb}
+use lib.ListN.{length, getD}
+use Rattle.numbers.specs.Choice.{pick}
+use Rattle.numbers.specs.Rows.{Row, lookup}
+use Rattle.event.specs.declared.Event.{Event}
+use Rattle.event.specs.declared.Event.the-variants.{Command, Data, Read, Reset, Advance}
+use Rattle.query.specs.Outcome.{Outcome, outcome}
+use Rattle.dispatch.specs.Dispatch.{World, Told, dispatched}
+
+-- a row of the table
+abbrev pub row : ℕ → Event → Row Event
+row kind event = record { number = kind; gives = event }
+
+-- the kinds 1 to 4 of an event (docs/replay-format.md)
+abbrev pub rows : ℕ → ℕ → List (Row Event)
+rows time value =
+    row 1 (Command time value) ∷
+    row 2 (Data time value) ∷
+    row 3 (Read time) ∷
+    row 4 (Reset time (not (eqb value 0))) ∷
+    []
+
+-- the event of a kind's number; any other moves the clock alone
+unfoldable pub eventOf : ℕ → ℕ → ℕ → Event
+eventOf kind time value = lookup (Advance time) kind (rows time value)
+
+-- the event at a place of three lists
+abbrev pub eventAt : List ℕ → List ℕ → List ℕ → ℕ → Event
+eventAt kinds times values i = eventOf (getD kinds i 0) (getD times i 0) (getD values i 0)
+
+-- how many events three lists have
+abbrev pub shortest : List ℕ → List ℕ → List ℕ → ℕ
+shortest kinds times values = min (length kinds) (min (length times) (length values))
+
+-- how steps ended: the number of the one that was refused, 0 for none, how many were made before it, and what they leave
+pub record Fed (A : Type 0) : Type 0 where
+  pub number : ℕ
+  pub made : ℕ
+  pub left : A
+
+-- the three as one
+abbrev pub fed : {A : Type 0} → ℕ → ℕ → A → Fed A
+fed number made left = record { number = number; made = made; left = left }
+
+-- n steps, the first of them at place i: an accepted one hands what it leaves to the next, a refused one is the last
+unfoldable pub feeding : {A : Type 0} → (ℕ → A → Outcome A) → ℕ → ℕ → A → Fed A
+feeding step zero i w = fed 0 i w
+feeding step (suc n) i w =
+    pick (eqb (step i w .number) 0) (feeding step n (i + 1) (step i w .held)) (fed (step i w .number) i (step i w .held))
+
+-- the byte that a read gives is dropped
+abbrev pub unread : Outcome Told → Outcome World
+unread o = outcome (o .number) (o .held .left)
+
+-- the step that makes the event of a place
+abbrev pub made : List ℕ → List ℕ → (ℕ → Event) → ℕ → World → Outcome World
+made gates otp event i w = unread (dispatched gates otp w (event i))
