@@ -11,6 +11,7 @@ mod inside;
 mod leaf;
 mod line;
 mod listing;
+mod picture;
 mod random;
 mod record;
 mod records;

@@ -1,8 +1,8 @@
--- The widths of a configuration's fields (docs/replay-format.md, "Configuration fields").
+-- The widths of fields and the lengths of buffers (docs/replay-format.md, "Configuration fields" and "Lines of the port alone").
 use mathlib.Core.Bool.{Bool, false, _||_}
 use mathlib.Core.List.{List, [], _∷_}
 use Prim.Native.Nat.{ℕ}
-use lib.Dec.{eqb, leb}
+use lib.Dec.{eqb, leb, ltb}
 use Rattle.numbers.specs.Choice.{pick}
 
 -- n is one of the list
@@ -17,3 +17,11 @@ bitsOf field =
     (pick (among field (0 ∷ 1 ∷ 2 ∷ 39 ∷ 41 ∷ [])) 16
     (pick (eqb field 42) 32
     (pick (eqb field 10 || leb 43 field) 8 64)))
+
+-- of a state's fields: 16 bits for 0 to 11, 8 for entry and command, 12 and 13, 64 for swing and periods, from 14 on
+unfoldable pub stateBitsOf : ℕ → ℕ
+stateBitsOf field = pick (ltb field 12) 16 (pick (ltb field 14) 8 64)
+
+-- the longest that each buffer is lent: states, LUTs and pixels, 0 to 2; planes, 3 and 4; gates, 5; log, 6; table, 7
+unfoldable pub longestOf : ℕ → ℕ
+longestOf buffer = pick (ltb buffer 3) 652800 (pick (ltb buffer 5) 81601 (pick (ltb buffer 6) 680 (pick (ltb buffer 7) 16385 10000)))

@@ -1,7 +1,7 @@
 -- The lines of docs/replay-format.md.
 use mathlib.Core.Bool.{_&&_}
 use mathlib.Core.List.{List, [], _∷_}
-use Prim.Native.Nat.{ℕ, _^_}
+use Prim.Native.Nat.{ℕ, _+_, _^_}
 use lib.Dec.{eqb, ltb}
 use lib.ListN.{length, take, drop, getD}
 use Rattle.numbers.specs.Choice.{pick}
@@ -10,11 +10,11 @@ use Rattle.column.specs.Reading.{readOf}
 use Rattle.column.specs.declared.read.Column.{Column}
 use Rattle.column.specs.declared.read.Column.the-variants.{Number, Other}
 use Rattle.event.specs.declared.Event.the-variants.{Command, Data, Read, Reset, Advance}
-use Rattle.line.specs.Fields.{bitsOf}
+use Rattle.line.specs.Fields.{bitsOf, stateBitsOf, longestOf}
 use Rattle.line.specs.declared.columns.Columns.{Columns}
 use Rattle.line.specs.declared.columns.Columns.the-variants.{Of, NotALine, NotANumber}
 use Rattle.line.specs.declared.Line.{Line}
-use Rattle.line.specs.declared.Line.the-variants.{Event, Query, Dump, Repeat, Ambient, Case, Field, Otp, Start, TakeDiagnostics, Bad}
+use Rattle.line.specs.declared.Line.the-variants.{Event, Query, Dump, Repeat, Ambient, Case, Field, Otp, Start, TakeDiagnostics, Lent, State, Picture, Bad}
 
 -- three columns that each hold a number
 unfoldable pub threeOf : Column → Column → Column → Columns
@@ -55,6 +55,9 @@ rows number value =
     row 12 (within value 10000 (within number 256 (Otp value number))) ∷
     row 13 (within number 1 (within value 1 Start)) ∷
     row 14 (within number 1 (within value 1 TakeDiagnostics)) ∷
+    row 15 (within value 8 (within number (longestOf value + 1) (Lent value number))) ∷
+    row 16 (within value 31 (within number (2 ^ stateBitsOf value) (State value number))) ∷
+    row 17 (within number 1 (within value 1 Picture)) ∷
     []
 
 -- what three numbers ask for

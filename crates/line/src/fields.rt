@@ -1,7 +1,7 @@
-// The fields of a configuration, as docs/replay-format.md numbers them.
+// The fields of a configuration and of a state, and the lent buffers, as docs/replay-format.md numbers them.
 ghost use mathlib.Core.Path.{_≡_};
 ghost use Prim.Native.Nat.{_+_, _^_, _<_};
-ghost use Rattle.line.specs.Fields.{bitsOf};
+ghost use Rattle.line.specs.Fields.{bitsOf, stateBitsOf, longestOf};
 
 pub const FIELDS: u64 = 53;
 
@@ -67,4 +67,36 @@ pub fn largest(field: usize) -> u64
     ensures { λ r. ⌜ r + 1 ≡ 2 ^ bitsOf field ⌝ }
 {
     LARGEST[field]
+}
+
+// The largest number of a field of the state.
+pub fn largest_of_state(field: usize) -> u64
+    ensures { λ r. ⌜ r + 1 ≡ 2 ^ stateBitsOf field ⌝ }
+{
+    if field < 12 {
+        return 65535;
+    }
+    if field < 14 {
+        return 255;
+    }
+    18446744073709551615
+}
+
+// The longest that a buffer is lent: planes and log by a byte too long, so that this can be refused too.
+pub fn longest(buffer: usize) -> u64
+    ensures { λ r. ⌜ r ≡ longestOf buffer ⌝ }
+{
+    if buffer < 3 {
+        return 652800;
+    }
+    if buffer < 5 {
+        return 81601;
+    }
+    if buffer < 6 {
+        return 680;
+    }
+    if buffer < 7 {
+        return 16385;
+    }
+    10000
 }

@@ -29,6 +29,12 @@ pub enum Line {
     Otp(usize, u8),
     Start,
     TakeDiagnostics,
+    // A buffer, and the length that it is lent with.
+    Lent(usize, usize),
+    // A field of the state that is handed in, and its number.
+    State(usize, u64),
+    // The panel's picture as text.
+    Picture,
     // None of these: the run ends.
     Bad,
 }

@@ -3,9 +3,9 @@ use crate::Line;
 use crate::fields;
 use event::Event;
 ghost use mathlib.Core.Path.{_≡_};
-ghost use Prim.Native.Nat.{_^_};
+ghost use Prim.Native.Nat.{_+_, _^_};
 ghost use lib.Dec.{eqb};
-ghost use Rattle.line.specs.Fields.{bitsOf};
+ghost use Rattle.line.specs.Fields.{bitsOf, stateBitsOf, longestOf};
 ghost use Rattle.line.specs.Lines.{within, listedAs};
 ghost use Rattle.event.specs.declared.Event.the-variants.{Command, Data, Read, Reset, Advance};
 
@@ -90,6 +90,34 @@ fn otp(byte: u64, place: u64) -> Line
     Line::Bad
 }
 
+fn lent(length: u64, buffer: u64) -> Line
+    ensures { λ r. ⌜ r ≡ within buffer 8 (within length (longestOf buffer + 1) (Line.Lent buffer length)) ⌝ }
+{
+    if buffer < 8 {
+        let place = buffer as usize;
+        let most = fields::longest(place);
+        if length <= most {
+            return Line::Lent(place, length as usize);
+        }
+        return Line::Bad;
+    }
+    Line::Bad
+}
+
+fn state(number: u64, value: u64) -> Line
+    ensures { λ r. ⌜ r ≡ within value 31 (within number (2 ^ stateBitsOf value) (Line.State value number)) ⌝ }
+{
+    if value < 31 {
+        let place = value as usize;
+        let most = fields::largest_of_state(place);
+        if number <= most {
+            return Line::State(place, number);
+        }
+        return Line::Bad;
+    }
+    Line::Bad
+}
+
 pub(crate) fn listed(number: u64, kind: u64, value: u64) -> Line
     ensures { λ r. ⌜ r ≡ listedAs number kind value ⌝ }
 {
@@ -108,6 +136,9 @@ pub(crate) fn listed(number: u64, kind: u64, value: u64) -> Line
         12 => otp(number, value),
         13 => zero(number, zero(value, Line::Start)),
         14 => zero(number, zero(value, Line::TakeDiagnostics)),
+        15 => lent(number, value),
+        16 => state(number, value),
+        17 => zero(number, zero(value, Line::Picture)),
         _ => Line::Bad,
     }
 }

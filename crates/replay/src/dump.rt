@@ -1,7 +1,7 @@
 // The dump of a device.
 use crate::current;
 use crate::registers;
-use crate::run::Progress;
+use crate::run::Run;
 use crate::say;
 use device::Deadline;
 use device::Power;
@@ -165,8 +165,7 @@ fn rest(text: &mut [u8; text::ROOM], at: usize, state: Ssd1677, bytes: &[u8]) ->
 }
 
 pub fn dump(
-    progress: Progress,
-    state: Ssd1677,
+    now: Run,
     states: &[i64],
     luts: &[u8],
     pixels: &[u8],
@@ -175,13 +174,13 @@ pub fn dump(
     gates: &[u16],
     log: &[u8],
     text: &mut [u8; text::ROOM],
-) -> Progress {
-    if !progress.started {
-        return progress;
-    }
-    let running_at = chip(text, progress.at, state);
+) -> Run {
+    let before = now.progress;
+    let state = now.state;
+    let running_at = chip(text, before.at, state);
     let rest_at = running(text, running_at, state);
     let hash_at = rest(text, rest_at, state, log);
     let end_at = hashes(text, hash_at, states, luts, pixels, black_white, red, gates);
-    say::said(progress, end_at)
+    let progress = say::said(before, end_at);
+    Run { progress, state }
 }

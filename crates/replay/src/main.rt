@@ -5,12 +5,15 @@ mod calls;
 mod current;
 mod dump;
 mod fields;
+mod handed;
 mod lines;
+mod others;
+mod picture;
 mod prepare;
-mod reads;
 mod registers;
 mod run;
 mod say;
+mod start;
 
 use device::Ssd1677;
 use run::Run;
@@ -31,8 +34,8 @@ fn each(
     states: &mut [i64; run::PIXELS],
     luts: &mut [u8; run::PIXELS],
     pixels: &mut [u8; run::PIXELS],
-    black_white: &mut [u8; ram::PLANE_BYTES],
-    red: &mut [u8; ram::PLANE_BYTES],
+    black_white: &mut [u8; run::PLANE],
+    red: &mut [u8; run::PLANE],
     gates: &mut [u16; run::ROWS],
     log: &mut [u8; run::LOG],
     otp: &mut [u8; run::OTP],
@@ -43,7 +46,7 @@ fn each(
     let mut next = run;
     let mut i: usize = 0;
     while i < bytes.len() {
-        let end = run::line_end(i, bytes.len());
+        let end = run::part_end(i, line::LINE_BYTES, bytes.len());
         next = lines::take(
             next,
             &bytes[i..end],
@@ -69,8 +72,8 @@ fn chunk(
     states: &mut [i64; run::PIXELS],
     luts: &mut [u8; run::PIXELS],
     pixels: &mut [u8; run::PIXELS],
-    black_white: &mut [u8; ram::PLANE_BYTES],
-    red: &mut [u8; ram::PLANE_BYTES],
+    black_white: &mut [u8; run::PLANE],
+    red: &mut [u8; run::PLANE],
     gates: &mut [u16; run::ROWS],
     log: &mut [u8; run::LOG],
     otp: &mut [u8; run::OTP],
@@ -102,28 +105,26 @@ fn chunk(
 }
 
 // The state that a start of an empty panel hands back, which stands for nothing started.
-fn begin(
-    states: &mut [i64],
-    luts: &mut [u8],
-    pixels: &mut [u8],
-    black_white: &mut [u8],
-    red: &mut [u8],
-    gates: &mut [u16],
-    log: &mut [u8],
-    otp: &[u8],
-    fields: &[u64],
-) -> Ssd1677 {
-    let config = fields::config(fields);
+fn nothing() -> Ssd1677 {
+    let fields = [0u64; run::FIELDS];
+    let config = fields::config(&fields);
+    let mut states = [0i64; 1];
+    let mut luts = [0u8; 1];
+    let mut pixels = [0u8; 1];
+    let mut black_white = [0u8; 1];
+    let mut red = [0u8; 1];
+    let mut gates = [0u16; 1];
+    let mut log = [0u8; 1];
     power_on::new(
         config,
-        states,
-        luts,
-        pixels,
-        black_white,
-        red,
-        gates,
-        log,
-        otp,
+        &mut states,
+        &mut luts,
+        &mut pixels,
+        &mut black_white,
+        &mut red,
+        &mut gates,
+        &mut log,
+        &[0u8],
     ).state
 }
 
@@ -132,8 +133,8 @@ fn all(
     states: &mut [i64; run::PIXELS],
     luts: &mut [u8; run::PIXELS],
     pixels: &mut [u8; run::PIXELS],
-    black_white: &mut [u8; ram::PLANE_BYTES],
-    red: &mut [u8; ram::PLANE_BYTES],
+    black_white: &mut [u8; run::PLANE],
+    red: &mut [u8; run::PLANE],
     gates: &mut [u16; run::ROWS],
     log: &mut [u8; run::LOG],
     otp: &mut [u8; run::OTP],
@@ -142,17 +143,7 @@ fn all(
     text: &mut [u8; text::ROOM],
 ) {
     let progress = run::fresh();
-    let state = begin(
-        states,
-        luts,
-        pixels,
-        black_white,
-        red,
-        gates,
-        log,
-        otp,
-        fields,
-    );
+    let state = nothing();
     let mut now = Run { progress, state };
     let mut turns = u64::MAX;
     let mut more = true;
@@ -182,8 +173,8 @@ fn main() {
     let mut states = [0i64; run::PIXELS];
     let mut luts = [0u8; run::PIXELS];
     let mut pixels = [0u8; run::PIXELS];
-    let mut black_white = [0u8; ram::PLANE_BYTES];
-    let mut red = [0u8; ram::PLANE_BYTES];
+    let mut black_white = [0u8; run::PLANE];
+    let mut red = [0u8; run::PLANE];
     let mut gates = [0u16; run::ROWS];
     let mut log = [0u8; run::LOG];
     let mut otp = [0u8; run::OTP];

@@ -50,7 +50,7 @@ fn clear_fields(fields: &mut [u64; run::FIELDS]) {
     }
 }
 
-// A new case: configuration all 0, OTP empty, nothing started.
+// A new case: configuration all 0, OTP empty, buffers as long as panels ask, nothing started.
 fn case(
     progress: Progress,
     otp: &mut [u8; run::OTP],
@@ -62,6 +62,7 @@ fn case(
     clear_fields(fields);
     let mut next = progress;
     next.otp = 0;
+    next.lent = [run::RIGHT; run::BUFFERS];
     next.started = false;
     say::line(next, text, b"case", value as u64)
 }
@@ -70,6 +71,14 @@ fn repeat(progress: Progress, count: u64) -> Progress {
     let mut next = progress;
     next.waits = true;
     next.count = count;
+    next
+}
+
+fn lend(progress: Progress, buffer: usize, length: usize) -> Progress {
+    let mut next = progress;
+    if buffer < run::BUFFERS {
+        next.lent[buffer] = length;
+    }
     next
 }
 
@@ -111,6 +120,9 @@ pub fn prepare(
         Line::Otp(place, byte) => set_otp(progress, otp, place, byte),
         Line::Start => keep(progress, otp, table),
         Line::TakeDiagnostics => progress,
+        Line::Lent(buffer, length) => lend(progress, buffer, length),
+        Line::State(_, _) => progress,
+        Line::Picture => progress,
         Line::Bad => bad(progress, text),
     }
 }

@@ -7,13 +7,21 @@ pub const PIXELS: usize = 652800;
 
 pub const ROWS: usize = 680;
 
-// The log's 1,024 records of 16 bytes.
-pub const LOG: usize = 16384;
+// A plane and the log's 1,024 records of 16 bytes, with one byte more, so that they can be lent too long.
+pub const PLANE: usize = 81601;
+
+pub const LOG: usize = 16385;
 
 // Places that a line can name.
 pub const OTP: usize = 10000;
 
 pub const FIELDS: usize = 53;
+
+// Buffers that a line can name: the seven of the device and the table.
+pub const BUFFERS: usize = 8;
+
+// A buffer that no line names is lent as long as the panel asks.
+pub const RIGHT: usize = 18446744073709551615;
 
 pub struct Progress {
     // Lines taken.
@@ -25,6 +33,8 @@ pub struct Progress {
     // Bytes of the OTP as lines have set it, and of the table that the last start took.
     pub otp: usize,
     pub table: usize,
+    // The lengths that buffers are lent with.
+    pub lent: [usize; BUFFERS],
     // The place of the next byte of text.
     pub at: usize,
     // After a bad line nothing is taken any more.
@@ -44,18 +54,22 @@ pub fn fresh() -> Progress {
         count: 0,
         otp: 0,
         table: 0,
+        lent: [RIGHT; BUFFERS],
         at: 0,
         ended: false,
     }
 }
 
-// Where the line ends that begins at a place, or the input.
-pub fn line_end(at: usize, length: usize) -> usize
+// Where a part of some size ends that begins at a place, or the whole.
+pub fn part_end(at: usize, size: usize, length: usize) -> usize
     requires { ⌜ at < length ⌝ }
     ensures { λ r. ⌜ (at < r) × (r ≤ length) ⌝ }
 {
-    if length - at < line::LINE_BYTES {
-        return length;
+    let left = length - at;
+    if 0 < size {
+        if size <= left {
+            return at + size;
+        }
     }
-    at + line::LINE_BYTES
+    length
 }

@@ -44,7 +44,8 @@ const FAMILIES: [Family; 19] = [
 const BY_NAME: [Family; 2] = [("pairs", exhaustive::pairs), ("values", exhaustive::values)];
 
 /// Writes `count` sequences, the families in turn, or those of one family alone. Each begins with a
-/// new case and ends with a dump; a sequence depends on the seed and on its own number alone.
+/// new case and ends with a dump and a small panel's picture; a sequence depends on the seed and on
+/// its own number alone.
 pub(super) fn run(
     seed: u64,
     count: u64,

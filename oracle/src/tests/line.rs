@@ -54,13 +54,37 @@ impl Line {
             1 | 2 => value <= 255,
             4 => value <= 1,
             3 | 5 | 6 | 8 => value == 0,
-            7 | 13 | 14 => number == 0 && value == 0,
+            7 | 13 | 14 | 17 => number == 0 && value == 0,
             9 => number <= u64::from(u16::MAX) && value == 0,
             10 => number == 0,
             11 => usize::from(value) < FIELDS && number <= largest(usize::from(value)),
             12 => number <= 255,
+            15 => longest(value).is_some_and(|most| number <= most),
+            16 => largest_of_state(value).is_some_and(|most| number <= most),
             _ => false,
         }
+    }
+}
+
+/// The longest that the port's buffer `buffer` is lent (kind 15).
+pub(super) fn longest(buffer: u16) -> Option<u64> {
+    match buffer {
+        0..=2 => Some(652_800),
+        3 | 4 => Some(81_601),
+        5 => Some(680),
+        6 => Some(16_385),
+        7 => Some(10_000),
+        _ => None,
+    }
+}
+
+/// The largest number that field `field` of a state handed to the port holds (kind 16).
+pub(super) fn largest_of_state(field: u16) -> Option<u64> {
+    match field {
+        0..=11 => Some(u64::from(u16::MAX)),
+        12 | 13 => Some(u64::from(u8::MAX)),
+        14..=30 => Some(u64::MAX),
+        _ => None,
     }
 }
 

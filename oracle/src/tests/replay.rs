@@ -9,6 +9,7 @@ use super::bench::Bench;
 use super::configuration::{Configuration, Refusal};
 use super::dump;
 use super::line::{LINE_BYTES, Line};
+use super::picture;
 
 struct Replay<'a, W> {
     out: &'a mut W,
@@ -65,6 +66,8 @@ impl<W: Write> Replay<'_, W> {
                 self.configuration.set_otp(usize::from(value), byte);
             }
             13 => self.start()?,
+            // What a host hands to the port; the reference is handed nothing.
+            15 | 16 => {}
             _ => self.event(line)?,
         }
         Ok(())
@@ -114,6 +117,7 @@ impl<W: Write> Replay<'_, W> {
             7 => dump::write(bench, self.out)?,
             // The register's width was tested with the line.
             9 => bench.set_ambient(u16::try_from(time).unwrap_or(u16::MAX)),
+            17 => picture::write(bench.device.panel_image(), self.out)?,
             _ => writeln!(self.out, "taken {}", bench.take_diagnostics())?,
         }
         Ok(())

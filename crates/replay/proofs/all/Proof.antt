@@ -15,8 +15,8 @@ abbrev μ-loop : tie.MeasureT-loop
 fresh-requires : tie.Need-fresh-requires Inv-loop μ-loop
 fresh-requires c κs = search needs
 
-begin-requires : tie.Need-begin-requires Inv-loop μ-loop
-begin-requires c κs = search needs
+nothing-requires : tie.Need-nothing-requires Inv-loop μ-loop
+nothing-requires c κs = search needs
 
 loop-holds : tie.Need-loop-holds Inv-loop μ-loop
 loop-holds c = search needs
@@ -46,7 +46,7 @@ all-spec =
     Inv-loop
     μ-loop
     fresh-requires
-    begin-requires
+    nothing-requires
     loop-holds
     chunk-requires
     sub-turns

@@ -17,8 +17,8 @@ abbrev μ-loop : tie.MeasureT-loop
 loop-holds : tie.Need-loop-holds Inv-loop μ-loop
 loop-holds c = search needs
 
-line-end-requires : tie.Need-line-end-requires Inv-loop μ-loop
-line-end-requires c κs = search needs
+part-end-requires : tie.Need-part-end-requires Inv-loop μ-loop
+part-end-requires c κs = search needs
 
 sub-take : tie.Need-sub-take Inv-loop μ-loop
 sub-take c = search needs
@@ -35,12 +35,12 @@ take-requires c κs = search needs
 loop-less : tie.Need-loop-less Inv-loop μ-loop
 loop-less c =
     let end = c .before .before .before .before .before .before .before .before .before .before .before .before .before in
-    omega (arith, end .line-end .ensures .0, end .line-end .ensures .1)
+    omega (arith, end .part-end .ensures .0, end .part-end .ensures .1)
 
 loop-again : tie.Need-loop-again Inv-loop μ-loop
 loop-again c =
     let end = c .before .before .before .before .before .before .before .before .before .before .before .before .before in
-    end .line-end .ensures .1
+    end .part-end .ensures .1
 
 returns : tie.Need-returns Inv-loop μ-loop
 returns c = search needs
@@ -52,7 +52,7 @@ each-spec =
     Inv-loop
     μ-loop
     loop-holds
-    line-end-requires
+    part-end-requires
     sub-take
     part-take-start
     part-take-end

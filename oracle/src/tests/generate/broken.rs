@@ -1,6 +1,7 @@
 //! Runs that end at a bad line: two good lines, the bad one, and a good one that must not be read.
 
 use crate::ssd1677::tests::configuration::{FIELDS, largest};
+use crate::ssd1677::tests::line::{largest_of_state, longest};
 
 fn line(number: u128, kind: u32, value: u32) -> String {
     format!("{number:20}{kind:2}{value:4}\n")
@@ -18,14 +19,20 @@ fn numbers() -> Vec<String> {
         line(99_999_999_999_999_999_999, 5, 0),
         line(0, 11, FIELDS as u32),
     ];
-    lines.extend([0, 15, 16, 99].map(|kind| line(0, kind, 0)));
-    lines.extend([3, 5, 6, 7, 8, 9, 13, 14].map(|kind| line(0, kind, 1)));
-    lines.extend([7, 10, 13, 14].map(|kind| line(1, kind, 0)));
+    lines.extend([0, 18, 19, 99].map(|kind| line(0, kind, 0)));
+    lines.extend([3, 5, 6, 7, 8, 9, 13, 14, 17].map(|kind| line(0, kind, 1)));
+    lines.extend([7, 10, 13, 14, 17].map(|kind| line(1, kind, 0)));
     for field in 0..FIELDS {
         if largest(field) < u64::MAX {
             let number = u128::from(largest(field)) + 1;
             lines.push(line(number, 11, field as u32));
         }
+    }
+    for value in 0..=31 {
+        let buffer = longest(value).map_or(0, |most| u128::from(most) + 1);
+        let field = largest_of_state(value).map_or(0, |most| u128::from(most) + 1);
+        lines.push(line(buffer, 15, value.into()));
+        lines.push(line(field, 16, value.into()));
     }
     lines
 }

@@ -10,6 +10,9 @@ use crate::ssd1677::tests::line::Line;
 use crate::ssd1677::tests::random::Random;
 use crate::ssd1677::{Power, Ssd1677, Temperature};
 
+/// Pixels of the panels whose pictures are written.
+const SMALL: usize = 512;
+
 pub(super) struct Script {
     pub(super) random: Random,
     /// The place of the sequence within its family: what is counted through goes by it.
@@ -36,10 +39,14 @@ impl Script {
         script
     }
 
-    /// The lines; the last is a dump.
+    /// The lines; the last is a dump, or after it the picture of a panel that is small.
     pub(super) fn finish(mut self) -> String {
         if !self.dumped {
             self.dump();
+        }
+        let panel = self.device.as_ref().map(|device| device.panel_image());
+        if panel.is_some_and(|panel| panel.pixels.len() <= SMALL) {
+            self.line(0, 17, 0);
         }
         self.text
     }

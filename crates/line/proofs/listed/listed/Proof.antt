@@ -68,6 +68,18 @@ zero-requires-11 c κs = search needs
 zero-requires-12 : tie.Need-zero-requires-12
 zero-requires-12 c κs = search needs
 
+lent-requires : tie.Need-lent-requires
+lent-requires c κs = search needs
+
+state-requires : tie.Need-state-requires
+state-requires c κs = search needs
+
+zero-requires-13 : tie.Need-zero-requires-13
+zero-requires-13 c κs = search needs
+
+zero-requires-14 : tie.Need-zero-requires-14
+zero-requires-14 c κs = search needs
+
 returns : tie.Need-returns
 unfolding rows lookup listedAs
 returns c = rw (c .before .match .keys1) (c .command .ensures)
@@ -135,8 +147,22 @@ returns-14 c =
     rw (c .before .before .match .keys14) (c .zero12 .ensures ∙ ap (within (s .number) 1) (c .before .zero11 .ensures))
 
 returns-15 : tie.Need-returns-15
+unfolding rows lookup listedAs
+returns-15 c = rw (c .before .match .keys15) (c .lent .ensures)
+
+returns-16 : tie.Need-returns-16
+unfolding rows lookup listedAs
+returns-16 c = rw (c .before .match .keys16) (c .state .ensures)
+
+returns-17 : tie.Need-returns-17
+unfolding rows lookup listedAs
+returns-17 c =
+    let s = c .before .before .before .args in
+    rw (c .before .before .match .keys17) (c .zero14 .ensures ∙ ap (within (s .number) 1) (c .before .zero13 .ensures))
+
+returns-18 : tie.Need-returns-18
 unfolding rows listedAs
-returns-15 c = miss Bad (c .before .args .kind) (rows (c .before .args .number) (c .before .args .value)) Unit (c .match .rest) .1
+returns-18 c = miss Bad (c .before .args .kind) (rows (c .before .args .number) (c .before .args .value)) Unit (c .match .rest) .1
 
 pub listed-spec : {M : Type 1} → statement M
 listed-spec =
@@ -161,6 +187,10 @@ listed-spec =
     zero-requires-10
     zero-requires-11
     zero-requires-12
+    lent-requires
+    state-requires
+    zero-requires-13
+    zero-requires-14
     returns
     returns-2
     returns-3
@@ -175,4 +205,7 @@ listed-spec =
     returns-12
     returns-13
     returns-14
-    returns-15)
+    returns-15
+    returns-16
+    returns-17
+    returns-18)
