@@ -66,7 +66,7 @@ fn taken(now: Run, text: &mut [u8; text::ROOM]) -> Run {
 
 fn pictured(now: Run, pixels: &[u8], text: &mut [u8; text::ROOM]) -> Run {
     let state = now.state;
-    let shown = query::panel_image(state);
+    let shown = query_state::panel_image(state);
     let refusal = shown.refusal;
     let number = guard::number(refusal);
     let progress = picture::put(now.progress, text, number, shown.image, pixels);

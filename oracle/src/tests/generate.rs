@@ -7,6 +7,7 @@ mod exhaustive;
 mod firmware;
 mod memory;
 mod script;
+mod seldom;
 mod starts;
 
 use std::io::{self, Write};
@@ -40,8 +41,12 @@ const FAMILIES: [Family; 19] = [
     ("chaos", bus::chaos),
 ];
 
-/// Those that are long and written only by name.
-const BY_NAME: [Family; 2] = [("pairs", exhaustive::pairs), ("values", exhaustive::values)];
+/// Those that are long, or look at what the others come to seldom; written only by name.
+const BY_NAME: [Family; 3] = [
+    ("pairs", exhaustive::pairs),
+    ("values", exhaustive::values),
+    ("seldom", seldom::run),
+];
 
 /// Writes `count` sequences, the families in turn, or those of one family alone. Each begins with a
 /// new case and ends with a dump and a small panel's picture; a sequence depends on the seed and on

@@ -1,21 +1,28 @@
 //! What a run of events reaches, counted: so that a generated run can be seen to hold what it is
 //! meant to hold.
 
-use std::collections::BTreeMap;
+use std::collections::{BTreeMap, BTreeSet};
 use std::io::{self, Write};
 
 use super::bench::Bench;
 use super::configuration::{Configuration, Refusal};
 use super::line::{LINE_BYTES, Line};
-use super::record;
+use super::{record, settings};
+use crate::ssd1677::{Active, Current, GateScan, Power};
 
 #[derive(Default)]
-struct Tally(BTreeMap<String, u64>);
+struct Tally {
+    counts: BTreeMap<String, u64>,
+    /// The command bytes that a device was sent, and those that it neither was busy, asleep nor in
+    /// reset at.
+    sent: BTreeSet<u16>,
+    taken: BTreeSet<u16>,
+}
 
 impl Tally {
     fn add(&mut self, name: &str, count: u64) {
         if count > 0 {
-            *self.0.entry(name.to_owned()).or_default() += count;
+            *self.counts.entry(name.to_owned()).or_default() += count;
         }
     }
 
@@ -31,6 +38,10 @@ struct Before {
     logged: usize,
     /// When the running refresh starts driving.
     started: Option<u64>,
+    /// The LUT register.
+    setting: settings::Setting,
+    /// Whether the third byte of `0x01` comes next.
+    gate_scan: bool,
 }
 
 impl Before {
@@ -41,6 +52,15 @@ impl Before {
             dropped: device.dropped_diagnostics(),
             logged: device.diagnostics.len(),
             started: device.display.as_ref().map(|display| display.started.get()),
+            setting: device.regs.lut,
+            gate_scan: matches!(
+                device.current,
+                Current::Active(Active {
+                    command: 0x01,
+                    received: 2,
+                    ..
+                })
+            ),
         }
     }
 }
@@ -71,6 +91,50 @@ fn event(tally: &mut Tally, bench: &Bench, before: &Before, line: Line) {
         tally.add(&format!("diagnostic {}", record::record(diagnostic)[8]), 1);
     }
     tally.one("events at 2^64-1", line.number == u64::MAX);
+    if ends == 1 && image.interrupted {
+        cut(tally, bench, before);
+    }
+    let started = device.display.as_ref().map(|display| display.started.get());
+    if started.is_some() && started != before.started {
+        let order = scan(device.regs.gate_scan);
+        tally.add(&format!("refresh begun with {order}"), 1);
+    }
+    let tb = before.gate_scan && line.kind == 2 && line.value & 1 == 1;
+    tally.one("TB written", tb);
+}
+
+/// Where in its frames a refresh was cut. The reset that cut it restored the registers, so the
+/// setting is the one kept from before.
+fn cut(tally: &mut Tally, bench: &Bench, before: &Before) {
+    let image = bench.device.panel_image();
+    let at = image.at.get() - image.started.get();
+    let periods = &bench.device.config.timing.frame_period;
+    // The edge at 0 ends no frame.
+    let edges = settings::frame_ends(&before.setting, periods, 1 << 17).split_off(1);
+    let ends_at = |moment: Option<u64>| moment.is_some_and(|m| edges.binary_search(&m).is_ok());
+    tally.one("cut at the start of driving", at == 0);
+    tally.one("cut at a frame's edge", ends_at(Some(at)));
+    tally.one("cut 1 ns before a frame's edge", ends_at(at.checked_add(1)));
+    tally.one("cut 1 ns after a frame's edge", ends_at(at.checked_sub(1)));
+}
+
+fn scan(order: GateScan) -> String {
+    format!("SM {} GD {}", u8::from(order.sm), u8::from(order.gd))
+}
+
+/// Counts the panel of an accepted start.
+fn panel(tally: &mut Tally, bench: &Bench) {
+    let panel = &bench.device.config.panel;
+    let order = scan(panel.native_scan);
+    tally.add(&format!("panel of native {order}"), 1);
+    let (rows, columns) = (panel.rows_reversed, panel.columns_reversed);
+    tally.one("panel with rows reversed", rows && !columns);
+    tally.one("panel with columns reversed", columns && !rows);
+    tally.one("panel with rows and columns reversed", rows && columns);
+    let size = (panel.width, panel.height);
+    tally.one("panel of 960 x 680", size == (960, 680));
+    tally.one("panel of 800 x 480", size == (800, 480));
+    tally.one("panel of 1 x 1", size == (1, 1));
 }
 
 /// Writes how often each thing came about in `input`.
@@ -92,7 +156,7 @@ pub(super) fn run(input: &[u8], out: &mut impl Write) -> io::Result<bool> {
             (13, _) => match configuration.start() {
                 Ok(device) => {
                     tally.add("start ok", 1);
-                    bench = Some(Bench::new(device));
+                    panel(&mut tally, bench.insert(Bench::new(device)));
                 }
                 Err(Refusal(number, _)) => tally.add(&format!("start refused {number:2}"), 1),
             },
@@ -104,15 +168,32 @@ pub(super) fn run(input: &[u8], out: &mut impl Write) -> io::Result<bool> {
                     _ => 1,
                 };
                 tally.add("calls", if line.kind < 6 { times } else { 0 });
+                if line.kind == 1 {
+                    command(&mut tally, bench, line);
+                }
                 perform(bench, line, times);
                 event(&mut tally, bench, &before, line);
             }
         }
     }
-    for (name, count) in &tally.0 {
+    let (sent, taken) = (tally.sent.len() as u64, tally.taken.len() as u64);
+    tally.add("of 256 command bytes sent", sent);
+    tally.add("of 256 command bytes taken", taken);
+    for (name, count) in &tally.counts {
         writeln!(out, "{count:10} {name}")?;
     }
     Ok(true)
+}
+
+/// Counts the command byte that comes next.
+fn command(tally: &mut Tally, bench: &mut Bench, line: Line) {
+    // The command does the same first.
+    bench.advance(line.number);
+    let device = &bench.device;
+    tally.sent.insert(line.value);
+    if device.power == Power::Running && !device.is_busy(device.now) {
+        tally.taken.insert(line.value);
+    }
 }
 
 fn perform(bench: &mut Bench, line: Line, times: u64) {

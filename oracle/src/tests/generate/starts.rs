@@ -3,7 +3,7 @@
 use super::bus::{ready, value};
 use super::firmware::{activate, power_on};
 use super::script::Script;
-use crate::ssd1677::tests::configuration::Configuration;
+use crate::ssd1677::tests::configuration::{Configuration, ENTRY_BYTES};
 use crate::ssd1677::tests::configurations::{self, Geometry};
 use crate::ssd1677::tests::settings;
 
@@ -56,6 +56,68 @@ fn second_start(script: &mut Script, mut configuration: Configuration) {
     script.now = script.random.pick(&[0, script.now]);
     script.read();
     script.write(0x24, &[4, 5]);
+}
+
+/// Makes condition `which` of a start's refusals hold; those of 5 and 6 at two places.
+fn spoil(script: &mut Script, configuration: &mut Configuration, which: u64) {
+    let fields = &mut configuration.fields;
+    match which {
+        0 => fields[script.random.below(2) as usize] = 0,
+        1 => fields[2] = 961 - fields[0],
+        2 => fields[1] = script.random.pick(&[681, 1_000]),
+        3 => (fields[1], fields[5]) = (script.random.pick(&[1, 3, 679]), 1),
+        4 => fields[8] = 0,
+        5 => {
+            fields[22 + script.random.below(8) as usize] = 0;
+            fields[30 + script.random.below(8) as usize] = 0;
+        }
+        6 => configuration.otp[script.random.pick(&[0, 1, 2, 4])] = 16,
+        _ => {
+            let at = script.random.between(6 + 106, 6 + 109) as usize;
+            configuration.otp[ENTRY_BYTES + at] = 0xFF;
+            configuration.otp[2 * ENTRY_BYTES + at] = 0xFF;
+        }
+    }
+}
+
+/// One condition of a start's refusals, alone and with each of the others; then each voltage of an
+/// entry not listed.
+pub(super) fn two_refusals(script: &mut Script) {
+    let plain = configurations::reference(Geometry::small(&mut script.random));
+    script.configure(&plain);
+    let first = script.place % 8;
+    let mut before = plain.clone();
+    for second in 0..8 {
+        let mut configuration = plain.clone();
+        spoil(script, &mut configuration, first);
+        spoil(script, &mut configuration, second);
+        change(script, &before, &configuration);
+        script.start_again(&configuration);
+        before = configuration;
+    }
+    for at in 6 + 106..6 + 110 {
+        let mut configuration = plain.clone();
+        configuration.otp[at] = 0xFF;
+        change(script, &before, &configuration);
+        script.start_again(&configuration);
+        before = configuration;
+    }
+    change(script, &before, &plain);
+    script.start_again(&plain);
+}
+
+/// The lines of what `to` has otherwise than `from`; their tables are of one length.
+fn change(script: &mut Script, from: &Configuration, to: &Configuration) {
+    for (field, &number) in to.fields.iter().enumerate() {
+        if number != from.fields[field] {
+            script.line(number, 11, field as u64);
+        }
+    }
+    for (place, &byte) in to.otp.iter().enumerate() {
+        if byte != from.otp[place] {
+            script.line(byte.into(), 12, place as u64);
+        }
+    }
 }
 
 /// The stages of `0x22` in turn, detections with and without supplies, sensors, temperatures at the
