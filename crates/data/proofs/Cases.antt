@@ -32,7 +32,7 @@ use Rattle.acts.specs.Ram.{WithRam, withRam, onDevice}
 use Rattle.parameter.specs.Parameter.{parameterTaken}
 use Rattle.data.specs.declared.Streamed.{Streamed}
 use Rattle.data.specs.Most.{isStream, mostOf}
-use Rattle.data.specs.Data.{counted, made, going, surplus, upTo, planeFor, put, stepped, outOfRange, ramWritten, byKind, unasked, dataTaken}
+use Rattle.data.specs.Data.{counted, made, going, surplus, upTo, planeFor, put, isInside, stepped, outOfRange, ramWritten, byKind, unasked, dataTaken}
 use Rattle.data.specs.Stream.{leftAs, isStreamed, streamed}
 
 pub goes-on : (d r : Ssd1677) (a b : Active) (bus : Bus) → b ≡ a → bus ≡ withCurrent (d .bus) (current.Active b) → r ≡ withBus d bus
@@ -123,10 +123,11 @@ module _ (byte : ℕ) (a : Active) (w : WithRam) (wrote : Bool) (b d : List ℕ)
       by true m p q = (p ∙ untouched (w .blackWhite) (w .device .regs .counter) byte m, q)
       by false m p q = (p, q ∙ untouched (w .red) (w .device .regs .counter) byte m)
 
-  pub misses : (z : WithRam) → wrote ≡ false
-      → z ≡ going a (a .«extra_reported») true (onDevice stepped (outOfRange a (withRam (w .device) b d (w .log)))) → z ≡ ramWritten byte a w
-  unfolding ramWritten
-  misses z h e = let s = stays h in rw (← found, h) (e ∙ rw (s .0, s .1))
+-- past the RAM
+pub outside : (byte : ℕ) (a : Active) (w z : WithRam) → isInside (planeFor (a .command)) w ≡ false
+    → z ≡ going a (a .«extra_reported») true (onDevice stepped (outOfRange a w)) → z ≡ ramWritten byte a w
+unfolding ramWritten
+outside byte a w z h e = passed _ _ _ _ h e
 
 module _ (byte : ℕ) (w : WithRam) (p : Power) where
   pub reports-unasked : (k : WithLog) → p ≡ Running → k ≡ logged (DataWithoutCommand byte) (withLog (w .device) (w .log))

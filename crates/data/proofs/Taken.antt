@@ -20,10 +20,16 @@ module _ (byte : ℕ) (d : Ssd1677) (b r : List ℕ) (s : Streamed) (e f : List 
       ap (λ (y : Ssd1677). withRam y e f l) k ∙ gives l
       ∙ sym (took (isStreamed d b r (d .bus .current)) _ (withRam d b r l) _ (sym tells ∙ h) refl)
 
-  -- what comes after finds the planes as they were
-  pub not-taken : (v : WithRam) (l : List ℕ) → s .done ≡ false → v ≡ dataTaken byte (withRam d e f l) (d .bus .current)
-      → v ≡ dataTaken byte (withRam d b r l) (d .bus .current)
-  not-taken v l h k =
-      let p : withRam (withPointed d (s .counter) (s .bus)) e f l ≡ withRam d b r l =
-      gives l ∙ sym (passed (isStreamed d b r (d .bus .current)) (dataTaken byte (withRam d b r l) (d .bus .current)) _ _ (sym tells ∙ h) refl) in
-      k ∙ ap (λ (y : WithRam). dataTaken byte (withRam d (y .blackWhite) (y .red) l) (d .bus .current)) p
+  module _ (h : s .done ≡ false) where
+    untouched : (l : List ℕ) → withRam (withPointed d (s .counter) (s .bus)) e f l ≡ withRam d b r l
+    untouched l =
+        gives l
+        ∙ sym (passed (isStreamed d b r (d .bus .current)) (dataTaken byte (withRam d b r l) (d .bus .current)) _ _ (sym tells ∙ h) refl)
+
+    -- what comes after finds the planes as they were
+    pub not-taken : (v : WithRam) (l : List ℕ) → v ≡ dataTaken byte (withRam d e f l) (d .bus .current)
+        → v ≡ dataTaken byte (withRam d b r l) (d .bus .current)
+    not-taken v l k = k ∙ ap (λ (y : WithRam). dataTaken byte (withRam d (y .blackWhite) (y .red) l) (d .bus .current)) (untouched l)
+
+    pub still-not : isStreamed d e f (d .bus .current) ≡ false
+    still-not = ap (λ (y : WithRam). isStreamed d (y .blackWhite) (y .red) (d .bus .current)) (untouched []) ∙ sym tells ∙ h

@@ -270,21 +270,16 @@ pub fn write(
     requires { ⌜ length (now log) ≡ 16384 ⌝ }
     ensures { λ r. ⌜ withRam r (now («black_white» .exit)) (now (red .exit)) (now (log .exit)) ≡ dataTaken byte (withRam state (now («black_white» .entry)) (now (red .entry)) (now (log .entry))) (state .bus .current) ⌝ }
 {
+    let step = stream(state, black_white, red, byte);
+    if step.done {
+        return part::set_pointed(state, step.counter, step.bus);
+    }
     let bus = state.bus;
     let current = bus.current;
     match current {
         Current::Active(active) => {
             let kind = active.kind;
             if is_stream(kind) {
-                let at = state.regs.counter;
-                if put(black_white, red, active.command, at, byte) {
-                    let window = state.regs.window;
-                    let entry = state.regs.entry;
-                    let counter = at.advanced(window, entry);
-                    let next = count(active, active.extra_reported, active.range_reported);
-                    let after = part::set_current(bus, Current::Active(next));
-                    return part::set_pointed(state, counter, after);
-                }
                 return step_outside(state, log, active);
             }
             let most = most_of(kind);
