@@ -19,10 +19,11 @@ use Rattle.guard.specs.Refusals.{guarded, guardedWithTable}
 use Rattle.guard.specs.State.{stateFine}
 use Rattle.query.specs.Outcome.{outcome, unless, stateGuarded}
 use Rattle.query.specs.Queries.{withAmbient, ambientSet, WithCount, withCount, emptied, diagnosticsTaken}
-use Rattle.ssd1677.specs.Calls.{clockMoved, lineTaken, lineMoved}
-use Rattle.ssd1677.specs.Command.{commandTaken, commandWritten}
-use Rattle.ssd1677.specs.Data.{dataIn, dataWritten}
-use Rattle.ssd1677.specs.Read.{WithRead, withRead, readIn, dataRead}
+use Rattle.wait.specs.Wait.{clockMoved}
+use Rattle.res.specs.Line.{lineTaken, lineMoved}
+use Rattle.low.specs.Command.{commandTaken, commandWritten}
+use Rattle.high.specs.Data.{dataIn, dataWritten}
+use Rattle.driven.specs.Read.{WithRead, withRead, readIn, dataRead}
 use Rattle.calls.specs.World.{World, Call, advance, set-reset, write-command, write-data, read-data, set-ambient, take-diagnostics, putDevice, putGlass, putGlassLog, putBuffers, putPlanes, glassOf, glassLogOf, buffersOf, planesOf, lentOf, back, called, taken}
 use Rattle.calls.specs.Sound.{lengthsIn, Sound}
 use Rattle.calls.proofs.Parts.{lengths-pass, has, sound-long}

@@ -24,10 +24,10 @@ use Rattle.reading.specs.Reading.{readTaken}
 use Rattle.reading.proofs.Kept.{read-leaves, current-read}
 use Rattle.power_on.specs.Start.{Buffers, poweredOn, unstarted, Powered, powered, poweredUp, started}
 use Rattle.config.specs.Answer.{isAccepted}
-use Rattle.ssd1677.specs.Calls.{lineTaken}
-use Rattle.ssd1677.specs.Command.{commandTaken}
-use Rattle.ssd1677.specs.Data.{dataIn}
-use Rattle.ssd1677.specs.Read.{readIn}
+use Rattle.res.specs.Line.{lineTaken}
+use Rattle.low.specs.Command.{commandTaken}
+use Rattle.high.specs.Data.{dataIn}
+use Rattle.driven.specs.Read.{readIn}
 use Rattle.stages_laws.proofs.Kept.{either}
 use Rattle.calls.specs.World.{World, Call, advance, set-reset, write-command, write-data, read-data, set-ambient, take-diagnostics, glassOf, lentOf, taken}
 use Rattle.calls.specs.Sound.{inert, UnderWay, Held}

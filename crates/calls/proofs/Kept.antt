@@ -25,11 +25,11 @@ use Rattle.data.specs.Data.{counted}
 use Rattle.data.proofs.Kept.{data-leaves, current-kept}
 use Rattle.reading.specs.Reading.{counted as countedRead}
 use Rattle.reading.proofs.Kept.{read-leaves, current-read}
-use Rattle.ssd1677.specs.Calls.{lineTaken}
-use Rattle.ssd1677.specs.Command.{commandTaken}
-use Rattle.ssd1677.specs.Data.{dataIn}
-use Rattle.ssd1677.specs.Read.{readIn}
-use Rattle.ssd1677.proofs.Passed.{ready-fine}
+use Rattle.res.specs.Line.{lineTaken}
+use Rattle.low.specs.Command.{commandTaken}
+use Rattle.high.specs.Data.{dataIn}
+use Rattle.driven.specs.Read.{readIn}
+use Rattle.entry_laws.proofs.Passed.{ready-fine}
 use Rattle.calls.specs.World.{World, Call, advance, set-reset, write-command, write-data, read-data, set-ambient, take-diagnostics, glassOf, lentOf, taken}
 use Rattle.calls.specs.Sound.{Sound}
 use Rattle.calls.proofs.Parts.{fine-kept, long-kept, sound-fine, sound-long, is-sound}

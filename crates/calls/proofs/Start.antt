@@ -34,10 +34,11 @@ use Rattle.query.specs.Outcome.{outcome, unless, stateGuarded}
 use Rattle.query.specs.Queries.{WithCount, ambientSet, diagnosticsTaken}
 use Rattle.power_on.specs.Start.{Buffers, lengthsIn, bufferTest, allTests, poweredOn, cleared, filled, Powered, poweredUp, started}
 use Rattle.power_on.proofs.Refused.{unstarted-refused}
-use Rattle.ssd1677.specs.Calls.{clockMoved, lineMoved}
-use Rattle.ssd1677.specs.Command.{commandWritten}
-use Rattle.ssd1677.specs.Data.{dataWritten}
-use Rattle.ssd1677.specs.Read.{WithRead, dataRead}
+use Rattle.wait.specs.Wait.{clockMoved}
+use Rattle.res.specs.Line.{lineMoved}
+use Rattle.low.specs.Command.{commandWritten}
+use Rattle.high.specs.Data.{dataWritten}
+use Rattle.driven.specs.Read.{WithRead, dataRead}
 use Rattle.calls.specs.World.{World, worldOf, Call, advance, set-reset, write-command, write-data, read-data, set-ambient, take-diagnostics, putDevice, putGlass, putGlassLog, putBuffers, putPlanes, back, called}
 use Rattle.calls.specs.Sound.{Sound}
 use Rattle.calls.proofs.Parts.{Fine, Long, is-sound}

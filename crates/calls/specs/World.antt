@@ -11,10 +11,11 @@ use Rattle.activation.specs.Activation.{WithBuffers, withBuffers, Lent, lent}
 use Rattle.power_on.specs.Start.{Powered}
 use Rattle.query.specs.Outcome.{Outcome, outcome}
 use Rattle.query.specs.Queries.{withAmbient, ambientSet, WithCount, emptied, diagnosticsTaken}
-use Rattle.ssd1677.specs.Calls.{clockMoved, lineTaken, lineMoved}
-use Rattle.ssd1677.specs.Command.{commandTaken, commandWritten}
-use Rattle.ssd1677.specs.Read.{WithRead, readIn, dataRead}
-use Rattle.ssd1677.specs.Data.{WithPlanes, withPlanes, dataIn, dataWritten}
+use Rattle.wait.specs.Wait.{clockMoved}
+use Rattle.res.specs.Line.{lineTaken, lineMoved}
+use Rattle.low.specs.Command.{commandTaken, commandWritten}
+use Rattle.driven.specs.Read.{WithRead, readIn, dataRead}
+use Rattle.high.specs.Data.{WithPlanes, withPlanes, dataIn, dataWritten}
 
 -- the state and every lent buffer but the table, which no call changes
 pub record World : Type 0 where

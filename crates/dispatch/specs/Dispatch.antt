@@ -7,11 +7,12 @@ use Rattle.clock.specs.Advance.{WithGlass, withGlass}
 use Rattle.reset.specs.Reset.{WithGlassLog, withGlassLog}
 use Rattle.activation.specs.Activation.{WithBuffers, withBuffers, lent}
 use Rattle.query.specs.Outcome.{Outcome, outcome}
-use Rattle.ssd1677.specs.Calls.{clockMoved, lineMoved}
-use Rattle.ssd1677.specs.Command.{commandWritten}
-use Rattle.ssd1677.specs.Data.{WithPlanes, withPlanes, dataWritten}
-use Rattle.ssd1677.specs.Read.{WithRead, dataRead}
-use Rattle.ssd1677.specs.declared.driven.ReadAnswer.{ReadAnswer}
+use Rattle.wait.specs.Wait.{clockMoved}
+use Rattle.res.specs.Line.{lineMoved}
+use Rattle.low.specs.Command.{commandWritten}
+use Rattle.high.specs.Data.{WithPlanes, withPlanes, dataWritten}
+use Rattle.driven.specs.Read.{WithRead, dataRead}
+use Rattle.driven.specs.declared.ReadAnswer.{ReadAnswer}
 use Rattle.query.specs.declared.Answer.{Answer}
 use Rattle.ram.specs.declared.Byte.{Byte}
 use Rattle.ram.specs.declared.Byte.the-variants.{Nothing}

@@ -16,7 +16,7 @@ use Rattle.chip.specs.Close.{WithLog, withLog}
 use Rattle.reset.specs.Reset.{WithGlassLog, withGlassLog}
 use Rattle.activation.specs.Activation.{WithBuffers, withBuffers}
 use Rattle.acts.specs.Ram.{WithRam, withRam}
-use Rattle.ssd1677.specs.Data.{WithPlanes, withPlanes}
+use Rattle.high.specs.Data.{WithPlanes, withPlanes}
 
 -- ---- what the core keeps, as the same bundle with nothing else in it
 abbrev pub plain : Ssd1677 → Ssd1677

@@ -13,11 +13,12 @@ use Rattle.clock.specs.Advance.{advanced}
 use Rattle.device.specs.Parts.{withConfig, withJournal}
 use Rattle.query.specs.Outcome.{Outcome, outcome, unless, stateGuarded}
 use Rattle.query.specs.Queries.{withAmbient, ambientSet, WithCount, withCount, emptied, diagnosticsTaken}
-use Rattle.ssd1677.specs.Calls.{clockMoved, lineTaken, lineMoved}
-use Rattle.ssd1677.specs.Command.{commandTaken, commandWritten}
+use Rattle.wait.specs.Wait.{clockMoved}
+use Rattle.res.specs.Line.{lineTaken, lineMoved}
+use Rattle.low.specs.Command.{commandTaken, commandWritten}
 use Rattle.ram.specs.declared.Byte.the-variants.{Nothing}
-use Rattle.ssd1677.specs.Data.{WithPlanes, dataIn, dataWritten}
-use Rattle.ssd1677.specs.Read.{WithRead, withRead, readIn, dataRead}
+use Rattle.high.specs.Data.{WithPlanes, dataIn, dataWritten}
+use Rattle.driven.specs.Read.{WithRead, withRead, readIn, dataRead}
 use Rattle.calls.specs.World.{World, Call, advance, set-reset, write-command, write-data, read-data, set-ambient, take-diagnostics, putDevice, putGlass, putGlassLog, putBuffers, putPlanes, glassOf, glassLogOf, buffersOf, planesOf, lentOf, back, called, taken}
 use Rattle.calls.specs.Sound.{lengthsIn}
 use Rattle.history.specs.Runs.{Lent, another, its-own, Beside}

@@ -16,10 +16,10 @@ use Rattle.activation.specs.Activation.{WithBuffers, withBuffers, Lent}
 use Rattle.acts.specs.Ram.{WithRam, withRam}
 use Rattle.data.specs.Data.{dataTaken}
 use Rattle.begin.specs.Begin as begin
-use Rattle.ssd1677.specs.Calls.{lineTaken}
-use Rattle.ssd1677.specs.Command.{arrived, commandTaken}
-use Rattle.ssd1677.specs.Data.{WithPlanes, withPlanes, dataIn}
-use Rattle.ssd1677.specs.Read.{readIn}
+use Rattle.res.specs.Line.{lineTaken}
+use Rattle.low.specs.Command.{arrived, commandTaken}
+use Rattle.high.specs.Data.{WithPlanes, withPlanes, dataIn}
+use Rattle.driven.specs.Read.{readIn}
 use Rattle.reading.specs.Reading.{readTaken}
 use Rattle.calls.specs.World.{World, Call, advance, set-reset, write-command, write-data, read-data, set-ambient, take-diagnostics, putGlass, putGlassLog, putBuffers, putPlanes, glassOf, glassLogOf, buffersOf, planesOf, lentOf, taken}
 use Rattle.history.specs.Reckon.{Core, coreOf, bare, stepped}

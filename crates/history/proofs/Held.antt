@@ -16,16 +16,16 @@ use Rattle.device.specs.declared.Ssd1677.{Ssd1677}
 use Rattle.clock.specs.Advance.{WithGlass}
 use Rattle.reset.specs.Reset.{WithGlassLog}
 use Rattle.activation.specs.Activation.{WithBuffers}
-use Rattle.ssd1677.specs.Data.{WithPlanes}
-use Rattle.ssd1677.specs.Read.{WithRead}
+use Rattle.high.specs.Data.{WithPlanes}
+use Rattle.driven.specs.Read.{WithRead}
 use Rattle.power_on.specs.Start.{start, powered, buffers, startAnswerOf, started}
 use Rattle.calls.specs.World.{World, Call, advance, set-reset, write-command, write-data, read-data, set-ambient, take-diagnostics, putDevice, putGlass, putGlassLog, putBuffers, putPlanes, back, called}
 use Rattle.history.specs.Runs.{Beside, Runs, accepted, refused}
-use Rattle.ssd1677.proofs.advance.Reads as advance-reads
-use Rattle.ssd1677.proofs.set_reset.Reads as reset-reads
-use Rattle.ssd1677.proofs.write_command.Reads as command-reads
-use Rattle.ssd1677.proofs.write_data.Reads as data-reads
-use Rattle.ssd1677.proofs.read_data.Reads as read-reads
+use Rattle.wait.proofs.advance.Reads as advance-reads
+use Rattle.res.proofs.set_reset.Reads as reset-reads
+use Rattle.low.proofs.write_command.Reads as command-reads
+use Rattle.high.proofs.write_data.Reads as data-reads
+use Rattle.driven.proofs.read_data.Reads as read-reads
 use Rattle.query.proofs.set_ambient.Reads as ambient-reads
 use Rattle.query.proofs.take_diagnostics.Reads as diagnostics-reads
 use Rattle.power_on.proofs.new.Reads as new-reads

@@ -11,10 +11,10 @@ use Rattle.config.specs.Answer.{isAccepted}
 use Rattle.diagnostic.specs.declared.Journal.{Journal}
 use Rattle.clock.specs.Advance.{advanced}
 use Rattle.power_on.specs.Start.{Buffers, Powered, poweredOn, poweredUp, started}
-use Rattle.ssd1677.specs.Calls.{lineTaken}
-use Rattle.ssd1677.specs.Command.{commandTaken}
-use Rattle.ssd1677.specs.Data.{dataIn}
-use Rattle.ssd1677.specs.Read.{readIn}
+use Rattle.res.specs.Line.{lineTaken}
+use Rattle.low.specs.Command.{commandTaken}
+use Rattle.high.specs.Data.{dataIn}
+use Rattle.driven.specs.Read.{readIn}
 use Rattle.reset.specs.Reset.{WithGlassLog}
 use Rattle.calls.specs.World.{World, Call, advance, set-reset, write-command, write-data, read-data, set-ambient, take-diagnostics, glassOf, glassLogOf, buffersOf, planesOf, lentOf, worldOf, taken}
 use Rattle.history.specs.Reckon.{Core, coreOf, stepped}

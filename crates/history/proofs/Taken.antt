@@ -17,10 +17,10 @@ use Rattle.reset.specs.Reset.{WithGlassLog, onGlass, byLine}
 use Rattle.activation.specs.Activation.{WithBuffers}
 use Rattle.acts.specs.Ram.{withRam}
 use Rattle.begin.specs.Begin as begin
-use Rattle.ssd1677.specs.Calls.{lineTaken}
-use Rattle.ssd1677.specs.Command.{arrived, commandTaken}
-use Rattle.ssd1677.specs.Data.{dataIn}
-use Rattle.ssd1677.specs.Read.{readIn}
+use Rattle.res.specs.Line.{lineTaken}
+use Rattle.low.specs.Command.{arrived, commandTaken}
+use Rattle.high.specs.Data.{dataIn}
+use Rattle.driven.specs.Read.{readIn}
 use Rattle.calls.specs.World.{World, Call, advance, set-reset, write-command, write-data, read-data, set-ambient, take-diagnostics, glassOf, glassLogOf, buffersOf, lentOf, taken}
 use Rattle.history.specs.Reckon.{Core, coreOf, Worked, reached, cutShort, falls, activates, atOnce, stepped, worked, numberOver}
 use Rattle.history.proofs.Blind.{Seen, seenBy, seenGlass, seenBuffers, behind}

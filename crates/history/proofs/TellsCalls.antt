@@ -29,10 +29,10 @@ use Rattle.acts.specs.Ram.{WithRam, withRam}
 use Rattle.data.specs.Data.{dataTaken}
 use Rattle.begin.specs.Begin.{onDevice, onLog, made, run, byKind, isHeldOff, begun}
 use Rattle.reading.specs.Reading.{readTaken}
-use Rattle.ssd1677.specs.Calls.{lineTaken}
-use Rattle.ssd1677.specs.Command.{arrived, commandTaken}
-use Rattle.ssd1677.specs.Data.{WithPlanes, withPlanes, dataIn}
-use Rattle.ssd1677.specs.Read.{readIn}
+use Rattle.res.specs.Line.{lineTaken}
+use Rattle.low.specs.Command.{arrived, commandTaken}
+use Rattle.high.specs.Data.{WithPlanes, withPlanes, dataIn}
+use Rattle.driven.specs.Read.{readIn}
 use Rattle.history.proofs.Blind.{plainGlass, plainGlassLog, plainBuffers, plainPlanes}
 use Rattle.history.proofs.Begun.{blind-advanced, blind-activated}
 use Rattle.history.proofs.Tells.{Bundle, Tells, tells-none, tells-more, tells-by, tells-pick, tells-then}

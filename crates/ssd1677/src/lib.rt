@@ -2,17 +2,10 @@
 // value, the buffers are lent. Time is the host's, an instant in nanoseconds with every call; the chip never reads a clock. What the
 // host must hand over is tested first (document 01, "The host that lends"): a refused call hands back the state as given and alters no
 // byte of any buffer.
-mod driven;
-mod high;
-mod line;
-mod low;
-mod wait;
-
 pub use command::is_read_command;
 pub use driven::ReadAnswer;
 pub use driven::read_data;
 pub use high::write_data;
-pub use line::set_reset;
 pub use low::write_command;
 pub use power_on::new;
 pub use query::set_ambient;
@@ -23,4 +16,5 @@ pub use query_busy::next_deadline;
 pub use query_state::config;
 pub use query_state::dropped_diagnostics;
 pub use query_state::panel_image;
+pub use res::set_reset;
 pub use wait::advance;

@@ -1,0 +1,2 @@
+-- The root of driven's specs.
+pub mod Read

@@ -1,0 +1,2 @@
+-- The laws that the entry points share.
+pub mod Passed

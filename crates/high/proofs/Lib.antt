@@ -1,0 +1,2 @@
+-- The laws of high that belong to no one function.
+pub mod Cases

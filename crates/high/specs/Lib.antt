@@ -1,0 +1,2 @@
+-- The root of high's specs.
+pub mod Data

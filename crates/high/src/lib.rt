@@ -1,0 +1,49 @@
+// A byte with D/C# high (mod.rs, `write_data`).
+ghost use mathlib.Core.Path.{_≡_};
+ghost use Rattle.guard.specs.Refusals.{numberOf};
+ghost use Rattle.query.specs.Outcome.{outcome};
+ghost use Rattle.high.specs.Data.{withPlanes, dataWritten};
+use device::Ssd1677;
+use device::part;
+use query::Answer;
+
+// A byte with D/C# high, written by the MCU. A byte of RAM data, of which a frame has 48,000, is done here at once.
+pub fn write_data(
+    state: Ssd1677,
+    states: &mut [i64],
+    luts: &[u8],
+    pixels: &mut [u8],
+    black_white: &mut [u8],
+    red: &mut [u8],
+    log: &mut [u8],
+    time: u64,
+    byte: u8,
+) -> Answer
+    ensures { λ r. ⌜ outcome (numberOf (r .refusal)) (withPlanes (r .state) (now (states .exit)) (now (pixels .exit)) (now («black_white» .exit)) (now (red .exit)) (now (log .exit))) ≡ dataWritten (now (luts .entry)) time byte (withPlanes state (now (states .entry)) (now (pixels .entry)) (now («black_white» .entry)) (now (red .entry)) (now (log .entry))) ⌝ }
+{
+    let lengths = guard::lengths::planes_log_lent(
+        states.len(),
+        luts.len(),
+        pixels.len(),
+        log.len(),
+        black_white.len(),
+        red.len(),
+    );
+    let refusal = guard::check(state, lengths);
+    if guard::is_accepted(refusal) {
+        let moved = clock::move_clock(state, time);
+        if clock::is_quiet(moved) {
+            let step = data::stream(moved, black_white, red, byte);
+            if step.done {
+                let state = part::set_pointed(moved, step.counter, step.bus);
+                return Answer { refusal, state };
+            }
+            let state = data::write(moved, black_white, red, log, byte);
+            return Answer { refusal, state };
+        }
+        let present = clock::advance(state, states, luts, pixels, time);
+        let state = data::write(present, black_white, red, log, byte);
+        return Answer { refusal, state };
+    }
+    Answer { refusal, state }
+}

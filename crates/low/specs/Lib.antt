@@ -1,0 +1,2 @@
+-- The root of low's specs.
+pub mod Command

@@ -1,0 +1,60 @@
+-- `res::set_reset` meets its contract.
+use Rattle.reset.specs.Reset.{withGlassLog}
+use Rattle.res.proofs.Cases.{line-ready, line-log, line-ready-then, line-moves, line-refused}
+use borrow.Author.Needs.{needs}
+use Rattle.res.proofs.set_reset.Statement.{statement}
+use Rattle.res.proofs.set_reset.Tie as tie
+
+glass-log-lent-requires : tie.Need-glass-log-lent-requires
+glass-log-lent-requires c κs = search needs
+
+check-requires : tie.Need-check-requires
+check-requires c κs = search needs
+
+is-accepted-requires : tie.Need-is-accepted-requires
+is-accepted-requires c κs = search needs
+
+advance-requires : tie.Need-advance-requires
+advance-requires c κs =
+    let s = c .before .before .before .before .before .before .before .before .before .args in
+    line-ready (s .luts .now) (s .time) (s .asserted) (withGlassLog (s .state) (s .states .now) (s .pixels .now) (s .log .now)) _ _ _ (c .before .before .before .before .before .glass-log-lent .ensures) (c .before .before .before .before .check .ensures) (c .before .before .before .is-accepted .ensures) (c .before .before .if1 .taken)
+
+set-line-requires : tie.Need-set-line-requires
+set-line-requires c κs =
+    let s = c .before .before .before .before .before .before .before .before .before .before .before .before .before .before .before .before .args in
+    let given = line-ready-then (s .luts .now) (s .time) (s .asserted) (withGlassLog (s .state) (s .states .now) (s .pixels .now) (s .log .now)) _ _ _ (c .before .before .before .before .before .before .before .before .before .before .before .before .glass-log-lent .ensures) (c .before .before .before .before .before .before .before .before .before .before .before .check .ensures) (c .before .before .before .before .before .before .before .before .before .before .is-accepted .ensures) _ (c .before .before .before .before .before .before .before .before .before .if1 .taken) (c .before .before .before .before .before .before .advance .ensures) in
+    (given, line-log (s .luts .now) (s .time) (s .asserted) (withGlassLog (s .state) (s .states .now) (s .pixels .now) (s .log .now)) _ _ _ (c .before .before .before .before .before .before .before .before .before .before .before .before .glass-log-lent .ensures) (c .before .before .before .before .before .before .before .before .before .before .before .check .ensures) (c .before .before .before .before .before .before .before .before .before .before .is-accepted .ensures) (c .before .before .before .before .before .before .before .before .before .if1 .taken))
+
+same-length : tie.Need-same-length
+same-length c = search needs
+
+same-length-2 : tie.Need-same-length-2
+same-length-2 c = search needs
+
+same-length-3 : tie.Need-same-length-3
+same-length-3 c = search needs
+
+returns : tie.Need-returns
+returns c =
+    let s = c .before .before .before .before .before .before .before .before .before .before .before .before .before .before .before .before .before .before .before .before .before .before .args in
+    line-moves (s .luts .now) (s .time) (s .asserted) (withGlassLog (s .state) (s .states .now) (s .pixels .now) (s .log .now)) _ _ _ (c .before .before .before .before .before .before .before .before .before .before .before .before .before .before .before .before .before .before .glass-log-lent .ensures) (c .before .before .before .before .before .before .before .before .before .before .before .before .before .before .before .before .before .check .ensures) (c .before .before .before .before .before .before .before .before .before .before .before .before .before .before .before .before .is-accepted .ensures) _ _ (c .before .before .before .before .before .before .before .before .before .before .before .before .before .before .before .if1 .taken) (c .before .before .before .before .before .before .before .before .before .before .before .before .advance .ensures) (c .before .before .before .before .before .set-line .ensures)
+
+returns-2 : tie.Need-returns-2
+returns-2 c =
+    let s = c .before .before .before .before .before .before .before .args in
+    line-refused (s .luts .now) (s .time) (s .asserted) (withGlassLog (s .state) (s .states .now) (s .pixels .now) (s .log .now)) _ _ _ (c .before .before .before .glass-log-lent .ensures) (c .before .before .check .ensures) (c .before .is-accepted .ensures) (c .if1 .left)
+
+pub set-reset-spec : {M : Type 1} → statement M
+set-reset-spec =
+    tie.close
+    (tie.spec
+    glass-log-lent-requires
+    check-requires
+    is-accepted-requires
+    advance-requires
+    set-line-requires
+    same-length
+    same-length-2
+    same-length-3
+    returns
+    returns-2)

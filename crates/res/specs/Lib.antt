@@ -1,0 +1,2 @@
+-- The root of res's specs.
+pub mod Line

@@ -1,0 +1,31 @@
+// The reset line (mod.rs, `set_reset`).
+ghost use mathlib.Core.Path.{_≡_};
+ghost use Rattle.guard.specs.Refusals.{numberOf};
+ghost use Rattle.query.specs.Outcome.{outcome};
+ghost use Rattle.reset.specs.Reset.{withGlassLog};
+ghost use Rattle.res.specs.Line.{lineMoved};
+use device::Ssd1677;
+use query::Answer;
+
+// Drives RES#: `asserted` is the line low. Asserting it stops whatever runs (a display keeps what it drove so far) and restores the
+// registers; releasing it wakes a sleeping chip, which stays busy for the hardware-reset time.
+pub fn set_reset(
+    state: Ssd1677,
+    states: &mut [i64],
+    luts: &[u8],
+    pixels: &mut [u8],
+    log: &mut [u8],
+    time: u64,
+    asserted: bool,
+) -> Answer
+    ensures { λ r. ⌜ outcome (numberOf (r .refusal)) (withGlassLog (r .state) (now (states .exit)) (now (pixels .exit)) (now (log .exit))) ≡ lineMoved (now (luts .entry)) time asserted (withGlassLog state (now (states .entry)) (now (pixels .entry)) (now (log .entry))) ⌝ }
+{
+    let lengths = guard::lengths::glass_log_lent(states.len(), luts.len(), pixels.len(), log.len());
+    let refusal = guard::check(state, lengths);
+    if guard::is_accepted(refusal) {
+        let present = clock::advance(state, states, luts, pixels, time);
+        let state = reset::set_line(present, states, luts, pixels, log, asserted);
+        return Answer { refusal, state };
+    }
+    Answer { refusal, state }
+}

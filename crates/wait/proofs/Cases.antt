@@ -1,0 +1,34 @@
+-- The clock: what each return of the code hands over, over plain variables. Assumes nothing.
+use Prim.Native.Nat.{ℕ}
+use mathlib.Core.Path.{_≡_, ap, _∙_}
+use mathlib.Core.Bool.{Bool, true, false}
+use mathlib.Core.List.{List}
+use lib.ListN.{length}
+use Rattle.clock.specs.Advance.{Ready, WithGlass, advanced}
+use Rattle.guard.specs.declared.lengths.Lengths.{Lengths}
+use Rattle.guard.specs.declared.lengths.Lent.the-variants.{Nothing}
+use Rattle.guard.specs.declared.Refusal.{Refusal}
+use Rattle.guard.specs.Lengths.{glassLent}
+use Rattle.guard.specs.Refusals.{numberOf, accepts, guarded}
+use Rattle.query.specs.Outcome.{outcome}
+use Rattle.query.proofs.Cases.{grants, refuses}
+use Rattle.entry_laws.proofs.Passed.{ready-fine, state-passed, lengths-passed}
+use Rattle.wait.specs.Wait.{clockMoved}
+
+module _ (luts : List ℕ) (time : ℕ) (g : WithGlass) (l : Lengths) (r : Refusal) (b : Bool)
+    (lent : l ≡ glassLent (length (g .states)) (length luts) (length (g .pixels))) (is : r ≡ guarded (g .device) l) (t : b ≡ accepts r) where
+  same : r ≡ guarded (g .device) (glassLent (length (g .states)) (length luts) (length (g .pixels)))
+  same = is ∙ ap (guarded (g .device)) lent
+
+  pub clock-ready : b ≡ true → Ready (g .device) (g .states) luts (g .pixels)
+  clock-ready h =
+      ready-fine (g .device) (g .states) luts (g .pixels) Nothing Nothing Nothing Nothing
+      (state-passed (g .device) _ r b same t h) (lengths-passed (g .device) _ r b same t h)
+
+  pub clock-moves : (v : WithGlass) → b ≡ true → v ≡ advanced luts time g → outcome (numberOf r) v ≡ clockMoved luts time g
+  unfolding clockMoved
+  clock-moves v h e = grants r _ same g (advanced luts time g) b v t h e
+
+  pub clock-refused : b ≡ false → outcome (numberOf r) g ≡ clockMoved luts time g
+  unfolding clockMoved
+  clock-refused h = refuses r _ same g (advanced luts time g) b t h

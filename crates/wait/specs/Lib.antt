@@ -1,0 +1,2 @@
+-- The root of wait's specs.
+pub mod Wait

@@ -1,0 +1,13 @@
+-- The call that moves the clock (mod.rs, `advance`): refused, or done.
+use Prim.Native.Nat.{ℕ}
+use mathlib.Core.List.{List}
+use lib.ListN.{length}
+use Rattle.clock.specs.Advance.{WithGlass, advanced}
+use Rattle.guard.specs.Lengths.{glassLent}
+use Rattle.guard.specs.Refusals.{guarded}
+use Rattle.query.specs.Outcome.{Outcome, unless}
+
+-- advance
+unfoldable pub clockMoved : List ℕ → ℕ → WithGlass → Outcome WithGlass
+clockMoved luts time g =
+    unless (guarded (g .device) (glassLent (length (g .states)) (length luts) (length (g .pixels)))) g (advanced luts time g)
