@@ -21,6 +21,7 @@ abbrev pub valueFrom : ℕ → List ℕ → ℕ
 valueFrom n [] = n
 valueFrom n (c ∷ cs) = valueFrom (10 * n + (c - 48)) cs
 
+-- the number that digits in ASCII write
 abbrev pub valueOf : List ℕ → ℕ
 valueOf bytes = valueFrom 0 bytes
 

@@ -12,6 +12,7 @@ unfoldable pub hashFrom : ℕ → List ℕ → ℕ
 hashFrom h [] = h
 hashFrom h (byte ∷ bytes) = hashFrom (stepOf h byte) bytes
 
+-- HASH of a list of bytes (replay-format.md)
 abbrev pub hashOf : List ℕ → ℕ
 hashOf bytes = hashFrom 0 bytes
 
@@ -25,6 +26,7 @@ abbrev pub patternOf : ℤ → ℕ
 patternOf (pos n) = n
 patternOf (negsuc n) = 2 ^ 64 - 1 - n
 
+-- 32 bits as four bytes, the low byte first
 abbrev pub fourOf : ℕ → List ℕ
 fourOf n = n % 256 ∷ n / 256 % 256 ∷ n / 65536 % 256 ∷ n / 16777216 % 256 ∷ []
 

@@ -144,5 +144,6 @@ start a p = record { answer = a; left = p }
 abbrev pub startBy : Ssd1677Config → Buffers → Answer → Start
 startBy c b a = start a (pick (isAccepted a) (poweredUp c b) (powered (unstarted c) b))
 
+-- new: the first test that refuses decides (document 01: 1, 2, 3, 4, 5, 12, 6, 11)
 unfoldable pub started : Ssd1677Config → List ℕ → Buffers → Start
 started c otp b = startBy c b (firstOf (allTests c otp (lengthsIn b)))
