@@ -1,4 +1,3 @@
 -- The laws of activation that belong to no one function.
 pub mod Cases
 pub mod Kept
-pub mod Parts

@@ -1,13 +1,12 @@
-// A command byte, once the clock has moved and the last command is closed (mod.rs, `write_command` and `start_command`).
+// A command that the chip hears, by Table 7-1 (mod.rs, `write_command` and `start_command`).
 ghost use mathlib.Core.Path.{_≡_};
 ghost use Rattle.command.specs.Table.{kindOf};
 ghost use Rattle.activation.specs.Activation.{Activatable, withBuffers, lent};
-ghost use Rattle.begin.specs.Begin.{onDevice, made, run, byKind, begun};
+ghost use Rattle.begin.specs.Begin.{onDevice, made, run, byKind};
 use command::Known;
 use device::Active;
 use device::Current;
 use device::Kind;
-use device::Power;
 use device::Ssd1677;
 use device::part;
 use diagnostic::DiagnosticKind;
@@ -103,7 +102,7 @@ fn accept(
 }
 
 // By what Table 7-1 has for the command; one that it does not have is logged and ignored.
-fn decode(
+pub fn decode(
     state: Ssd1677,
     states: &mut [i64],
     luts: &mut [u8],
@@ -155,48 +154,5 @@ fn decode(
             command,
             kind,
         ),
-    }
-}
-
-// In reset, asleep and while BUSY is high a command is dropped, but for the status read, 0x2F, which a busy chip takes.
-pub fn begin(
-    state: Ssd1677,
-    states: &mut [i64],
-    luts: &mut [u8],
-    pixels: &mut [u8],
-    black_white: &[u8],
-    red: &[u8],
-    gates: &[u16],
-    log: &mut [u8],
-    otp: &[u8],
-    command: u8,
-) -> Ssd1677
-    requires { ⌜ Activatable state (now states) (now luts) (now pixels) (now «black_white») (now red) (now gates) (now log) ⌝ }
-    ensures { λ r. ⌜ withBuffers r (now (states .exit)) (now (luts .exit)) (now (pixels .exit)) (now (log .exit)) ≡ begun (lent (now («black_white» .entry)) (now (red .entry)) (now (gates .entry)) (now (otp .entry))) command (withBuffers state (now (states .entry)) (now (luts .entry)) (now (pixels .entry)) (now (log .entry))) (state .bus .power) ⌝ }
-{
-    let bus = state.bus;
-    let power = bus.power;
-    match power {
-        Power::InReset => chip::report(state, log, DiagnosticKind::WhileInReset { command }),
-        Power::Asleep => chip::report(state, log, DiagnosticKind::WhileAsleep { command }),
-        Power::Running => {
-            let busy_until = bus.busy_until;
-            let is_busy = busy::is_pending(busy_until, state.now);
-            if is_busy & (command != 0x2F) {
-                return chip::report(state, log, DiagnosticKind::WhileBusy { command });
-            }
-            decode(
-                state,
-                states,
-                luts,
-                pixels,
-                black_white,
-                red,
-                gates,
-                log,
-                otp,
-                command,
-            )
-        }
     }
 }

@@ -21,7 +21,7 @@ use Rattle.reset.specs.Reset.{restored, WithGlassLog, withGlassLog, onDevice, o
 use Rattle.activation.specs.Activation.{withBuffers}
 use Rattle.acts.specs.Ram.{withRam}
 use Rattle.reading.specs.Reading.{readTaken}
-use Rattle.reading.proofs.Kept.{read-leaves, current-read}
+use Rattle.reading_laws.proofs.Kept.{read-leaves, current-read}
 use Rattle.power_on.specs.Start.{Buffers, poweredOn, unstarted, Powered, powered, poweredUp, started}
 use Rattle.config.specs.Answer.{isAccepted}
 use Rattle.res.specs.Line.{lineTaken}

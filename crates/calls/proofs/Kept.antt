@@ -19,12 +19,12 @@ use Rattle.reset.specs.Reset.{withGlassLog}
 use Rattle.reset.proofs.Kept.{ready-closed, ready-line}
 use Rattle.activation.specs.Activation.{withBuffers}
 use Rattle.activation.proofs.Kept.{ready-advanced}
-use Rattle.begin.proofs.Kept.{config-begun, swing-begun, states-begun, luts-begun, pixels-begun, log-begun, count-begun, bounded-begun, current-begun}
+use Rattle.begin_laws.proofs.Kept.{config-begun, swing-begun, states-begun, luts-begun, pixels-begun, log-begun, count-begun, bounded-begun, current-begun}
 use Rattle.acts.specs.Ram.{withRam}
 use Rattle.data.specs.Data.{counted}
-use Rattle.data.proofs.Kept.{data-leaves, current-kept}
+use Rattle.data_laws.proofs.Kept.{data-leaves, current-kept}
 use Rattle.reading.specs.Reading.{counted as countedRead}
-use Rattle.reading.proofs.Kept.{read-leaves, current-read}
+use Rattle.reading_laws.proofs.Kept.{read-leaves, current-read}
 use Rattle.res.specs.Line.{lineTaken}
 use Rattle.low.specs.Command.{commandTaken}
 use Rattle.high.specs.Data.{dataIn}

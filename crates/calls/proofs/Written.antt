@@ -18,7 +18,7 @@ use Rattle.device.specs.declared.Power.the-variants.{Running, Asleep, InReset}
 use Rattle.chip.specs.Report.{logged}
 use Rattle.acts.specs.Ram.{WithRam, onDevice, onLog}
 use Rattle.data.specs.Data.{made, going, surplus, upTo, byKind, unasked, dataTaken}
-use Rattle.data.proofs.Kept.{data-leaves}
+use Rattle.data_laws.proofs.Kept.{data-leaves}
 use Rattle.calls.specs.Sound.{takesNone, inert, UnderWay, Held}
 use Rattle.calls.proofs.Clock.{held-still, under-way-kept}
 

@@ -1,4 +1,3 @@
 -- The laws of data that belong to no one function.
 pub mod Cases
-pub mod Kept
 pub mod Taken

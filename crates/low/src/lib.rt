@@ -26,7 +26,7 @@ fn take_command(
 {
     let present = clock::advance(state, states, &luts[..], pixels, time);
     let closed = chip::close::close_command(present, log);
-    begin::begin(
+    admission::begin(
         closed,
         states,
         luts,

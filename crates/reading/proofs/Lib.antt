@@ -1,3 +1,2 @@
 -- The laws of reading that belong to no one function.
 pub mod Cases
-pub mod Kept

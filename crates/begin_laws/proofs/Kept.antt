@@ -32,8 +32,8 @@ use Rattle.start.specs.Start.{withBusyFor, softReset, isPowered, unpowered, sen
 use Rattle.stages_laws.proofs.Kept.{either}
 use Rattle.activation.specs.Activation.{WithBuffers, Lent, activated}
 use Rattle.activation.proofs.Kept.{ready-activated}
-use Rattle.activation.proofs.Parts.{config-activated, swing-activated, states-activated, luts-activated, current-activated, regs-activated, activated-holds}
+use Rattle.activation_laws.proofs.Parts.{config-activated, swing-activated, states-activated, luts-activated, current-activated, regs-activated, activated-holds}
 use Rattle.begin.specs.Begin.{onDevice, putLog, onLog, made, run, byKind, isHeldOff, begun}
 
 -- BUSY high for a span
 abbrev busyThen : ℕ → WithBuffers → WithBuffers

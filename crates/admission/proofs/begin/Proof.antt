@@ -1,9 +1,9 @@
--- `begin::begin` meets its contract.
+-- `admission::begin` meets its contract.
 use Rattle.activation.specs.Activation.{WithBuffers, withBuffers, Lent, lent}
 use Rattle.begin.proofs.Cases.{in-reset, asleep, busy, free}
 use borrow.Author.Needs.{needs}
-use Rattle.begin.proofs.begin.Statement.{statement}
-use Rattle.begin.proofs.begin.Tie as tie
+use Rattle.admission.proofs.begin.Statement.{statement}
+use Rattle.admission.proofs.begin.Tie as tie
 
 -- what is lent and stays as it is
 abbrev kept : tie.Start → Lent

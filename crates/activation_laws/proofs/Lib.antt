@@ -1,0 +1,2 @@
+-- The laws of the master activation.
+pub mod Parts

@@ -1,0 +1,2 @@
+-- The laws of the command byte.
+pub mod Kept

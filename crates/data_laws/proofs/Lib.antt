@@ -1,0 +1,2 @@
+-- The laws of the data bytes.
+pub mod Kept

@@ -1,0 +1,2 @@
+-- The laws of a read.
+pub mod Kept
