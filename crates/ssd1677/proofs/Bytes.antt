@@ -22,12 +22,12 @@ use Rattle.activation.proofs.Kept.{ready-advanced}
 use Rattle.begin.specs.Begin.{begun}
 use Rattle.acts.specs.Ram.{WithRam, withRam}
 use Rattle.data.specs.Data.{dataTaken}
-use Rattle.guard.specs.declared.lengths.Lengths.{Lengths}
-use Rattle.guard.specs.declared.lengths.Lent.the-variants.{Nothing, Of}
+use Rattle.guard_lengths.specs.declared.Lengths.{Lengths}
+use Rattle.guard_lengths.specs.declared.Lent.the-variants.{Nothing, Of}
 use Rattle.guard.specs.declared.Refusal.{Refusal}
-use Rattle.guard.specs.Lengths.{planesLogLent, allLent}
+use Rattle.guard_lengths.specs.Lengths.{planesLogLent, allLent}
 use Rattle.guard.specs.Refusals.{numberOf, accepts, guarded, guardedWithTable}
-use Rattle.guard.proofs.Accepted.{fine-state, fine-lengths}
+use Rattle.guard_laws.proofs.Accepted.{fine-state, fine-lengths}
 use Rattle.query.specs.Outcome.{outcome}
 use Rattle.query.proofs.Cases.{grants, refuses}
 use Rattle.ssd1677.specs.Command.{commandTaken, commandWritten}
