@@ -5,10 +5,10 @@ use Rattle.config.specs.declared.Ssd1677Config.{Ssd1677Config}
 use Rattle.power_on.specs.Start.{Start, buffers, powered, started}
 use Rattle.dispatch.specs.Dispatch.{world}
 use Rattle.traffic.specs.Traffic.{eventAt, shortest}
-use Rattle.bench.specs.Whole.{configOf}
-use Rattle.bench.proofs.Events.{ran-on}
-use Rattle.bench.proofs.proved_traffic.Statement.{statement}
-use Rattle.bench.proofs.proved_traffic.Tie as tie
+use Rattle.bench_device.specs.Whole.{configOf}
+use Rattle.bench_device.proofs.Events.{ran-on}
+use Rattle.bench_device.proofs.proved_traffic.Statement.{statement}
+use Rattle.bench_device.proofs.proved_traffic.Tie as tie
 
 config-of-requires : tie.Need-config-of-requires
 config-of-requires c κs = search needs

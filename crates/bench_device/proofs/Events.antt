@@ -6,8 +6,8 @@ use Rattle.event.specs.declared.Event.{Event}
 use Rattle.power_on.specs.Start.{buffers, Powered}
 use Rattle.dispatch.specs.Dispatch.{World}
 use Rattle.traffic.specs.Traffic.{fed, made, feeding}
 use Rattle.bench.specs.Made.{headerOf}
-use Rattle.bench.specs.Whole.{ran, worldOf, ranOf, ranFrom}
+use Rattle.bench_device.specs.Whole.{ran, worldOf, ranOf, ranFrom}
 
 pub ran-on : (otp : List ℕ) (event : ℕ → Event) (n : ℕ) (p q : Powered) (left : World) {number count : ℕ} {header : List ℕ}
     → q ≡ p → fed number count left ≡ feeding (made (q .buffers .gates) otp event) n 0 (worldOf q) → header ≡ headerOf (left .device .panel .image)

@@ -1,11 +1,11 @@
 // The whole device: the configuration that it is started with.
-use crate::made;
+use bench::made;
 use config::ExternalSensor;
 use config::Ssd1677Config;
 use config::Ssd1677Timing;
 use glass::Optics;
 ghost use mathlib.Core.Path.{_≡_};
-ghost use Rattle.bench.specs.Whole.{configOf};
+ghost use Rattle.bench_device.specs.Whole.{configOf};
 
 // A panel of a size, wired as the GDEQ0426T82, at 25 °C on a 3.3 V supply.
 pub(crate) fn config_of(width: u16, height: u16) -> Ssd1677Config

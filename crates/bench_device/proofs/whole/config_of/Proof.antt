@@ -1,8 +1,8 @@
 -- `config_of` meets its contract.
 use mathlib.Core.Path.{refl}
 use borrow.Author.Needs.{needs}
-use Rattle.bench.proofs.whole.config_of.Statement.{statement}
-use Rattle.bench.proofs.whole.config_of.Tie as tie
+use Rattle.bench_device.proofs.whole.config_of.Statement.{statement}
+use Rattle.bench_device.proofs.whole.config_of.Tie as tie
 
 geometry-of-requires : tie.Need-geometry-of-requires
 geometry-of-requires c κs = search needs
