@@ -1,6 +1,6 @@
-//! Times the proved functions of crates/bench beside the reference, or compares the two on many
-//! panels: two programs, so that nothing is put behind the text of a reference that is timed. The
-//! reference names this module `tests`.
+//! Times the proved functions of crates/bench and crates/bench_device beside the reference, or
+//! compares the two on many panels: two programs, so that nothing is put behind the text of a
+//! reference that is timed. The reference names this module `tests`.
 
 #[cfg(time)]
 mod beside;

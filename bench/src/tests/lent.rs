@@ -1,4 +1,4 @@
-//! A device of crates/bench with the buffers that it is lent, run through a list of events.
+//! A device of crates/bench_device with the buffers that it is lent, run through a list of events.
 
 use super::proved::Published;
 use super::traffic::Events;

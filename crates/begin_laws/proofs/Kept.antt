@@ -21,8 +21,8 @@ use Rattle.command.specs.declared.Known.{Known}
 use Rattle.command.specs.declared.Known.the-variants.{Of, Unknown}
 use Rattle.command.specs.Table.{kindOf}
 use Rattle.registers.proofs.Bounds.{Bounded, reset-bounded}
-use Rattle.guard.specs.Kinds.{currentFine}
-use Rattle.guard.proofs.SameKind.{active-fine}
+use Rattle.guard_kinds.specs.Kinds.{currentFine}
+use Rattle.guard_kinds.proofs.SameKind.{active-fine}
 use Rattle.clock.specs.Advance.{Ready}
 use Rattle.chip.specs.Close.{WithLog, withLog}
 use Rattle.chip.specs.Report.{logged}

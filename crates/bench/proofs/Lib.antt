@@ -2,4 +2,3 @@
 pub mod Passed
 pub mod Decoded
 pub mod Runs
-pub mod Events

@@ -2,4 +2,3 @@
 pub mod Asked
 pub mod Made
 pub mod Runs
-pub mod Whole

@@ -6,9 +6,8 @@ use ram::Window;
 
 mod asked;
 mod display;
-mod made;
+pub mod made;
 mod memory;
-mod whole;
 
 ghost use mathlib.Core.Path.{_≡_};
 ghost use lib.ListN.{length};
@@ -22,9 +21,6 @@ ghost use Rattle.panel.specs.Pixels.{grays};
 ghost use Rattle.panel.specs.Finish.{settingTransfer, glass, ending, finished};
 ghost use Rattle.bench.specs.Asked.{grayable, walkable, scannable, finishable};
 ghost use Rattle.bench.specs.Runs.{run, ranOn, counterOf, windowOf, entryOf};
-ghost use Rattle.power_on.specs.Start.{buffers, started};
-ghost use Rattle.traffic.specs.Traffic.{eventAt, shortest};
-ghost use Rattle.bench.specs.Whole.{configOf, ran, ranFrom};
 ghost use Rattle.bench.specs.Made.{untilOf, numbersOf, geometryOf, scanOf, panelOf, displayOf, shown, shownOf};
 
 // The grey of each state.
@@ -214,56 +210,4 @@ pub extern "C" fn proved_write(
     };
     let last = memory::write_all(&mut plane[..], bytes, first, bounds, Entry(mode));
     *counter = [last.x, last.y];
-}
-
-// A device started and fed with events; how many of them were made. The header is that of the image it then shows. After a refused start
-// none is made.
-#[no_mangle]
-pub extern "C" fn proved_traffic(
-    states: &mut [i64],
-    luts: &mut [u8],
-    pixels: &mut [u8],
-    black_white: &mut [u8],
-    red: &mut [u8],
-    gates: &mut [u16],
-    log: &mut [u8],
-    otp: &[u8],
-    width: u16,
-    height: u16,
-    kinds: &[u8],
-    times: &[u64],
-    values: &[u8],
-    header: &mut [u64; 8],
-) -> usize
-    ensures { λ r. ⌜ ran r (now (header .exit)) (buffers (now (states .exit)) (now (luts .exit)) (now (pixels .exit)) (now («black_white» .exit)) (now (red .exit)) (now (gates .exit)) (now (log .exit))) ≡ ranFrom (now (otp .entry)) (eventAt (now (kinds .entry)) (now (times .entry)) (now (values .entry))) (shortest (now (kinds .entry)) (now (times .entry)) (now (values .entry))) (started (configOf width height) (now (otp .entry)) (buffers (now (states .entry)) (now (luts .entry)) (now (pixels .entry)) (now («black_white» .entry)) (now (red .entry)) (now (gates .entry)) (now (log .entry))) .left) ⌝ }
-{
-    let started = power_on::new(
-        whole::config_of(width, height),
-        &mut states[..],
-        &mut luts[..],
-        &mut pixels[..],
-        &mut black_white[..],
-        &mut red[..],
-        &mut gates[..],
-        &mut log[..],
-        otp,
-    );
-    let fed = traffic::feed(
-        started.state,
-        &mut states[..],
-        &mut luts[..],
-        &mut pixels[..],
-        &mut black_white[..],
-        &mut red[..],
-        &gates[..],
-        &mut log[..],
-        otp,
-        kinds,
-        times,
-        values,
-    );
-    let state = fed.state;
-    let image = state.panel.image;
-    *header = made::header_of(image);
-    fed.made
 }

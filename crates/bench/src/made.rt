@@ -20,7 +20,7 @@ pub(crate) fn until_of(cut: bool, until: u64) -> Until
     Until::Whole
 }
 
-pub(crate) fn geometry_of(
+pub fn geometry_of(
     width: u16,
     height: u16,
     first_source: u16,
@@ -111,7 +111,7 @@ fn kind_number(kind: RefreshKind) -> u64
 }
 
 // An image's header as numbers.
-pub(crate) fn header_of(image: PanelImage) -> [u64; 8]
+pub fn header_of(image: PanelImage) -> [u64; 8]
     ensures { λ r. ⌜ r ≡ headerOf image ⌝ }
 {
     let kind = image.kind;

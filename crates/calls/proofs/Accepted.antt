@@ -9,14 +9,14 @@ use Rattle.ram.specs.declared.Byte.the-variants.{Nothing as none}
 use Rattle.device.specs.declared.Ssd1677.{Ssd1677}
 use Rattle.device.specs.Parts.{withConfig, withJournal}
 use Rattle.clock.specs.Advance.{advanced}
-use Rattle.guard.specs.declared.lengths.Lengths.{Lengths}
-use Rattle.guard.specs.declared.lengths.Lent.{Lent}
-use Rattle.guard.specs.declared.lengths.Lent.the-variants.{Nothing, Of}
+use Rattle.guard_lengths.specs.declared.Lengths.{Lengths}
+use Rattle.guard_lengths.specs.declared.Lent.{Lent}
+use Rattle.guard_lengths.specs.declared.Lent.the-variants.{Nothing, Of}
 use Rattle.guard.specs.declared.Refusal.{Refusal}
 use Rattle.guard.specs.declared.Refusal.the-variants.{Accepted}
-use Rattle.guard.specs.Lengths.{planeBytes, logBytes, fits, lengthsFit, lengthsOf, glassLent, glassLogLent, planesLogLent}
+use Rattle.guard_lengths.specs.Lengths.{planeBytes, logBytes, fits, lengthsFit, lengthsOf, glassLent, glassLogLent, planesLogLent}
 use Rattle.guard.specs.Refusals.{guarded, guardedWithTable}
-use Rattle.guard.specs.State.{stateFine}
+use Rattle.guard_state.specs.State.{stateFine}
 use Rattle.query.specs.Outcome.{outcome, unless, stateGuarded}
 use Rattle.query.specs.Queries.{withAmbient, ambientSet, WithCount, withCount, emptied, diagnosticsTaken}
 use Rattle.wait.specs.Wait.{clockMoved}

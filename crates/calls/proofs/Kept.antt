@@ -10,8 +10,8 @@ use Rattle.device.specs.declared.Active as the
 use Rattle.device.specs.declared.Current.{Current}
 use Rattle.device.specs.declared.Current.the-variants.{Ignoring, Active}
 use Rattle.registers.proofs.Bounds.{Bounded}
-use Rattle.guard.specs.declared.lengths.Lent.the-variants.{Of}
-use Rattle.guard.specs.Kinds.{currentFine}
+use Rattle.guard_lengths.specs.declared.Lent.the-variants.{Of}
+use Rattle.guard_kinds.specs.Kinds.{currentFine}
 use Rattle.clock.specs.Advance.{Ready, WithGlass, advanced}
 use Rattle.chip.specs.Close.{withLog, closed}
 use Rattle.clock.proofs.Arrived.{config-advanced, swing-advanced, regs-advanced, journal-advanced, current-advanced, states-advanced}

@@ -17,7 +17,7 @@ use Rattle.device.specs.declared.Current.the-variants.{Idle, Ignoring, Active}
 use Rattle.device.specs.declared.Power.{Power}
 use Rattle.device.specs.declared.Power.the-variants.{Running, Asleep, InReset}
 use Rattle.registers.proofs.Bounds.{Bounded, reset-bounded}
-use Rattle.guard.specs.Kinds.{currentFine}
+use Rattle.guard_kinds.specs.Kinds.{currentFine}
 use Rattle.chip.specs.Close.{expectedOf, missing, WithLog, withLog, entriesOf, closed}
 use Rattle.chip.specs.Report.{logged}
 use Rattle.moment.proofs.Current.{current-busy}

@@ -10,14 +10,14 @@ use Rattle.config.specs.declared.Ssd1677Timing.{Ssd1677Timing}
 use Rattle.otp.specs.Table.{badTable}
 use Rattle.device.specs.declared.Ssd1677.{Ssd1677}
 use Rattle.registers.proofs.Bounds.{Bounded}
-use Rattle.guard.specs.declared.lengths.Lent.{Lent}
-use Rattle.guard.specs.declared.lengths.Lent.the-variants.{Of}
-use Rattle.guard.specs.Kinds.{currentFine}
-use Rattle.guard.specs.Lengths.{planeBytes, logBytes, pixelsOf, fits, lengthsFit, lengthsOf}
-use Rattle.guard.specs.State.{panelFine, swingFine, periodsFine, registersFine, countFine, stateFine}
-use Rattle.guard.proofs.Joined.{each}
-use Rattle.guard.proofs.Accepted.{fine-registers, fine-lengths}
-use Rattle.guard.proofs.Kept.{registers-pass, state-passes}
+use Rattle.guard_lengths.specs.declared.Lent.{Lent}
+use Rattle.guard_lengths.specs.declared.Lent.the-variants.{Of}
+use Rattle.guard_kinds.specs.Kinds.{currentFine}
+use Rattle.guard_lengths.specs.Lengths.{planeBytes, logBytes, pixelsOf, fits, lengthsFit, lengthsOf}
+use Rattle.guard_state.specs.State.{panelFine, swingFine, periodsFine, registersFine, countFine, stateFine}
+use Rattle.guard_laws.proofs.Joined.{each}
+use Rattle.guard_laws.proofs.Accepted.{fine-registers, fine-lengths}
+use Rattle.guard_laws.proofs.Kept.{registers-pass, state-passes}
 use Rattle.calls.specs.World.{World}
 use Rattle.calls.specs.Sound.{lengthsIn, Sound}
 

@@ -23,13 +23,13 @@ use Rattle.device.specs.declared.Ssd1677.{Ssd1677}
 use Rattle.registers.proofs.Bounds.{reset-bounded}
 use Rattle.guard.specs.declared.Refusal.{Refusal}
 use Rattle.guard.specs.declared.Refusal.the-variants.{State}
-use Rattle.guard.specs.declared.lengths.Lengths.{Lengths}
-use Rattle.guard.specs.Kinds.{currentFine}
-use Rattle.guard.specs.Lengths.{lengthsFit}
+use Rattle.guard_lengths.specs.declared.Lengths.{Lengths}
+use Rattle.guard_kinds.specs.Kinds.{currentFine}
+use Rattle.guard_lengths.specs.Lengths.{lengthsFit}
 use Rattle.guard.specs.Refusals.{guarded, guardedWithTable}
-use Rattle.guard.specs.State.{swingFine, stateFine}
-use Rattle.guard.proofs.Accepted.{none-refuses, FineLengths, fine-lengths}
-use Rattle.guard.proofs.Started.{both, started-panel, started-swing, started-periods, started-table}
+use Rattle.guard_state.specs.State.{swingFine, stateFine}
+use Rattle.guard_laws.proofs.Accepted.{none-refuses, FineLengths, fine-lengths}
+use Rattle.guard_laws.proofs.Started.{both, started-panel, started-swing, started-periods, started-table}
 use Rattle.query.specs.Outcome.{outcome, unless, stateGuarded}
 use Rattle.query.specs.Queries.{WithCount, ambientSet, diagnosticsTaken}
 use Rattle.power_on.specs.Start.{Buffers, lengthsIn, bufferTest, allTests, poweredOn, cleared, filled, Powered, poweredUp, started}

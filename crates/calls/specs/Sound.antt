@@ -14,9 +14,9 @@ use Rattle.device.specs.declared.Kind.the-variants.{Write, Read, Unsupported, R
 use Rattle.device.specs.declared.Params.the-variants.{Exactly, Between, Stream}
 use Rattle.device.specs.declared.Power.the-variants.{Running}
 use Rattle.device.specs.declared.Ssd1677.{Ssd1677}
-use Rattle.guard.specs.declared.lengths.Lengths.{Lengths}
-use Rattle.guard.specs.Lengths.{lengthsFit, allLent}
-use Rattle.guard.specs.State.{stateFine}
+use Rattle.guard_lengths.specs.declared.Lengths.{Lengths}
+use Rattle.guard_lengths.specs.Lengths.{lengthsFit, allLent}
+use Rattle.guard_state.specs.State.{stateFine}
 use Rattle.calls.specs.World.{World}
 
 -- the lengths of all that is lent

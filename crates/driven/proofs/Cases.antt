@@ -9,10 +9,10 @@ use Rattle.clock.specs.Advance.{Ready, WithGlass, withGlass, advanced}
 use Rattle.chip.specs.Close.{withLog}
 use Rattle.reset.specs.Reset.{WithGlassLog, withGlassLog}
 use Rattle.reading.specs.Reading.{WithByte, readTaken}
-use Rattle.guard.specs.declared.lengths.Lengths.{Lengths}
-use Rattle.guard.specs.declared.lengths.Lent.the-variants.{Nothing as none, Of}
+use Rattle.guard_lengths.specs.declared.Lengths.{Lengths}
+use Rattle.guard_lengths.specs.declared.Lent.the-variants.{Nothing as none, Of}
 use Rattle.guard.specs.declared.Refusal.{Refusal}
-use Rattle.guard.specs.Lengths.{planesLogLent}
+use Rattle.guard_lengths.specs.Lengths.{planesLogLent}
 use Rattle.guard.specs.Refusals.{numberOf, accepts, guarded}
 use Rattle.query.specs.Outcome.{outcome}
 use Rattle.query.proofs.Cases.{grants, refuses}

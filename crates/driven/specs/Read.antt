@@ -8,7 +8,7 @@ use Rattle.clock.specs.Advance.{withGlass, advanced}
 use Rattle.chip.specs.Close.{withLog}
 use Rattle.reset.specs.Reset.{WithGlassLog, withGlassLog}
 use Rattle.reading.specs.Reading.{readTaken}
-use Rattle.guard.specs.Lengths.{planesLogLent}
+use Rattle.guard_lengths.specs.Lengths.{planesLogLent}
 use Rattle.guard.specs.Refusals.{guarded}
 use Rattle.query.specs.Outcome.{Outcome, unless}
 

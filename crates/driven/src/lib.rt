@@ -28,7 +28,7 @@ pub fn read_data(
 ) -> ReadAnswer
     ensures { λ r. ⌜ outcome (numberOf (r .refusal)) (withRead (withGlassLog (r .state) (now (states .exit)) (now (pixels .exit)) (now (log .exit))) (r .byte)) ≡ dataRead (now (luts .entry)) (now («black_white» .entry)) (now (red .entry)) time (withGlassLog state (now (states .entry)) (now (pixels .entry)) (now (log .entry))) ⌝ }
 {
-    let lengths = guard::lengths::planes_log_lent(
+    let lengths = guard_lengths::planes_log_lent(
         states.len(),
         luts.len(),
         pixels.len(),

@@ -8,15 +8,15 @@ use lib.IntN.{ℤ}
 use lib.ListN.{length}
 use Rattle.clock.specs.Advance.{Ready}
 use Rattle.device.specs.declared.Ssd1677.{Ssd1677}
-use Rattle.guard.specs.declared.lengths.Lengths.{Lengths}
-use Rattle.guard.specs.declared.lengths.Lent.{Lent}
-use Rattle.guard.specs.declared.lengths.Lent.the-variants.{Of}
+use Rattle.guard_lengths.specs.declared.Lengths.{Lengths}
+use Rattle.guard_lengths.specs.declared.Lent.{Lent}
+use Rattle.guard_lengths.specs.declared.Lent.the-variants.{Of}
 use Rattle.guard.specs.declared.Refusal.{Refusal}
 use Rattle.guard.specs.declared.Refusal.the-variants.{Accepted, Buffer, Table, State}
-use Rattle.guard.specs.Lengths.{lengthsFit, lengthsOf}
-use Rattle.guard.specs.State.{stateFine}
+use Rattle.guard_lengths.specs.Lengths.{lengthsFit, lengthsOf}
+use Rattle.guard_state.specs.State.{stateFine}
 use Rattle.guard.specs.Refusals.{accepts, guarded, guardedWithTable}
-use Rattle.guard.proofs.Accepted.{accepted-state, accepted-lengths, table-state, table-lengths, fine-state, fine-lengths}
+use Rattle.guard_laws.proofs.Accepted.{accepted-state, accepted-lengths, table-state, table-lengths, fine-state, fine-lengths}
 
 never : false ≡ true → ⊥
 never e = let z : _≡_ {A = ℕ} 0 1 = cc in omega arith

@@ -5,11 +5,11 @@ use mathlib.Core.List.{List}
 use Rattle.numbers.specs.Choice.{pick}
 use Rattle.otp.specs.Table.{badTable}
 use Rattle.device.specs.declared.Ssd1677.{Ssd1677}
-use Rattle.guard.specs.declared.lengths.Lengths.{Lengths}
+use Rattle.guard_lengths.specs.declared.Lengths.{Lengths}
 use Rattle.guard.specs.declared.Refusal.{Refusal}
 use Rattle.guard.specs.declared.Refusal.the-variants.{Accepted, Buffer, Table, State}
-use Rattle.guard.specs.State.{stateFine}
-use Rattle.guard.specs.Lengths.{lengthsFit}
+use Rattle.guard_state.specs.State.{stateFine}
+use Rattle.guard_lengths.specs.Lengths.{lengthsFit}
 
 -- document 01's number of a refusal, 0 for none
 abbrev pub numberOf : Refusal → ℕ

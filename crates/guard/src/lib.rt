@@ -3,11 +3,7 @@
 ghost use mathlib.Core.Path.{_≡_};
 ghost use Rattle.guard.specs.Refusals.{accepts, numberOf, guarded, guardedWithTable};
 use device::Ssd1677;
-use lengths::Lengths;
-
-pub mod kinds;
-pub mod lengths;
-pub mod state;
+use guard_lengths::Lengths;
 
 // Why a call was refused.
 pub enum Refusal {
@@ -48,8 +44,8 @@ pub fn check(state: Ssd1677, lengths: Lengths) -> Refusal
     ensures { λ r. ⌜ r ≡ guarded state lengths ⌝ }
 {
     let config = state.config;
-    let fine = state::state_is_fine(state);
-    let fit = lengths::lengths_fit(config.panel, lengths);
+    let fine = guard_state::state_is_fine(state);
+    let fit = guard_lengths::lengths_fit(config.panel, lengths);
     if !fine {
         return Refusal::State;
     }

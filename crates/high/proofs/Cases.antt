@@ -10,10 +10,10 @@ use Rattle.clock.specs.Advance.{Ready, WithGlass, withGlass, isQuiet, advanced}
 use Rattle.clock.proofs.Cases.{rests}
 use Rattle.acts.specs.Ram.{WithRam, withRam}
 use Rattle.data.specs.Data.{dataTaken}
-use Rattle.guard.specs.declared.lengths.Lengths.{Lengths}
-use Rattle.guard.specs.declared.lengths.Lent.the-variants.{Nothing, Of}
+use Rattle.guard_lengths.specs.declared.Lengths.{Lengths}
+use Rattle.guard_lengths.specs.declared.Lent.the-variants.{Nothing, Of}
 use Rattle.guard.specs.declared.Refusal.{Refusal}
-use Rattle.guard.specs.Lengths.{planesLogLent}
+use Rattle.guard_lengths.specs.Lengths.{planesLogLent}
 use Rattle.guard.specs.Refusals.{numberOf, accepts, guarded}
 use Rattle.query.specs.Outcome.{outcome}
 use Rattle.query.proofs.Cases.{grants, refuses}

@@ -7,7 +7,7 @@ use Rattle.device.specs.declared.Ssd1677.{Ssd1677}
 use Rattle.clock.specs.Advance.{WithGlass, withGlass, advanced}
 use Rattle.acts.specs.Ram.{WithRam, withRam}
 use Rattle.data.specs.Data.{dataTaken}
-use Rattle.guard.specs.Lengths.{planesLogLent}
+use Rattle.guard_lengths.specs.Lengths.{planesLogLent}
 use Rattle.guard.specs.Refusals.{guarded}
 use Rattle.query.specs.Outcome.{Outcome, unless}
 

@@ -21,7 +21,7 @@ pub fn write_data(
 ) -> Answer
     ensures { λ r. ⌜ outcome (numberOf (r .refusal)) (withPlanes (r .state) (now (states .exit)) (now (pixels .exit)) (now («black_white» .exit)) (now (red .exit)) (now (log .exit))) ≡ dataWritten (now (luts .entry)) time byte (withPlanes state (now (states .entry)) (now (pixels .entry)) (now («black_white» .entry)) (now (red .entry)) (now (log .entry))) ⌝ }
 {
-    let lengths = guard::lengths::planes_log_lent(
+    let lengths = guard_lengths::planes_log_lent(
         states.len(),
         luts.len(),
         pixels.len(),

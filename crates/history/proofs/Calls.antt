@@ -7,7 +7,7 @@ use native.Mathlib.Omega.{arith}
 use lib.ListN.{length}
 use Rattle.guard.specs.declared.Refusal.{Refusal}
 use Rattle.guard.specs.declared.Refusal.the-variants.{Accepted, Buffer, Table, State}
-use Rattle.guard.specs.Lengths.{glassLent, glassLogLent, planesLogLent}
+use Rattle.guard_lengths.specs.Lengths.{glassLent, glassLogLent, planesLogLent}
 use Rattle.guard.specs.Refusals.{guarded, guardedWithTable}
 use Rattle.clock.specs.Advance.{advanced}
 use Rattle.device.specs.Parts.{withConfig, withJournal}

@@ -19,8 +19,8 @@ use Rattle.config.specs.declared.Ssd1677Config.{Ssd1677Config}
 use Rattle.config.specs.Answer.{Test, isAccepted, firstOf}
 use Rattle.otp.specs.Table.{startTests}
 use Rattle.panel.specs.Start as panel
-use Rattle.guard.specs.Lengths.{lengthsFit}
-use Rattle.guard.proofs.Accepted.{none-refuses, fine-lengths}
+use Rattle.guard_lengths.specs.Lengths.{lengthsFit}
+use Rattle.guard_laws.proofs.Accepted.{none-refuses, fine-lengths}
 use Rattle.power_on.specs.Start.{Buffers, Powered, lengthsIn, bufferTest, allTests, poweredOn, filled, poweredUp, started}
 use Rattle.power_on.proofs.Cases.{swings}
 use Rattle.calls.specs.World.{worldOf}

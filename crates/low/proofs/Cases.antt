@@ -18,12 +18,12 @@ use Rattle.activation.specs.Display.{Startable}
 use Rattle.activation.specs.Activation.{WithBuffers, withBuffers, Lent, Activatable}
 use Rattle.activation.proofs.Kept.{ready-advanced}
 use Rattle.begin.specs.Begin.{begun}
-use Rattle.guard.specs.declared.lengths.Lengths.{Lengths}
-use Rattle.guard.specs.declared.lengths.Lent.the-variants.{Of}
+use Rattle.guard_lengths.specs.declared.Lengths.{Lengths}
+use Rattle.guard_lengths.specs.declared.Lent.the-variants.{Of}
 use Rattle.guard.specs.declared.Refusal.{Refusal}
-use Rattle.guard.specs.Lengths.{allLent}
+use Rattle.guard_lengths.specs.Lengths.{allLent}
 use Rattle.guard.specs.Refusals.{numberOf, accepts, guardedWithTable}
-use Rattle.guard.proofs.Accepted.{fine-state, fine-lengths}
+use Rattle.guard_laws.proofs.Accepted.{fine-state, fine-lengths}
 use Rattle.query.specs.Outcome.{outcome}
 use Rattle.query.proofs.Cases.{grants, refuses}
 use Rattle.low.specs.Command.{commandTaken, commandWritten}

@@ -5,7 +5,7 @@ use Rattle.clock.specs.Advance.{WithGlass, withGlass, advanced}
 use Rattle.chip.specs.Close.{closed}
 use Rattle.activation.specs.Activation.{WithBuffers, withBuffers, Lent}
 use Rattle.begin.specs.Begin.{onLog, begun}
-use Rattle.guard.specs.Lengths.{allLent}
+use Rattle.guard_lengths.specs.Lengths.{allLent}
 use Rattle.guard.specs.Refusals.{guardedWithTable}
 use Rattle.query.specs.Outcome.{Outcome, unless}
 

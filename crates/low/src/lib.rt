@@ -56,7 +56,7 @@ pub fn write_command(
 ) -> Answer
     ensures { λ r. ⌜ outcome (numberOf (r .refusal)) (withBuffers (r .state) (now (states .exit)) (now (luts .exit)) (now (pixels .exit)) (now (log .exit))) ≡ commandWritten (lent (now («black_white» .entry)) (now (red .entry)) (now (gates .entry)) (now (otp .entry))) time command (withBuffers state (now (states .entry)) (now (luts .entry)) (now (pixels .entry)) (now (log .entry))) ⌝ }
 {
-    let lengths = guard::lengths::all_lent(
+    let lengths = guard_lengths::all_lent(
         states.len(),
         luts.len(),
         pixels.len(),

@@ -2,7 +2,7 @@
 use mathlib.Core.Path.{_≡_, refl}
 use mathlib.Core.Bool.{Bool, true, false, _&&_}
 use Rattle.config.specs.declared.Ssd1677Config.{Ssd1677Config}
-use Rattle.guard.specs.State.{panelFine, stateFine}
+use Rattle.guard_state.specs.State.{panelFine, stateFine}
 use Rattle.power_on.specs.Start.{unstarted}
 
 one-fails : (a b c d e : Bool) → a && false && b && c && d && e ≡ false

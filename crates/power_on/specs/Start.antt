@@ -21,8 +21,8 @@ use Rattle.device.specs.declared.Current.the-variants.{Idle}
 use Rattle.device.specs.declared.Deadline.the-variants.{Never}
 use Rattle.device.specs.declared.Ssd1677.{Ssd1677}
 use Rattle.registers.specs.Reset.{resetOf}
-use Rattle.guard.specs.declared.lengths.Lengths.{Lengths}
-use Rattle.guard.specs.Lengths.{lengthsFit, allLent}
+use Rattle.guard_lengths.specs.declared.Lengths.{Lengths}
+use Rattle.guard_lengths.specs.Lengths.{lengthsFit, allLent}
 use Rattle.power_on.specs.declared.StartError.{StartError}
 use Rattle.power_on.specs.declared.StartError.the-variants.{Parameters, Buffer}
 

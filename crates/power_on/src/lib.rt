@@ -15,7 +15,7 @@ use device::Status;
 use diagnostic::Journal;
 use glass::PanelImage;
 use glass::RefreshKind;
-use guard::lengths::Lengths;
+use guard_lengths::Lengths;
 use panel::Display;
 use panel::Panel;
 
@@ -38,7 +38,7 @@ fn check(config: Ssd1677Config, otp: &[u8], lengths: Lengths) -> StartError
     ensures { λ r. ⌜ startAnswerOf r ≡ firstOf (allTests config (now (otp .entry)) lengths) ⌝ }
 {
     let error = validate::validate(config, otp);
-    let fit = guard::lengths::lengths_fit(config.panel, lengths);
+    let fit = guard_lengths::lengths_fit(config.panel, lengths);
     if config::is_accepted(error) {
         if fit {
             return StartError::Parameters(ConfigError::Accepted);
@@ -172,7 +172,7 @@ pub fn new(
 ) -> Started
     ensures { λ r. ⌜ start (startAnswerOf (r .error)) (powered (r .state) (buffers (now (states .exit)) (now (luts .exit)) (now (pixels .exit)) (now («black_white» .exit)) (now (red .exit)) (now (gates .exit)) (now (log .exit)))) ≡ started config (now (otp .entry)) (buffers (now (states .entry)) (now (luts .entry)) (now (pixels .entry)) (now («black_white» .entry)) (now (red .entry)) (now (gates .entry)) (now (log .entry))) ⌝ }
 {
-    let lengths = guard::lengths::all_lent(
+    let lengths = guard_lengths::all_lent(
         states.len(),
         luts.len(),
         pixels.len(),

@@ -8,7 +8,7 @@ use Rattle.device.specs.declared.Ssd1677.{Ssd1677}
 use Rattle.device.specs.Parts.{withConfig, withJournal}
 use Rattle.guard.specs.declared.Refusal.{Refusal}
 use Rattle.guard.specs.declared.Refusal.the-variants.{Accepted, State}
-use Rattle.guard.specs.State.{stateFine}
+use Rattle.guard_state.specs.State.{stateFine}
 use Rattle.guard.specs.Refusals.{numberOf, accepts}
 use Rattle.numbers.specs.Choice.{pick}
 use Rattle.query.specs.Queries.{withAmbient, withCount, emptied}

@@ -5,7 +5,7 @@ use Rattle.numbers.specs.Choice.{pick}
 use Rattle.device.specs.declared.Ssd1677.{Ssd1677}
 use Rattle.guard.specs.declared.Refusal.{Refusal}
 use Rattle.guard.specs.declared.Refusal.the-variants.{Accepted, State}
-use Rattle.guard.specs.State.{stateFine}
+use Rattle.guard_state.specs.State.{stateFine}
 use Rattle.guard.specs.Refusals.{numberOf, accepts}
 
 -- document 01's number, 0 for a call that is accepted, and all that the call answers and leaves beside it

@@ -27,7 +27,7 @@ pub struct Taken {
 pub fn check_state(state: Ssd1677) -> Refusal
     ensures { λ r. ⌜ r ≡ stateGuarded state ⌝ }
 {
-    if guard::state::state_is_fine(state) {
+    if guard_state::state_is_fine(state) {
         return Refusal::Accepted;
     }
     Refusal::State

@@ -7,10 +7,10 @@ use lib.ListN.{length}
 use Rattle.clock.specs.Advance.{Ready, WithGlass, withGlass, advanced}
 use Rattle.reset.specs.Reset.{WithGlassLog, withGlassLog, byLine}
 use Rattle.activation.proofs.Kept.{ready-advanced}
-use Rattle.guard.specs.declared.lengths.Lengths.{Lengths}
-use Rattle.guard.specs.declared.lengths.Lent.the-variants.{Nothing, Of}
+use Rattle.guard_lengths.specs.declared.Lengths.{Lengths}
+use Rattle.guard_lengths.specs.declared.Lent.the-variants.{Nothing, Of}
 use Rattle.guard.specs.declared.Refusal.{Refusal}
-use Rattle.guard.specs.Lengths.{glassLogLent}
+use Rattle.guard_lengths.specs.Lengths.{glassLogLent}
 use Rattle.guard.specs.Refusals.{numberOf, accepts, guarded}
 use Rattle.query.specs.Outcome.{outcome}
 use Rattle.query.proofs.Cases.{grants, refuses}

@@ -5,7 +5,7 @@ use mathlib.Core.List.{List}
 use lib.ListN.{length}
 use Rattle.clock.specs.Advance.{advanced}
 use Rattle.reset.specs.Reset.{WithGlassLog, onGlass, byLine}
-use Rattle.guard.specs.Lengths.{glassLogLent}
+use Rattle.guard_lengths.specs.Lengths.{glassLogLent}
 use Rattle.guard.specs.Refusals.{guarded}
 use Rattle.query.specs.Outcome.{Outcome, unless}
 

@@ -20,7 +20,7 @@ pub fn set_reset(
 ) -> Answer
     ensures { λ r. ⌜ outcome (numberOf (r .refusal)) (withGlassLog (r .state) (now (states .exit)) (now (pixels .exit)) (now (log .exit))) ≡ lineMoved (now (luts .entry)) time asserted (withGlassLog state (now (states .entry)) (now (pixels .entry)) (now (log .entry))) ⌝ }
 {
-    let lengths = guard::lengths::glass_log_lent(states.len(), luts.len(), pixels.len(), log.len());
+    let lengths = guard_lengths::glass_log_lent(states.len(), luts.len(), pixels.len(), log.len());
     let refusal = guard::check(state, lengths);
     if guard::is_accepted(refusal) {
         let present = clock::advance(state, states, luts, pixels, time);

@@ -5,10 +5,10 @@ use mathlib.Core.Bool.{Bool, true, false}
 use mathlib.Core.List.{List}
 use lib.ListN.{length}
 use Rattle.clock.specs.Advance.{Ready, WithGlass, advanced}
-use Rattle.guard.specs.declared.lengths.Lengths.{Lengths}
-use Rattle.guard.specs.declared.lengths.Lent.the-variants.{Nothing}
+use Rattle.guard_lengths.specs.declared.Lengths.{Lengths}
+use Rattle.guard_lengths.specs.declared.Lent.the-variants.{Nothing}
 use Rattle.guard.specs.declared.Refusal.{Refusal}
-use Rattle.guard.specs.Lengths.{glassLent}
+use Rattle.guard_lengths.specs.Lengths.{glassLent}
 use Rattle.guard.specs.Refusals.{numberOf, accepts, guarded}
 use Rattle.query.specs.Outcome.{outcome}
 use Rattle.query.proofs.Cases.{grants, refuses}

@@ -18,7 +18,7 @@ pub fn advance(
 ) -> Answer
     ensures { λ r. ⌜ outcome (numberOf (r .refusal)) (withGlass (r .state) (now (states .exit)) (now (pixels .exit))) ≡ clockMoved (now (luts .entry)) time (withGlass state (now (states .entry)) (now (pixels .entry))) ⌝ }
 {
-    let lengths = guard::lengths::glass_lent(states.len(), luts.len(), pixels.len());
+    let lengths = guard_lengths::glass_lent(states.len(), luts.len(), pixels.len());
     let refusal = guard::check(state, lengths);
     if guard::is_accepted(refusal) {
         let state = clock::advance(state, states, luts, pixels, time);

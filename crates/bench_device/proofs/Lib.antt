@@ -1,0 +1,2 @@
+-- Laws of bench_device that belong to no one function.
+pub mod Events

@@ -1,0 +1,2 @@
+-- The root of bench_device's specs.
+pub mod Whole

@@ -1,0 +1,53 @@
+-- The whole device, from its start through a list of events.
+use mathlib.Core.Bool.{true, false}
+use mathlib.Core.List.{List}
+use Prim.Native.Nat.{ℕ}
+use lib.ListN.{replicate}
+use Rattle.glass.specs.Optics.{defaultOptics}
+use Rattle.config.specs.Defaults.{defaultTiming}
+use Rattle.config.specs.declared.ExternalSensor.the-variants.{Absent}
+use Rattle.config.specs.declared.Ssd1677Config.{Ssd1677Config}
+use Rattle.event.specs.declared.Event.{Event}
+use Rattle.power_on.specs.Start.{Buffers, buffers, Powered}
+use Rattle.dispatch.specs.Dispatch.{World, world}
+use Rattle.traffic.specs.Traffic.{Fed, made, feeding}
+use Rattle.bench.specs.Made.{geometryOf, headerOf}
+
+-- a panel of a size, wired as the GDEQ0426T82, at 25 °C on a 3.3 V supply (config.rs, `gdeq0426t82`)
+abbrev pub configOf : ℕ → ℕ → Ssd1677Config
+configOf width height =
+    record {
+      panel = geometryOf width height 0 false true false true;
+      optics = defaultOptics;
+      timing = defaultTiming;
+      «busy_active_high» = true;
+      ambient = 400;
+      «external_sensor» = Absent;
+      «vci_millivolts» = 3300;
+      «user_id» = replicate 10 0;
+    }
+
+-- what a run hands back: how many events were made, the image's header, and the buffers
+pub record Ran : Type 0 where
+  pub made : ℕ
+  pub header : List ℕ
+  pub buffers : Buffers
+
+-- the three as one
+abbrev pub ran : ℕ → List ℕ → Buffers → Ran
+ran made header b = record { made = made; header = header; buffers = b }
+
+-- what a start leaves, but the gates
+abbrev pub worldOf : Powered → World
+worldOf p =
+    world (p .device) (p .buffers .states) (p .buffers .luts) (p .buffers .pixels) (p .buffers .blackWhite) (p .buffers .red) (p .buffers .log)
+
+-- what events leave, beside the gates that no event changes
+abbrev pub ranOf : List ℕ → Fed World → Ran
+ranOf gates f =
+    ran (f .made) (headerOf (f .left .device .panel .image))
+    (buffers (f .left .states) (f .left .luts) (f .left .pixels) (f .left .blackWhite) (f .left .red) gates (f .left .log))
+
+-- n events from a start on
+unfoldable pub ranFrom : List ℕ → (ℕ → Event) → ℕ → Powered → Ran
+ranFrom otp event n p = ranOf (p .buffers .gates) (feeding (made (p .buffers .gates) otp event) n 0 (worldOf p))

@@ -1,0 +1,27 @@
+// The whole device: the configuration that it is started with.
+use bench::made;
+use config::ExternalSensor;
+use config::Ssd1677Config;
+use config::Ssd1677Timing;
+use glass::Optics;
+ghost use mathlib.Core.Path.{_≡_};
+ghost use Rattle.bench_device.specs.Whole.{configOf};
+
+// A panel of a size, wired as the GDEQ0426T82, at 25 °C on a 3.3 V supply.
+pub(crate) fn config_of(width: u16, height: u16) -> Ssd1677Config
+    ensures { λ r. ⌜ r ≡ configOf width height ⌝ }
+{
+    let panel = made::geometry_of(width, height, 0, false, true, false, true);
+    let optics = Optics::default();
+    let timing = Ssd1677Timing::default();
+    Ssd1677Config {
+        panel,
+        optics,
+        timing,
+        busy_active_high: true,
+        ambient: 400,
+        external_sensor: ExternalSensor::Absent,
+        vci_millivolts: 3300,
+        user_id: [0u8; 10],
+    }
+}

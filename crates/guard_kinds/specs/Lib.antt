@@ -1,0 +1,2 @@
+-- The root of guard_kinds' specs.
+pub mod Kinds

@@ -1,0 +1,56 @@
+-- The lengths that 11 asks of what a call is lent (document 01, "Forms that cannot stay").
+use Prim.Native.Nat.{ℕ, _*_}
+use mathlib.Core.Bool.{Bool, true, _&&_}
+use lib.Dec.{eqb}
+use Rattle.config.specs.declared.PanelGeometry.{PanelGeometry}
+use Rattle.guard_lengths.specs.declared.Lent.{Lent}
+use Rattle.guard_lengths.specs.declared.Lent.the-variants.{Nothing, Of}
+use Rattle.guard_lengths.specs.declared.Lengths.{Lengths}
+
+-- a plane: 680 rows of 120 bytes
+abbrev pub planeBytes : ℕ
+planeBytes = 81600
+
+-- the log: 1,024 records of 16 bytes
+abbrev pub logBytes : ℕ
+logBytes = 16384
+
+-- the pixels of a panel
+abbrev pub pixelsOf : PanelGeometry → ℕ
+pixelsOf p = p .width * p .height
+
+-- a buffer has the right length, or is not lent
+unfoldable pub fits : Lent → ℕ → Bool
+fits Nothing right = true
+fits (Of n) right = eqb n right
+
+-- 11 finds nothing to refuse
+unfoldable pub lengthsFit : PanelGeometry → Lengths → Bool
+lengthsFit p l =
+    eqb (l .states) (pixelsOf p)
+    && eqb (l .luts) (pixelsOf p)
+    && eqb (l .pixels) (pixelsOf p)
+    && fits (l .log) logBytes
+    && fits (l .«black_white») planeBytes
+    && fits (l .red) planeBytes
+    && fits (l .gates) (p .height)
+
+-- the lengths of what is lent
+abbrev pub lengthsOf : ℕ → ℕ → ℕ → Lent → Lent → Lent → Lent → Lengths
+lengthsOf s l p g b r o = record { states = s; luts = l; pixels = p; log = g; «black_white» = b; red = r; gates = o }
+
+-- what `advance` is lent: states, chosen LUTs and pixels
+abbrev pub glassLent : ℕ → ℕ → ℕ → Lengths
+glassLent s l p = lengthsOf s l p Nothing Nothing Nothing Nothing
+
+-- what `set_reset` is lent: the same and the log
+abbrev pub glassLogLent : ℕ → ℕ → ℕ → ℕ → Lengths
+glassLogLent s l p g = lengthsOf s l p (Of g) Nothing Nothing Nothing
+
+-- what `write_data` and `read_data` are lent: the same and both planes
+abbrev pub planesLogLent : ℕ → ℕ → ℕ → ℕ → ℕ → ℕ → Lengths
+planesLogLent s l p g b r = lengthsOf s l p (Of g) (Of b) (Of r) Nothing
+
+-- what `new` and `write_command` are lent: the same and gate-of-row
+abbrev pub allLent : ℕ → ℕ → ℕ → ℕ → ℕ → ℕ → ℕ → Lengths
+allLent s l p g b r o = lengthsOf s l p (Of g) (Of b) (Of r) (Of o)

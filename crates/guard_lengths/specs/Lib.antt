@@ -1,0 +1,2 @@
+-- The root of guard_lengths' specs.
+pub mod Lengths

@@ -1,0 +1,132 @@
+// The lengths of what a call is lent.
+ghost use mathlib.Core.Path.{_≡_};
+ghost use Rattle.guard_lengths.specs.Lengths.{fits, lengthsFit, lengthsOf, glassLent, glassLogLent, planesLogLent, allLent};
+use config::PanelGeometry;
+use ram::PLANE_BYTES;
+
+// 1,024 records of 16 bytes.
+const LOG_BYTES: usize = 16_384;
+
+// A buffer that only some calls are lent.
+pub enum Lent {
+    Nothing,
+    Of(usize),
+}
+
+// Every call is lent the buffers of the glass.
+pub struct Lengths {
+    pub states: usize,
+    pub luts: usize,
+    pub pixels: usize,
+    pub log: Lent,
+    pub black_white: Lent,
+    pub red: Lent,
+    pub gates: Lent,
+}
+
+fn lengths_of(
+    states: usize,
+    luts: usize,
+    pixels: usize,
+    log: Lent,
+    black_white: Lent,
+    red: Lent,
+    gates: Lent,
+) -> Lengths
+    ensures { λ r. ⌜ r ≡ lengthsOf states luts pixels log «black_white» red gates ⌝ }
+{
+    Lengths {
+        states,
+        luts,
+        pixels,
+        log,
+        black_white,
+        red,
+        gates,
+    }
+}
+
+// Lent to `advance`.
+pub fn glass_lent(states: usize, luts: usize, pixels: usize) -> Lengths
+    ensures { λ r. ⌜ r ≡ glassLent states luts pixels ⌝ }
+{
+    let none = Lent::Nothing;
+    lengths_of(states, luts, pixels, none, none, none, none)
+}
+
+// Lent to `set_reset`.
+pub fn glass_log_lent(states: usize, luts: usize, pixels: usize, log: usize) -> Lengths
+    ensures { λ r. ⌜ r ≡ glassLogLent states luts pixels log ⌝ }
+{
+    let none = Lent::Nothing;
+    let log = Lent::Of(log);
+    lengths_of(states, luts, pixels, log, none, none, none)
+}
+
+// Lent to `write_data` and `read_data`.
+pub fn planes_log_lent(
+    states: usize,
+    luts: usize,
+    pixels: usize,
+    log: usize,
+    black_white: usize,
+    red: usize,
+) -> Lengths
+    ensures { λ r. ⌜ r ≡ planesLogLent states luts pixels log «black_white» red ⌝ }
+{
+    let none = Lent::Nothing;
+    let log = Lent::Of(log);
+    let black_white = Lent::Of(black_white);
+    let red = Lent::Of(red);
+    lengths_of(states, luts, pixels, log, black_white, red, none)
+}
+
+// Lent to `new` and `write_command`.
+pub fn all_lent(
+    states: usize,
+    luts: usize,
+    pixels: usize,
+    log: usize,
+    black_white: usize,
+    red: usize,
+    gates: usize,
+) -> Lengths
+    ensures { λ r. ⌜ r ≡ allLent states luts pixels log «black_white» red gates ⌝ }
+{
+    let log = Lent::Of(log);
+    let black_white = Lent::Of(black_white);
+    let red = Lent::Of(red);
+    let gates = Lent::Of(gates);
+    lengths_of(states, luts, pixels, log, black_white, red, gates)
+}
+
+fn fits(lent: Lent, right: usize) -> bool
+    ensures { λ r. ⌜ r ≡ fits lent right ⌝ }
+{
+    match lent {
+        Lent::Nothing => true,
+        Lent::Of(length) => length == right,
+    }
+}
+
+pub fn lengths_fit(panel: PanelGeometry, lengths: Lengths) -> bool
+    ensures { λ r. ⌜ r ≡ lengthsFit panel lengths ⌝ }
+{
+    let rows = panel.height as usize;
+    let pixels = panel.width as usize * rows;
+    let log = lengths.log;
+    let black_white = lengths.black_white;
+    let red = lengths.red;
+    let gates = lengths.gates;
+    let log_fits = fits(log, LOG_BYTES);
+    let black_white_fits = fits(black_white, PLANE_BYTES);
+    let red_fits = fits(red, PLANE_BYTES);
+    let gates_fit = fits(gates, rows);
+    (lengths.states == pixels)
+        & (lengths.luts == pixels)
+        & (lengths.pixels == pixels)
+        & log_fits
+        & black_white_fits
+        & red_fits
+        & gates_fit
+}

@@ -1,0 +1,2 @@
+-- The root of guard_state's specs.
+pub mod State
