@@ -11,7 +11,6 @@ use Rattle.device.specs.declared.Ssd1677.{Ssd1677}
 use Rattle.device.specs.declared.Registers.{Registers}
 use Rattle.device.specs.declared.Bus.{Bus}
 use Rattle.device.specs.declared.Status.{Status}
-use Rattle.device.specs.declared.Power.{Power}
 use Rattle.device.specs.declared.Current.{Current}
 use Rattle.device.specs.declared.Deadline.{Deadline}
 
@@ -159,22 +158,6 @@ withPowers d newRegs newClock newAnalog newStatus =
       journal = d .journal;
     }
 
--- what a data byte of most commands changes
-abbrev pub withWritten : Ssd1677 → Registers → Bus → Journal → Ssd1677
-withWritten d newRegs newBus newJournal =
-    record {
-      config = d .config;
-      now = d .now;
-      regs = newRegs;
-      bus = newBus;
-      clock = d .clock;
-      analog = d .analog;
-      status = d .status;
-      panel = d .panel;
-      display = d .display;
-      journal = newJournal;
-    }
-
 -- what deep sleep changes
 abbrev pub withSlept : Ssd1677 → Bus → Bool → Bool → Ssd1677
 withSlept d newBus newClock newAnalog =
@@ -206,10 +189,6 @@ withActivated d newRegs newBus newClock newAnalog newDisplay newJournal =
       display = newDisplay;
       journal = newJournal;
     }
-
--- another supply and reset state
-abbrev pub withPower : Bus → Power → Bus
-withPower b new = record { power = new; current = b .current; «busy_until» = b .«busy_until» }
 
 -- another current command
 abbrev pub withCurrent : Bus → Current → Bus

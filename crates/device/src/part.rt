@@ -1,10 +1,9 @@
 // A state with one part put back.
 ghost use mathlib.Core.Path.{_≡_};
-ghost use Rattle.device.specs.Parts.{withNow, withConfig, withRegs, withBus, withStatus, withDisplay, withJournal, withGlass, withPowers, withWritten, withSlept, withActivated, withPower, withCurrent, withUntil, withLoaded, withCounter, withPointed};
+ghost use Rattle.device.specs.Parts.{withNow, withConfig, withRegs, withBus, withStatus, withDisplay, withJournal, withGlass, withPowers, withSlept, withActivated, withCurrent, withUntil, withLoaded, withCounter, withPointed};
 use crate::Bus;
 use crate::Current;
 use crate::Deadline;
-use crate::Power;
 use crate::Registers;
 use crate::Ssd1677;
 use crate::Status;
@@ -105,17 +104,6 @@ pub fn set_powers(
     next
 }
 
-// What a data byte of most commands changes.
-pub fn set_written(state: Ssd1677, regs: Registers, bus: Bus, journal: Journal) -> Ssd1677
-    ensures { λ r. ⌜ r ≡ withWritten state regs bus journal ⌝ }
-{
-    let mut next = state;
-    next.regs = regs;
-    next.bus = bus;
-    next.journal = journal;
-    next
-}
-
 // What deep sleep changes.
 pub fn set_slept(state: Ssd1677, bus: Bus, clock: bool, analog: bool) -> Ssd1677
     ensures { λ r. ⌜ r ≡ withSlept state bus clock analog ⌝ }
@@ -147,19 +135,6 @@ pub fn set_activated(
     next.display = display;
     next.journal = journal;
     next
-}
-
-// Another supply and reset state.
-pub fn set_power(bus: Bus, power: Power) -> Bus
-    ensures { λ r. ⌜ r ≡ withPower bus power ⌝ }
-{
-    let current = bus.current;
-    let busy_until = bus.busy_until;
-    Bus {
-        power,
-        current,
-        busy_until,
-    }
 }
 
 // Another current command.
