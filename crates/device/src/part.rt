@@ -80,10 +80,10 @@ pub fn set_journal(state: Ssd1677, journal: Journal) -> Ssd1677
 pub fn set_glass(state: Ssd1677, panel: Panel, display: Display) -> Ssd1677
     ensures { λ r. ⌜ r ≡ withGlass state panel display ⌝ }
 {
-    let mut next = state;
-    next.panel = panel;
-    next.display = display;
-    next
+    let mut driven = state;
+    driven.panel = panel;
+    driven.display = display;
+    driven
 }
 
 // What a reset restores.
@@ -96,23 +96,23 @@ pub fn set_powers(
 ) -> Ssd1677
     ensures { λ r. ⌜ r ≡ withPowers state regs clock analog status ⌝ }
 {
-    let mut next = state;
-    next.regs = regs;
-    next.clock = clock;
-    next.analog = analog;
-    next.status = status;
-    next
+    let mut restored = state;
+    restored.regs = regs;
+    restored.clock = clock;
+    restored.analog = analog;
+    restored.status = status;
+    restored
 }
 
 // What deep sleep changes.
 pub fn set_slept(state: Ssd1677, bus: Bus, clock: bool, analog: bool) -> Ssd1677
     ensures { λ r. ⌜ r ≡ withSlept state bus clock analog ⌝ }
 {
-    let mut next = state;
-    next.bus = bus;
-    next.clock = clock;
-    next.analog = analog;
-    next
+    let mut asleep = state;
+    asleep.bus = bus;
+    asleep.clock = clock;
+    asleep.analog = analog;
+    asleep
 }
 
 // What the stages of an activation change.
@@ -127,14 +127,14 @@ pub fn set_activated(
 ) -> Ssd1677
     ensures { λ r. ⌜ r ≡ withActivated state regs bus clock analog display journal ⌝ }
 {
-    let mut next = state;
-    next.regs = regs;
-    next.bus = bus;
-    next.clock = clock;
-    next.analog = analog;
-    next.display = display;
-    next.journal = journal;
-    next
+    let mut activated = state;
+    activated.regs = regs;
+    activated.bus = bus;
+    activated.clock = clock;
+    activated.analog = analog;
+    activated.display = display;
+    activated.journal = journal;
+    activated
 }
 
 // Another current command.
@@ -167,10 +167,10 @@ pub fn set_until(bus: Bus, busy_until: Deadline) -> Bus
 pub fn set_loaded(regs: Registers, temperature: u16, lut: [u8; 112]) -> Registers
     ensures { λ r. ⌜ r ≡ withLoaded regs temperature lut ⌝ }
 {
-    let mut next = regs;
-    next.temperature = temperature;
-    next.lut = lut;
-    next
+    let mut loaded = regs;
+    loaded.temperature = temperature;
+    loaded.lut = lut;
+    loaded
 }
 
 // Another address counter.
@@ -186,9 +186,9 @@ pub fn set_counter(regs: Registers, counter: Counter) -> Registers
 pub fn set_pointed(state: Ssd1677, counter: Counter, bus: Bus) -> Ssd1677
     ensures { λ r. ⌜ r ≡ withPointed state counter bus ⌝ }
 {
-    let mut next = state;
-    next.regs.counter.x = counter.x;
-    next.regs.counter.y = counter.y;
-    next.bus = bus;
-    next
+    let mut pointed = state;
+    pointed.regs.counter.x = counter.x;
+    pointed.regs.counter.y = counter.y;
+    pointed.bus = bus;
+    pointed
 }
