@@ -49,22 +49,27 @@ silent a = record { refusal = a .refusal; state = a .state; byte = Nothing }
 
 -- what a call leaves of its own part, put back into the whole
 module _ (w : World) where
+  -- a command only reads the planes
   abbrev pub putBuffers : Outcome WithBuffers → Outcome Told
   putBuffers o =
       outcome (o .number) (told (world (o .held .device) (o .held .states) (o .held .luts) (o .held .pixels) (w .blackWhite) (w .red) (o .held .log)) Nothing)
 
+  -- a data byte only reads the LUTs that a display has chosen
   abbrev pub putPlanes : Outcome WithPlanes → Outcome Told
   putPlanes o =
       outcome (o .number) (told (world (o .held .device) (o .held .states) (w .luts) (o .held .pixels) (o .held .blackWhite) (o .held .red) (o .held .log)) Nothing)
 
+  -- the reset line is not lent the planes: a reset keeps the RAM
   abbrev pub putLine : Outcome WithGlassLog → Outcome Told
   putLine o = outcome (o .number) (told (world (o .held .device) (o .held .states) (w .luts) (o .held .pixels) (w .blackWhite) (w .red) (o .held .log)) Nothing)
 
+  -- a read only reads the planes, and is the one event that gives a byte
   abbrev pub putRead : Outcome WithRead → Outcome Told
   putRead o =
       outcome (o .number)
       (told (world (o .held .left .device) (o .held .left .states) (w .luts) (o .held .left .pixels) (w .blackWhite) (w .red) (o .held .left .log)) (o .held .byte))
 
+  -- a move of the clock reports nothing, so the log is not lent
   abbrev pub putGlass : Outcome WithGlass → Outcome Told
   putGlass o = outcome (o .number) (told (world (o .held .device) (o .held .states) (w .luts) (o .held .pixels) (w .blackWhite) (w .red) (w .log)) Nothing)
 
