@@ -1,5 +1,5 @@
-// What a state holds of its parameters, its image and its log (mod.rs, `config`, `panel`, `dropped_diagnostics`). Each call refuses a state
-// with 13.
+// What a state holds of its parameters, its image and its log (mod.rs, `config`, `panel_image`, `dropped_diagnostics`). Each call refuses
+// a state with 13.
 ghost use mathlib.Core.Path.{_≡_};
 ghost use Rattle.guard.specs.Refusals.{numberOf};
 ghost use Rattle.query.specs.Outcome.{outcome};
