@@ -1,4 +1,4 @@
--- Searches over the numbers of the entries.
+-- Searches over the numbers of the entries (config.rs, `find_waveform`; datasheet §6.9).
 use mathlib.Core.Bool.{Bool, false, _||_}
 use Prim.Native.Nat.{ℕ, zero, suc}
 use Rattle.numbers.specs.Choice.{pick}
