@@ -1,4 +1,4 @@
-// The number in a column of decimals.
+// The number in a column of decimals (docs/replay-format.md).
 ghost use mathlib.Core.Path.{_≡_};
 ghost use Rattle.column.specs.Reading.{readOf, digitOf, stepOf, lastOf};
 

@@ -2,4 +2,3 @@
 pub mod Registers
 pub mod Lowest
 pub mod Answers
-pub mod Figures

@@ -1,4 +1,4 @@
-// How long a display runs.
+// How long a display runs (waveform.rs, `duration_ns`).
 use waveform::Group;
 use waveform::Waveform;
 ghost use mathlib.Core.Path.{_≡_};

@@ -1,5 +1,5 @@
 -- Document 01's ★ figures, one theorem over one list. Assumes nothing.
-use mathlib.Core.Path.{_≡_, refl}
+use mathlib.Core.Path.{_≡_, refl, ap, _∙_}
 use Rattle.numbers.specs.Choice.{bitOf}
 use Rattle.numbers.specs.Lists.{tab}
 use Rattle.numbers.specs.Saturation.{clampZ}
@@ -13,8 +13,13 @@ use Rattle.config.specs.Temperature.{sixteenthsOf}
 use Rattle.counter.specs.Counter.{stepOf, advancedOf}
 use Rattle.counter.specs.Registers.{tenBits}
 use Rattle.gates.specs.Gates.{rowOf, rowOfGate}
+use Rattle.figures.specs.ModeTwo.{modeTwo}
 use Rattle.figures.specs.Figures.{computed, stated}
+use Rattle.figures.proofs.ModeTwo.{bytes, written}
 
-pub figures : computed ≡ stated
+of-bytes : computed bytes ≡ stated
 unfolding voltage sixteenthsOf tenBits advancedOf stepOf bitOf rowOfGate rowOf wholeTransfer cutTransfer waveformOf groupCodesOf codesOf frameRateOf levelsOf sourceLevel vcomSwing tab joined phaseOf driven saturatedDrive pushed cutStep clampZ grayZ
-figures = refl
+of-bytes = refl
+
+pub figures : computed modeTwo ≡ stated
+figures = ap computed written ∙ of-bytes

@@ -1,2 +1,4 @@
--- The theorem.
+-- The checked figures.
+pub mod ModeTwo
 pub mod Figures
+pub mod Listing

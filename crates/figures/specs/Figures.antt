@@ -4,7 +4,7 @@ use Prim.Native.Nat.{ℕ}
 use mathlib.Core.Bool.{true, false}
 use mathlib.Core.List.{List, [], _∷_}
 use lib.IntN.{ℤ, pos, negsuc}
-use lib.ListN.{set, replicate}
+use lib.ListN.{replicate}
 use Rattle.glass.specs.declared.Transfer.{Transfer}
 use Rattle.glass.specs.Transfers.{applyT}
 use Rattle.glass.specs.Greys.{grayZ}
@@ -39,10 +39,6 @@ abbrev pub row : Row → List ℤ
 row (Is r) = pos r ∷ []
 row Nothing = []
 
--- the Mode Two setting of the reference table: LUT 1 at VSL and LUT 2 at VSH1 for 19 frames, then 6 frames of rest
-abbrev pub modeTwo : List ℕ
-modeTwo = set (set (set (set (set (set (set (replicate 112 0) 10 0x80) 20 0x40) 50 19) 51 6) 106 0x41) 107 0xA8) 108 0x32
-
 -- 20,000,000 ns for every frame-rate code
 abbrev pub periods : List ℕ
 periods = replicate 16 20000000
@@ -55,9 +51,9 @@ swing = pos 6000000000000
 abbrev pub after : Transfer → List ℤ
 after t = applyT t swing ∷ pos (grayZ (applyT t swing) swing) ∷ []
 
--- by the definitions; the counter is at x 16, y 5, in a window of x 13 to 23 with both axes incrementing
-abbrev pub computed : List (List ℤ)
-computed =
+-- by the definitions, of a setting; the counter is at x 16, y 5, in a window of x 13 to 23 with both axes incrementing
+abbrev pub computed : List ℕ → List (List ℤ)
+computed setting =
     millivolts (sourceVoltage 0x4B)
     ∷ millivolts (sourceVoltage 0x4C)
     ∷ millivolts (vslVoltage 0x3A)
@@ -75,9 +71,9 @@ computed =
     ∷ row (rowOfGate 680 (record { sm = false; gd = true }) 680)
     ∷ row (rowOfGate 680 (record { sm = true; gd = true }) 680)
     ∷ row (rowOfGate 4 (record { sm = false; gd = true }) 5)
-    ∷ after (wholeTransfer modeTwo periods (Lut 2) swing true)
-    ∷ after (cutTransfer modeTwo periods (Lut 2) swing true 100000000)
-    ∷ after (cutTransfer modeTwo periods (Lut 2) swing true 99999999)
+    ∷ after (wholeTransfer setting periods (Lut 2) swing true)
+    ∷ after (cutTransfer setting periods (Lut 2) swing true 100000000)
+    ∷ after (cutTransfer setting periods (Lut 2) swing true 99999999)
     ∷ []
 
 -- by the paper, in the same order

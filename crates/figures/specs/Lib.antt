@@ -1,2 +1,4 @@
 -- The root of figures' specs.
+pub mod ModeTwo
 pub mod Figures
+pub mod Listing

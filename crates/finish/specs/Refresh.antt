@@ -1,4 +1,4 @@
--- What the parts of a display's end share.
+-- What the parts of a display's end share (panel.rs, `Panel::finish`).
 use mathlib.Core.Path.{_≡_}
 use mathlib.Core.Bool.{Bool}
 use mathlib.Core.List.{List}

@@ -1,3 +1,2 @@
 -- The laws of gates and rows.
 pub mod OneToOne
-pub mod Figures

@@ -18,17 +18,7 @@ use Rattle.config.specs.declared.PanelGeometry.{PanelGeometry}
 use Rattle.gates.specs.declared.Row.the-variants.{Is}
 use Rattle.gates.specs.Gates.{evenGates, rowOf, rowOfGate, nativeRow, physicalRow, gatesStored}
 use Rattle.gates.proofs.Stored.{stored-is}
-
--- the gate of a row by SM and GD: Table 8-2 read the other way
-unfoldable pub gateOf : Bool → Bool → ℕ → ℕ → ℕ
-gateOf false false row lines = row
-gateOf false true row lines = pick (eqb (row % 2) 0) (row + 1) (row - 1)
-gateOf true false row lines = pick (ltb row (evenGates lines)) (2 * row) (2 * (row - evenGates lines) + 1)
-gateOf true true row lines = pick (ltb row (evenGates lines)) (2 * row + 1) (2 * (row - evenGates lines))
-
--- the gate that drives a row of the glass
-unfoldable pub gateOfRow : PanelGeometry → ℕ → ℕ
-gateOfRow g y = gateOf (g .«native_scan» .sm) (g .«native_scan» .gd) (pick (g .«rows_reversed») (g .height - 1 - y) y) (g .height)
+use Rattle.gates_laws.specs.OneToOne.{gateOf, gateOfRow, OneToOne}
 
 -- ---- a choice by its test: by parity, and by order
 pick-of : {A : Type 0} (P : A → Type 0) (t : Bool) (a b : A) → (t ≡ true → P a) → (t ≡ false → P b) → P (pick t a b)
@@ -92,17 +82,6 @@ row-gate true true r h v l =
     by-order (λ (g : ℕ). pick (eqb (g % 2) 0) (evenGates h + g / 2) (g / 2) ≡ r) r (evenGates h) (2 * r + 1) (2 * (r - evenGates h))
     (λ p. by-parity (λ (k : ℕ). k ≡ r) (2 * r + 1) (m + (2 * r + 1) / 2) ((2 * r + 1) / 2) (λ q. omega arith) (λ q. omega arith))
     (λ p. by-parity (λ (k : ℕ). k ≡ r) (2 * (r - m)) (m + 2 * (r - m) / 2) (2 * (r - m) / 2) (λ q. omega arith) (λ q. omega arith))
-
--- What it is for gates and rows to be one to one under a scan of so many lines.
-pub record OneToOne (scan : GateScan) (lines : ℕ) : Type 0 where
-  -- every gate that is scanned has a row, and every row is one of a gate
-  pub has-row : (gate : ℕ) → gate < lines → rowOfGate gate scan lines ≡ Is (rowOf (scan .sm) (scan .gd) gate lines)
-  pub row-lt : (gate : ℕ) → gate < lines → rowOf (scan .sm) (scan .gd) gate lines < lines
-  pub has-gate : (row : ℕ) → row < lines → rowOfGate (gateOf (scan .sm) (scan .gd) row lines) scan lines ≡ Is row
-  pub gate-lt : (row : ℕ) → row < lines → gateOf (scan .sm) (scan .gd) row lines < lines
-  -- from a gate to its row and back, and from a row to its gate and back
-  pub gate-again : (gate : ℕ) → gate < lines → gateOf (scan .sm) (scan .gd) (rowOf (scan .sm) (scan .gd) gate lines) lines ≡ gate
-  pub row-again : (row : ℕ) → row < lines → rowOf (scan .sm) (scan .gd) (gateOf (scan .sm) (scan .gd) row lines) lines ≡ row
 
 module _ (scan : GateScan) (lines : ℕ) (small : lines ≤ 680) (even : scan .gd ≡ true → lines % 2 ≡ 0) where
   there : (gate : ℕ) → gate < lines → rowOfGate gate scan lines ≡ Is (rowOf (scan .sm) (scan .gd) gate lines)

@@ -1,4 +1,4 @@
--- The glass at its defaults.
+-- The glass at its defaults (glass.rs, `Optics::default`).
 use mathlib.Core.Bool.{true}
 use Rattle.glass.specs.declared.Optics.{Optics}
 use Rattle.glass.specs.declared.Provenance.the-variants.{Approximation}

@@ -4,6 +4,7 @@ use crate::configuration;
 use crate::planes;
 use crate::refreshes;
 use crate::registers;
+use crate::tables;
 use crate::temperature;
 use crate::text;
 use crate::transfers;
@@ -39,7 +40,11 @@ fn small(text: &mut [u8; text::ROOM], at: usize, name: &[u8], numbers: &[u64]) -
     if planes != at {
         return planes;
     }
-    commands::answer(text, at, name, numbers)
+    let commands = commands::answer(text, at, name, numbers);
+    if commands != at {
+        return commands;
+    }
+    tables::answer(text, at, name, numbers)
 }
 
 fn large(text: &mut [u8; text::ROOM], at: usize, name: &[u8], numbers: &[u64]) -> usize {

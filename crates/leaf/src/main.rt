@@ -9,6 +9,7 @@ mod planes;
 mod question;
 mod refreshes;
 mod registers;
+mod tables;
 mod take;
 mod temperature;
 mod text;

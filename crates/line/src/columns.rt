@@ -1,4 +1,4 @@
-// The three columns of a line.
+// The three columns of a line (docs/replay-format.md).
 use column::read::Column;
 ghost use mathlib.Core.Path.{_≡_};
 ghost use Rattle.line.specs.Lines.{columnsOf, threeOf};

@@ -3,8 +3,6 @@ ghost use mathlib.Core.Path.{_≡_};
 ghost use Prim.Native.Nat.{_+_, _^_, _<_};
 ghost use Rattle.line.specs.Fields.{bitsOf, stateBitsOf, longestOf};
 
-pub const FIELDS: u64 = 53;
-
 // The largest number of each field of the configuration.
 const LARGEST: [u64; 53] = [
     65535,

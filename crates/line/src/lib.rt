@@ -1,8 +1,8 @@
 // A line of docs/replay-format.md: 26 bytes and LF, of which kinds 1 to 4 are those of change request #102.
 use event::Event;
 
-pub mod columns;
-pub mod fields;
+mod columns;
+mod fields;
 mod listed;
 
 ghost use mathlib.Core.Path.{_≡_};

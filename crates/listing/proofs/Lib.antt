@@ -1,3 +1,2 @@
 -- The root of listing's proofs.
-pub mod Figures
 pub mod Joined

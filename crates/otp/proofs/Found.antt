@@ -15,9 +15,9 @@ use Rattle.config.proofs.Registers.{ranged, low-bits}
 use Rattle.otp.specs.declared.Entry.{Entry}
 use Rattle.otp.specs.declared.Entry.the-variants.{At, Nothing}
 use Rattle.otp.specs.Table.{entriesOf, modeAt, lowerAt, upperAt, badTable}
-use Rattle.otp.specs.Search.{lastOf}
+use Rattle.otp.specs.Search.{lastOf, Last}
 use Rattle.otp.specs.Waveform.{modeByte, covers, foundEntry}
-use Rattle.otp.proofs.Search.{Last, last-is, none-is, last-same, last-never}
+use Rattle.otp.proofs.Search.{last-is, none-is, last-same, last-never}
 
 module _ (otp : List ℕ) (mode : DisplayMode) (register : ℕ) where
   -- the entry found covers the temperature, and no later one does

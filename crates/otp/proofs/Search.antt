@@ -8,7 +8,7 @@ use native.Mathlib.Nat.{not-suc-le-zero, le-of-suc-le-suc, eq-or-lt-of-le}
 use native.Mathlib.Omega.{arith}
 use Rattle.numbers.specs.Choice.{pick}
 use Rattle.otp.specs.declared.Entry.the-variants.{At, Nothing}
-use Rattle.otp.specs.Search.{anyOf, lastOf}
+use Rattle.otp.specs.Search.{anyOf, lastOf, Last}
 
 module _ (p : ℕ → Bool) where
   pub any-none : false ≡ anyOf p 0
@@ -33,12 +33,6 @@ module _ (p : ℕ → Bool) where
 
   pub last-pass : (k : ℕ) → 0 < k → p (k - 1) ≡ false → lastOf p k ≡ lastOf p (k - 1)
   last-pass k l h = let e : k ≡ k - 1 + 1 = omega arith in ap (lastOf p) e ∙ last-more (k - 1) ∙ rw h
-
--- What is found: a number below n that passes, and no later one does.
-pub record Last (p : ℕ → Bool) (n k : ℕ) : Type 0 where
-  pub within : k < n
-  pub passes : p k ≡ true
-  pub later : (j : ℕ) → k < j → j < n → p j ≡ false
 
 module _ (p : ℕ → Bool) where
   here : (n k : ℕ) → p n ≡ true → At n ≡ At k → Last p (suc n) k

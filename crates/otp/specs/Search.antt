@@ -1,6 +1,7 @@
--- Searches over the numbers of the entries.
-use mathlib.Core.Bool.{Bool, false, _||_}
-use Prim.Native.Nat.{ℕ, zero, suc}
+-- Searches over the numbers of the entries (config.rs, `find_waveform`; datasheet §6.9).
+use mathlib.Core.Path.{_≡_}
+use mathlib.Core.Bool.{Bool, true, false, _||_}
+use Prim.Native.Nat.{ℕ, zero, suc, _<_}
 use Rattle.numbers.specs.Choice.{pick}
 use Rattle.otp.specs.declared.Entry.{Entry}
 use Rattle.otp.specs.declared.Entry.the-variants.{At, Nothing}
@@ -14,3 +15,9 @@ anyOf p (suc k) = anyOf p k || p k
 unfoldable pub lastOf : (ℕ → Bool) → ℕ → Entry
 lastOf p zero = Nothing
 lastOf p (suc k) = pick (p k) (At k) (lastOf p k)
+
+-- what it is for k to be the last number below n that passes p: it passes, and no later one does
+pub record Last (p : ℕ → Bool) (n k : ℕ) : Type 0 where
+  pub within : k < n
+  pub passes : p k ≡ true
+  pub later : (j : ℕ) → k < j → j < n → p j ≡ false

@@ -12,7 +12,6 @@ use lib.Signed.{_≤ℤ_}
 use lib.ListN.{length, getD}
 use borrow.Author.Tests.{lt-ltb, le-ltb}
 use Rattle.numbers.specs.Choice.{pick}
-use Rattle.numbers.specs.Saturation.{largest}
 use Rattle.numbers.proofs.Lin.{le-in, whole}
 use Rattle.numbers.proofs.Painted.{length-tab, getD-tab}
 use Rattle.glass.specs.declared.Transfer.{Transfer}
@@ -22,35 +21,14 @@ use Rattle.glass.specs.Transfers.{applyT}
 use Rattle.glass.proofs.Exactly.{drives-le, drives-mono}
 use Rattle.waveform.specs.declared.Drive.{Drive}
 use Rattle.waveform.specs.declared.Drive.the-variants.{Lut}
-use Rattle.waveform.specs.declared.Phase.{Phase}
 use Rattle.waveform.specs.declared.Until.{Until}
 use Rattle.waveform.specs.declared.Until.the-variants.{Whole, Cut}
-use Rattle.waveform.specs.Exact.{allDrives, cutDrives, settingPhases}
+use Rattle.waveform.specs.Exact.{settingPhases}
 use Rattle.waveform_laws.proofs.Exactly.{whole-exact, cut-exact}
 use Rattle.panel.specs.Pixels.{stateBy, statesBy, grays}
 use Rattle.panel.specs.Finish.{Ending, settingTransfer, transferBy}
-
--- the transfer of each LUT
-abbrev pub byLut : Ending → ℤ → ℕ → Transfer
-byLut e swing lut = transferBy e swing (Lut lut)
-
--- the exact drives of phases, all of them or up to a cut
-abbrev pub drivesUntil : Bool → Until → List Phase → List ℤ
-drivesUntil black Whole ps = allDrives black ps
-drivesUntil black (Cut until) ps = cutDrives black until ps
-
--- those of a display's setting
-abbrev pub exactDrives : Ending → Drive → List ℤ
-exactDrives e drive = drivesUntil (e .black) (e .until) (settingPhases (e .display .setting) (e .periods) drive)
-
--- a cut that the exact drives are told for
-abbrev pub Told : Until → Type 0
-Told Whole = Unit {0}
-Told (Cut until) = until < largest 64
-
--- a pixel's whole number afterwards, by its LUT
-unfoldable pub exactAfter : Ending → ℕ → ℕ → ℕ → ℕ
-exactAfter e S lut x = pick (ltb lut 4) (drives S (exactDrives e (Lut lut)) x) x
+use Rattle.panel_laws.specs.Exactly.{drivesUntil, exactDrives}
+unfoldable pub use Rattle.panel_laws.specs.Exactly.{byLut, Told, exactAfter}
 
 -- ---- undriven
 pub undriven : (transfer : ℕ → Transfer) (lut : ℕ) (state : ℤ) → 4 ≤ lut → stateBy transfer lut state ≡ state

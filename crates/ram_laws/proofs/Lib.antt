@@ -1,4 +1,3 @@
 -- The laws of the RAM.
 pub mod Cells
 pub mod Tens
-pub mod Figures

@@ -16,12 +16,11 @@ use Rattle.config.specs.Lowest.{lowest}
 use Rattle.config.specs.Answer.{accepted, firstOf}
 use Rattle.config.specs.Temperature.{coldest, warmest, sixteenthsOf, registerOf}
 use Rattle.config.proofs.Registers.{ranged, above-coldest}
-use Rattle.otp.specs.declared.Entry.{Entry}
 use Rattle.otp.specs.declared.Entry.the-variants.{At, Nothing}
 use Rattle.otp.specs.Table.{entriesOf, modeAt, lowerAt, upperAt, badEntry, badTable, unlistedVoltage, tableTest, voltagesTest}
 use Rattle.otp.specs.Search.{anyOf, lastOf}
 use Rattle.otp.specs.Waveform.{modeByte, covers, foundEntry}
-use Rattle.reference.specs.Reference.{celsius, referenceTable}
+use Rattle.reference.specs.Reference.{celsius, referenceTable, settingFor, settingAbove}
 
 -- 12 and 6 refuse nothing
 pub table-accepted : firstOf (tableTest referenceTable ∷ voltagesTest referenceTable ∷ []) ≡ accepted
@@ -67,11 +66,6 @@ module _ (mode : DisplayMode) (register : ℕ) where
   unfolding foundEntry lastOf
   taken = rw (table-fine, three, covered third, covered second, covered first)
 
--- the table's ranges: above −128 °C, mode 1 has setting 0 up to 50 °C and setting 1 above, and mode 2 has setting 2
-abbrev pub settingFor : DisplayMode → ℤ → Entry
-settingFor One t = pick (ltZ (coldest .0) t) (pick (leZ t (celsius 50)) (At 0) (At 1)) Nothing
-settingFor Two t = pick (ltZ (coldest .0) t) (At 2) Nothing
-
 module _ (t : ℤ) (top : Le t (pos 2047)) where
   by-one : pick (ltZ (pos 800) t && leZ t (pos 2047)) (At 1) (pick (ltZ (negsuc 2047) t && leZ t (pos 800)) (At 0) Nothing) ≡ settingFor One t
   by-one = by (ltZ (pos 800) t) refl (ltZ (negsuc 2047) t) refl
@@ -92,11 +86,6 @@ module _ (t : ℤ) (top : Le t (pos 2047)) where
 pub found : (mode : DisplayMode) (register : ℕ) → foundEntry referenceTable mode register ≡ settingFor mode (sixteenthsOf register)
 found One register = taken One register ∙ by-one (sixteenthsOf register) (let r = ranged register in omega whole)
 found Two register = taken Two register ∙ by-two (sixteenthsOf register) (let r = ranged register in omega whole)
-
--- the setting of a temperature above −128 °C
-abbrev pub settingAbove : DisplayMode → ℤ → Entry
-settingAbove One t = pick (leZ t (celsius 50)) (At 0) (At 1)
-settingAbove Two t = At 2
 
 -- so one is found at every register but 800h
 pub found-above : (mode : DisplayMode) (register : ℕ) → (register % 4096 ≡ 0x800 → ⊥) → foundEntry referenceTable mode register ≡ settingAbove mode (sixteenthsOf register)

@@ -3,12 +3,15 @@ use mathlib.Core.List.{List, [], _∷_, _++_}
 use Prim.Native.Nat.{ℕ, _*_, _-_, _/_, _%_}
 use lib.Dec.{ltb}
 use lib.IntN.{ℤ, pos, _*ℤ_}
+use lib.Signed.{ltZ, leZ}
 use lib.ListN.{getD, replicate}
 use Rattle.numbers.specs.Choice.{pick}
 use Rattle.numbers.specs.Lists.{tab}
 use Rattle.config.specs.declared.DisplayMode.{DisplayMode}
 use Rattle.config.specs.declared.DisplayMode.the-variants.{One, Two}
 use Rattle.config.specs.Temperature.{coldest, warmest, registerOf}
+use Rattle.otp.specs.declared.Entry.{Entry}
+use Rattle.otp.specs.declared.Entry.the-variants.{At, Nothing}
 use Rattle.otp.specs.Waveform.{modeByte}
 
 -- a line of the table: the mode, the range, for each group the frames of phase A and those of phase B at VSS, and phase A's codes of LUT0 to LUT3
@@ -112,3 +115,13 @@ entryOf s = header s ++ tab 112 (settingByte s)
 -- the three settings, in the order of the table
 unfoldable pub referenceTable : List ℕ
 referenceTable = entryOf full ++ entryOf warm ++ entryOf differential
+
+-- the table's ranges: above −128 °C, mode 1 has setting 0 up to 50 °C and setting 1 above, and mode 2 has setting 2
+abbrev pub settingFor : DisplayMode → ℤ → Entry
+settingFor One t = pick (ltZ (coldest .0) t) (pick (leZ t (celsius 50)) (At 0) (At 1)) Nothing
+settingFor Two t = pick (ltZ (coldest .0) t) (At 2) Nothing
+
+-- the setting of a temperature above −128 °C
+abbrev pub settingAbove : DisplayMode → ℤ → Entry
+settingAbove One t = pick (leZ t (celsius 50)) (At 0) (At 1)
+settingAbove Two t = At 2

@@ -1,4 +1,4 @@
--- The LUT of each pixel (panel.rs, `Panel::start`; document 01: an undriven pixel has 255).
+-- The LUT of each pixel (panel.rs, `Panel::start`).
 use mathlib.Core.Bool.{Bool, false, not}
 use mathlib.Core.List.{List}
 use Prim.Native.Nat.{ℕ, _+_, _-_, _*_, _/_, _%_}
@@ -26,7 +26,7 @@ applied Normal bit = bit
 applied Zero bit = false
 applied Inverse bit = not bit
 
--- a pixel that no gate or source drives (document 01)
+-- a pixel that no gate or source drives (panel.rs, `UNDRIVEN`)
 abbrev pub undriven : ℕ
 undriven = 255
 

@@ -1,4 +1,4 @@
-// Text that a program gathers in a buffer and writes when there is enough of it. What does not fit is left out.
+// The text of docs/replay-format.md's answers, gathered in a buffer and written when there is enough of it. What does not fit is left out.
 use libc::STDOUT_FILENO;
 ghost use mathlib.Core.Path.{_≡_};
 ghost use Prim.Native.Nat.{_<_};

@@ -1,4 +1,4 @@
-// The names of the commands that the model does not carry out.
+// The names of the commands that the model does not carry out (mod.rs, `kind`).
 ghost use mathlib.Core.Path.{_≡_};
 ghost use Prim.Native.Nat.{_≤_};
 ghost use lib.ListN.{length};

@@ -1,4 +1,4 @@
--- How long a display runs, in nanoseconds.
+-- How long a display runs, in nanoseconds (waveform.rs, `duration_ns`).
 use mathlib.Core.List.{List}
 use Prim.Native.Nat.{ℕ, zero, suc, _+_, _*_, min}
 use lib.ListN.{getD}

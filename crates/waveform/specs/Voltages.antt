@@ -1,4 +1,4 @@
--- The voltages of a setting, in millivolts, and which of them a VS code selects.
+-- The voltages of a setting, in millivolts, and which of them a VS code selects (datasheet Table 6-6; waveform.rs, `Levels`).
 use mathlib.Core.List.{List}
 use Prim.Native.Nat.{ℕ, _%_}
 use lib.IntN.{ℤ, pos, negsuc}

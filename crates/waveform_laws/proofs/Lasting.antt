@@ -14,12 +14,8 @@ use Rattle.waveform.specs.declared.Waveform.{Waveform}
 use Rattle.waveform.specs.Phases.{phaseOf, driven, joined, fourPhases, groupPhases, phasesOf, noGroup}
 use Rattle.waveform.specs.Duration.{framesOf, groupNs, groupsNs, durationOf}
 use Rattle.waveform.specs.Exact.{lasts}
+use Rattle.waveform_laws.specs.Total.{total}
 use Rattle.waveform_laws.proofs.Joined.{driven-none, driven-some}
-
--- the time of a list of phases
-unfoldable pub total : List Phase → ℕ
-total [] = 0
-total (p ∷ ps) = lasts p + total ps
 
 total-append : (ps qs : List Phase) → total (ps ++ qs) ≡ total ps + total qs
 unfolding total

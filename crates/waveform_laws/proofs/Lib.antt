@@ -8,4 +8,3 @@ pub mod Stepped
 pub mod Exactly
 pub mod Monotone
 pub mod Lasting
-pub mod Figures

@@ -1,7 +1,9 @@
 //! Temperatures, the choice of a waveform, and the conditions of a start.
 
 use super::{Arguments, Leaf, option};
+use crate::glass::Provenance;
 use crate::ssd1677::config::find_waveform;
+use crate::ssd1677::reference::gdeq0426t82_otp;
 use crate::ssd1677::tests::configuration::{Configuration, FIELDS, Refusal, largest, waveforms};
 use crate::ssd1677::tests::configurations;
 use crate::ssd1677::tests::random::Random;
@@ -50,6 +52,21 @@ fn find_waveform_question(_: u64, random: &mut Random) -> Vec<i128> {
         }
     }
     numbers
+}
+
+/// A byte of the reference's waveforms, 118 an entry as document 01 has them.
+fn reference_byte(arguments: &mut Arguments) -> Option<Vec<i128>> {
+    let mut table = Vec::new();
+    for waveform in gdeq0426t82_otp() {
+        let measured = matches!(waveform.provenance, Provenance::Measured);
+        table.extend([waveform.mode == DisplayMode::Two, measured].map(u8::from));
+        for bound in [waveform.lower, waveform.upper] {
+            table.extend(bound.register().to_be_bytes());
+        }
+        table.extend(waveform.setting);
+    }
+    let place: u16 = arguments.take()?;
+    Some(option(table.get(usize::from(place)).copied()))
 }
 
 /// The 53 fields, the table's length and its bytes.
@@ -132,6 +149,11 @@ pub(super) fn leaves() -> Vec<Leaf> {
             name: "find_waveform",
             answer: find_waveform_answer,
             question: find_waveform_question,
+        },
+        Leaf {
+            name: "gdeq0426t82_otp",
+            answer: reference_byte,
+            question: |place, _| vec![i128::from(place % 360)],
         },
         Leaf {
             name: "validate",

@@ -1,6 +1,7 @@
 //! Voltages, the kinds of the commands, and the registers' own arithmetic.
 
 use super::{Arguments, Leaf, option};
+use crate::ssd1677::tests::hash;
 use crate::ssd1677::tests::listing::source_less_vcom;
 use crate::ssd1677::tests::random::Random;
 use crate::ssd1677::waveform::{
@@ -23,6 +24,18 @@ fn kind_numbers(command: u8) -> [i128; 3] {
         Some(Kind::Unsupported(_)) => [5, 0, 0],
         Some(Kind::Reserved) => [6, 0, 0],
     }
+}
+
+/// The length of the name of a command that is not supported, 0 of another, and the hash of its
+/// text with zeros behind it.
+fn unsupported_name(arguments: &mut Arguments) -> Option<Vec<i128>> {
+    let name = match kind(arguments.take()?) {
+        Some(Kind::Unsupported(name)) => name,
+        _ => "",
+    };
+    let mut bytes = [0; 44];
+    bytes[..name.len()].copy_from_slice(name.as_bytes());
+    Some(vec![name.len() as i128, hash::of_bytes(&bytes).into()])
 }
 
 fn ten_bits_answer(arguments: &mut Arguments) -> Option<Vec<i128>> {
@@ -97,6 +110,11 @@ pub(super) fn leaves() -> Vec<Leaf> {
         Leaf {
             name: "is_read_command",
             answer: |arguments| Some(vec![Ssd1677::is_read_command(arguments.take()?).into()]),
+            question: byte,
+        },
+        Leaf {
+            name: "unsupported_name",
+            answer: unsupported_name,
             question: byte,
         },
         Leaf {

@@ -1,2 +1,0 @@
--- The root of event's specs.
-pub mod Events

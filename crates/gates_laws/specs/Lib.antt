@@ -1,0 +1,2 @@
+-- The root of gates_laws' specs.
+pub mod OneToOne

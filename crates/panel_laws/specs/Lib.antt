@@ -1,0 +1,2 @@
+-- The root of panel_laws' specs.
+pub mod Exactly

@@ -1,0 +1,2 @@
+-- The root of waveform_laws' specs.
+pub mod Total
