@@ -2,7 +2,7 @@
 use mathlib.Core.Path.{_≡_, refl, sym, ap, _∙_}
 use mathlib.Core.Bool.{Bool, true, false}
 use mathlib.Core.List.{List}
-use Prim.Native.Nat.{ℕ, suc, _+_, _-_, _<_}
+use Prim.Native.Nat.{ℕ, zero, suc, _+_, _-_, _≤_, _<_}
 use native.Mathlib.Omega.{arith}
 use lib.ListN.{getD}
 use Rattle.numbers.specs.Choice.{pick}
@@ -71,3 +71,26 @@ module _ (kinds times values : List ℕ) (c : Course) where
     pub all : count - i ≡ 0 → ran i s plane ≡ r
     unfolding running
     all h = sym (ap (λ (k : ℕ). goes k i s plane) h) ∙ inv
+
+  -- the bytes end among the events
+  pub from-on : (n i : ℕ) (s : Reached) (plane : List ℕ) → i ≤ goes n i s plane .made
+  unfolding running
+  from-on zero i s plane = omega arith
+  from-on (suc n) i s plane =
+      by (takes c (getD kinds i 0) (getD times i 0) s plane) _
+      (from-on n (i + 1) (onward c (getD times i 0) s) (writtenAt plane (s .counter) (getD values i 0)))
+    where
+      by : (b : Bool) (r : Ran) → i + 1 ≤ r .made → i ≤ pick b r (ran i s plane) .made
+      by true r h = omega (arith, h)
+      by false r h = omega arith
+
+  pub not-past : (n i : ℕ) (s : Reached) (plane : List ℕ) → goes n i s plane .made ≤ i + n
+  unfolding running
+  not-past zero i s plane = omega arith
+  not-past (suc n) i s plane =
+      by (takes c (getD kinds i 0) (getD times i 0) s plane) _
+      (not-past n (i + 1) (onward c (getD times i 0) s) (writtenAt plane (s .counter) (getD values i 0)))
+    where
+      by : (b : Bool) (r : Ran) → r .made ≤ i + 1 + n → pick b r (ran i s plane) .made ≤ i + suc n
+      by true r h = omega (arith, h)
+      by false r h = omega arith

@@ -20,10 +20,10 @@ never e = let z : _≡_ {A = ℕ} 0 1 = cc in omega arith
 
 module _ {A : Type 0} (step : ℕ → A → Outcome A) where
   -- where a step goes on
-  abbrev onward : ℕ → ℕ → Outcome A → Fed A
-  onward n i o = pick (eqb (o .number) 0) (feeding step n (i + 1) (o .held)) (fed (o .number) i (o .held))
+  abbrev pub goesOn : ℕ → ℕ → Outcome A → Fed A
+  goesOn n i o = pick (eqb (o .number) 0) (feeding step n (i + 1) (o .held)) (fed (o .number) i (o .held))
 
-  one : (n i : ℕ) (w : A) → feeding step (suc n) i w ≡ onward n i (step i w)
+  pub one : (n i : ℕ) (w : A) → feeding step (suc n) i w ≡ goesOn n i (step i w)
   unfolding feeding
   one n i w = refl
 
@@ -31,13 +31,13 @@ module _ {A : Type 0} (step : ℕ → A → Outcome A) where
   left : (count i : ℕ) → i < count → count - i ≡ suc (count - (i + 1))
   left count i h = omega (arith, h)
 
-  next : (count i : ℕ) (w : A) → i < count → feeding step (count - i) i w ≡ onward (count - (i + 1)) i (step i w)
+  next : (count i : ℕ) (w : A) → i < count → feeding step (count - i) i w ≡ goesOn (count - (i + 1)) i (step i w)
   next count i w h = ap (λ (k : ℕ). feeding step k i w) (left count i h) ∙ one (count - (i + 1)) i w
 
   -- an accepted step
   pub fed-more : (count i : ℕ) (f : Fed A) (w : A) {v : A} (refusal : Refusal) → i < count → accepts refusal ≡ true
       → outcome (numberOf refusal) v ≡ step i w → feeding step (count - i) i w ≡ f → feeding step (count - (i + 1)) (i + 1) v ≡ f
-  fed-more count i f w Accepted h a e g = ap (onward (count - (i + 1)) i) e ∙ sym (next count i w h) ∙ g
+  fed-more count i f w Accepted h a e g = ap (goesOn (count - (i + 1)) i) e ∙ sym (next count i w h) ∙ g
   fed-more count i f w Buffer h a e g = absurd (never a)
   fed-more count i f w Table h a e g = absurd (never a)
   fed-more count i f w State h a e g = absurd (never a)
@@ -46,9 +46,9 @@ module _ {A : Type 0} (step : ℕ → A → Outcome A) where
   pub fed-last : (count i : ℕ) (f : Fed A) (w : A) {v : A} (refusal : Refusal) → i < count → accepts refusal ≡ false
       → outcome (numberOf refusal) v ≡ step i w → feeding step (count - i) i w ≡ f → fed (numberOf refusal) i v ≡ f
   fed-last count i f w Accepted h a e g = absurd (never (sym a))
-  fed-last count i f w Buffer h a e g = ap (onward (count - (i + 1)) i) e ∙ sym (next count i w h) ∙ g
-  fed-last count i f w Table h a e g = ap (onward (count - (i + 1)) i) e ∙ sym (next count i w h) ∙ g
-  fed-last count i f w State h a e g = ap (onward (count - (i + 1)) i) e ∙ sym (next count i w h) ∙ g
+  fed-last count i f w Buffer h a e g = ap (goesOn (count - (i + 1)) i) e ∙ sym (next count i w h) ∙ g
+  fed-last count i f w Table h a e g = ap (goesOn (count - (i + 1)) i) e ∙ sym (next count i w h) ∙ g
+  fed-last count i f w State h a e g = ap (goesOn (count - (i + 1)) i) e ∙ sym (next count i w h) ∙ g
 
   -- all were accepted
   pub fed-all : (count i : ℕ) (f : Fed A) (w : A) → count - i ≡ 0 → feeding step (count - i) i w ≡ f → fed 0 i w ≡ f

@@ -1,15 +1,20 @@
 -- Events made one after the other, up to the first call that is refused (change request #102).
 use mathlib.Core.Bool.{not}
+use mathlib.Core.Path.{_≡_}
 use mathlib.Core.List.{List, [], _∷_}
-use Prim.Native.Nat.{ℕ, zero, suc, _+_, min}
+use Prim.Native.Nat.{ℕ, zero, suc, _+_, _-_, min}
 use lib.Dec.{eqb}
+use lib.IntN.{ℤ}
 use lib.ListN.{length, getD}
 use Rattle.numbers.specs.Choice.{pick}
 use Rattle.numbers.specs.Rows.{Row, lookup}
 use Rattle.event.specs.declared.Event.{Event}
 use Rattle.event.specs.declared.Event.the-variants.{Command, Data, Read, Reset, Advance}
+use Rattle.guard_lengths.specs.declared.Lengths.{Lengths}
+use Rattle.guard_lengths.specs.Lengths.{planesLogLent}
 use Rattle.query.specs.Outcome.{Outcome, outcome}
-use Rattle.dispatch.specs.Dispatch.{World, Told, dispatched}
+use Rattle.dispatch.specs.Dispatch.{World, world, Told, dispatched}
+use Rattle.burst.specs.Burst.{Bursted}
 
 -- a row of the table
 abbrev pub row : ℕ → Event → Row Event
@@ -59,3 +64,13 @@ unread o = outcome (o .number) (o .held .left)
 -- the step that makes the event of a place
 abbrev pub made : List ℕ → List ℕ → (ℕ → Event) → ℕ → World → Outcome World
 made gates otp event i w = unread (dispatched gates otp w (event i))
+
+-- the rest of the events, fed from one place with its state and planes, ends as from another, whatever else is lent with the lengths of a data byte's call
+unfoldable pub EndsAlike : List ℕ → List ℕ → List ℕ → ℕ → Lengths → Bursted → Bursted → Type 0
+EndsAlike kinds times values count lengths one other =
+    (gates otp luts pixels log : List ℕ) (states : List ℤ)
+    → lengths ≡ planesLogLent (length states) (length luts) (length pixels) (length log) (length (one .blackWhite)) (length (one .red))
+    → feeding (made gates otp (eventAt kinds times values)) (count - other .made) (other .made)
+    (world (other .device) states luts pixels (other .blackWhite) (other .red) log)
+    ≡ feeding (made gates otp (eventAt kinds times values)) (count - one .made) (one .made)
+    (world (one .device) states luts pixels (one .blackWhite) (one .red) log)

@@ -1,12 +1,16 @@
 // Events made of a device one after the other, up to the first call that is refused: what change request #102 feeds from a file.
 ghost use mathlib.Core.Path.{_≡_};
-ghost use Prim.Native.Nat.{min};
+ghost use Prim.Native.Nat.{min, _≤_, _<_};
+ghost use lib.ListN.{length};
 ghost use Rattle.guard.specs.Refusals.{numberOf};
 ghost use Rattle.dispatch.specs.Dispatch.{world};
-ghost use Rattle.traffic.specs.Traffic.{eventOf, eventAt, shortest, fed, made, feeding};
+ghost use Rattle.burst.specs.Burst.{bursted};
+ghost use Rattle.traffic.specs.Traffic.{eventOf, eventAt, shortest, fed, made, feeding, EndsAlike};
+use burst::Burst;
 use device::Ssd1677;
 use event::Event;
 use guard::Refusal;
+use guard_lengths::Lengths;
 
 // How events ended: the refusal of the last call, the state that they leave, and how many of them were made before a refused one.
 pub struct Fed {
@@ -37,6 +41,41 @@ fn shorter(one: usize, other: usize) -> usize
     other
 }
 
+// RAM data from a place on, which would be accepted a byte a call, made at once: how many events are then made, and the state.
+fn stream(
+    state: Ssd1677,
+    lengths: Lengths,
+    black_white: &mut [u8],
+    red: &mut [u8],
+    kinds: &[u8],
+    times: &[u64],
+    values: &[u8],
+    from: usize,
+    count: usize,
+) -> Burst
+    requires { ⌜ (from < count) × (count ≤ length (now kinds)) × (count ≤ length (now times)) × (count ≤ length (now values)) ⌝ }
+    ensures { λ r. ⌜ (from ≤ r .made) × (r .made ≤ count) ⌝ }
+    ensures { λ r. ⌜ EndsAlike (now (kinds .entry)) (now (times .entry)) (now (values .entry)) count lengths (bursted from state (now («black_white» .entry)) (now (red .entry))) (bursted (r .made) (r .state) (now («black_white» .exit)) (now (red .exit))) ⌝ }
+{
+    if kinds[from] == 2 {
+        let refusal = guard::check(state, lengths);
+        if guard::is_accepted(refusal) {
+            return burst::write_burst(
+                state,
+                black_white,
+                red,
+                kinds,
+                times,
+                values,
+                from,
+                count,
+            );
+        }
+        return Burst { made: from, state };
+    }
+    Burst { made: from, state }
+}
+
 // Events by their kinds, times and values, as many as all three have.
 pub fn feed(
     state: Ssd1677,
@@ -55,12 +94,40 @@ pub fn feed(
     ensures { λ r. ⌜ fed (numberOf (r .refusal)) (r .made) (world (r .state) (now (states .exit)) (now (luts .exit)) (now (pixels .exit)) (now («black_white» .exit)) (now (red .exit)) (now (log .exit))) ≡ feeding (made (now (gates .entry)) (now (otp .entry)) (eventAt (now (kinds .entry)) (now (times .entry)) (now (values .entry)))) (shortest (now (kinds .entry)) (now (times .entry)) (now (values .entry))) 0 (world state (now (states .entry)) (now (luts .entry)) (now (pixels .entry)) (now («black_white» .entry)) (now (red .entry)) (now (log .entry))) ⌝ }
 {
     let count = shorter(kinds.len(), shorter(times.len(), values.len()));
+    let lengths = guard_lengths::planes_log_lent(
+        states.len(),
+        luts.len(),
+        pixels.len(),
+        log.len(),
+        black_white.len(),
+        red.len(),
+    );
     let mut next = state;
     let mut i: usize = 0;
     while i < count {
-        let event = event_of(kinds[i], times[i], values[i]);
-        let answer = dispatch::dispatch(
+        let run = stream(
             next,
+            lengths,
+            &mut black_white[..],
+            &mut red[..],
+            kinds,
+            times,
+            values,
+            i,
+            count,
+        );
+        let at = run.made;
+        let present = run.state;
+        if count <= at {
+            return Fed {
+                refusal: Refusal::Accepted,
+                state: present,
+                made: at,
+            };
+        }
+        let event = event_of(kinds[at], times[at], values[at]);
+        let answer = dispatch::dispatch(
+            present,
             &mut states[..],
             &mut luts[..],
             &mut pixels[..],
@@ -77,10 +144,10 @@ pub fn feed(
             return Fed {
                 refusal,
                 state: next,
-                made: i,
+                made: at,
             };
         }
-        i += 1;
+        i = at + 1;
     }
     Fed {
         refusal: Refusal::Accepted,
