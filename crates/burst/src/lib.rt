@@ -64,14 +64,7 @@ fn is_quiet(course: Course, latest: u64) -> bool
 }
 
 // One event, where it is a byte of RAM data and nothing more.
-fn take(
-    plane: &mut [u8],
-    course: Course,
-    reached: Reached,
-    kind: u8,
-    time: u64,
-    byte: u8,
-) -> Taken
+fn take(plane: &mut [u8], course: Course, reached: Reached, kind: u8, time: u64, byte: u8) -> Taken
     ensures { λ r. ⌜ step (r .done) (r .reached) (now (plane .exit)) ≡ taking course kind time byte reached (now (plane .entry)) ⌝ }
 {
     let latest = numbers::max_u64(reached.latest, time);
@@ -216,7 +209,16 @@ pub fn write_burst(
             let kind = active.kind;
             if data::is_stream(kind) {
                 if active.command == 0x24 {
-                    return run_into(state, active, black_white, kinds, times, values, from, count);
+                    return run_into(
+                        state,
+                        active,
+                        black_white,
+                        kinds,
+                        times,
+                        values,
+                        from,
+                        count,
+                    );
                 }
                 return run_into(state, active, red, kinds, times, values, from, count);
             }

@@ -13,9 +13,9 @@ use Rattle.guard.specs.Refusals.{numberOf, accepts}
 use Rattle.ram.specs.declared.Byte.{Byte}
 use Rattle.event.specs.declared.Event.{Event}
 use Rattle.dispatch.specs.Dispatch.{World, told, dispatched}
-use Rattle.traffic.specs.Traffic.{Fed, fed, feeding, unread, made}
+use Rattle.traffic.specs.Traffic.{Fed, fed, feeding, ended, unread, made}
 
-never : false ≡ true → ⊥
+pub never : false ≡ true → ⊥
 never e = let z : _≡_ {A = ℕ} 0 1 = cc in omega arith
 
 module _ {A : Type 0} (step : ℕ → A → Outcome A) where
@@ -54,6 +54,24 @@ module _ {A : Type 0} (step : ℕ → A → Outcome A) where
   pub fed-all : (count i : ℕ) (f : Fed A) (w : A) → count - i ≡ 0 → feeding step (count - i) i w ≡ f → fed 0 i w ≡ f
   unfolding feeding
   fed-all count i f w h g = sym (ap (λ (k : ℕ). feeding step k i w) h) ∙ g
+
+  -- after accepted steps the others are made
+  pub ended-on : (count : ℕ) (refusal : Refusal) (i : ℕ) (w : A) → accepts refusal ≡ true
+      → ended step count (fed (numberOf refusal) i w) ≡ feeding step (count - i) i w
+  unfolding ended
+  ended-on count Accepted i w a = refl
+  ended-on count Buffer i w a = absurd (never a)
+  ended-on count Table i w a = absurd (never a)
+  ended-on count State i w a = absurd (never a)
+
+  -- after a refused one none is
+  pub ended-there : (count : ℕ) (refusal : Refusal) (i : ℕ) (w : A) → accepts refusal ≡ false
+      → ended step count (fed (numberOf refusal) i w) ≡ fed (numberOf refusal) i w
+  unfolding ended
+  ended-there count Accepted i w a = absurd (never (sym a))
+  ended-there count Buffer i w a = refl
+  ended-there count Table i w a = refl
+  ended-there count State i w a = refl
 
 -- the step of a place, by what its event does
 pub made-one : (gates otp : List ℕ) (events : ℕ → Event) (i : ℕ) (w : World) {v : World} {number : ℕ} {byte : Byte} {event : Event}

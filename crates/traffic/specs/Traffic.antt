@@ -57,6 +57,10 @@ feeding step zero i w = fed 0 i w
 feeding step (suc n) i w =
     pick (eqb (step i w .number) 0) (feeding step n (i + 1) (step i w .held)) (fed (step i w .number) i (step i w .held))
 
+-- how count steps end, by how the first of them ended: a refused one was the last, after accepted ones the others are made
+unfoldable pub ended : {A : Type 0} → (ℕ → A → Outcome A) → ℕ → Fed A → Fed A
+ended step count f = pick (eqb (f .number) 0) (feeding step (count - f .made) (f .made) (f .left)) f
+
 -- the byte that a read gives is dropped
 abbrev pub unread : Outcome Told → Outcome World
 unread o = outcome (o .number) (o .held .left)
