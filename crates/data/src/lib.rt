@@ -47,7 +47,7 @@ fn left(counter: Counter, bus: Bus) -> Streamed
 }
 
 // Whether a command of the kind takes RAM data.
-fn is_stream(kind: Kind) -> bool
+pub fn is_stream(kind: Kind) -> bool
     ensures { λ r. ⌜ r ≡ isStream kind ⌝ }
 {
     match kind {

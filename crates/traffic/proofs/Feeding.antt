@@ -13,17 +13,17 @@ use Rattle.guard.specs.Refusals.{numberOf, accepts}
 use Rattle.ram.specs.declared.Byte.{Byte}
 use Rattle.event.specs.declared.Event.{Event}
 use Rattle.dispatch.specs.Dispatch.{World, told, dispatched}
-use Rattle.traffic.specs.Traffic.{Fed, fed, feeding, unread, made}
+use Rattle.traffic.specs.Traffic.{Fed, fed, feeding, ended, unread, made}
 
-never : false ≡ true → ⊥
+pub never : false ≡ true → ⊥
 never e = let z : _≡_ {A = ℕ} 0 1 = cc in omega arith
 
 module _ {A : Type 0} (step : ℕ → A → Outcome A) where
   -- where a step goes on
-  abbrev onward : ℕ → ℕ → Outcome A → Fed A
-  onward n i o = pick (eqb (o .number) 0) (feeding step n (i + 1) (o .held)) (fed (o .number) i (o .held))
+  abbrev pub goesOn : ℕ → ℕ → Outcome A → Fed A
+  goesOn n i o = pick (eqb (o .number) 0) (feeding step n (i + 1) (o .held)) (fed (o .number) i (o .held))
 
-  one : (n i : ℕ) (w : A) → feeding step (suc n) i w ≡ onward n i (step i w)
+  pub one : (n i : ℕ) (w : A) → feeding step (suc n) i w ≡ goesOn n i (step i w)
   unfolding feeding
   one n i w = refl
 
@@ -31,13 +31,13 @@ module _ {A : Type 0} (step : ℕ → A → Outcome A) where
   left : (count i : ℕ) → i < count → count - i ≡ suc (count - (i + 1))
   left count i h = omega (arith, h)
 
-  next : (count i : ℕ) (w : A) → i < count → feeding step (count - i) i w ≡ onward (count - (i + 1)) i (step i w)
+  next : (count i : ℕ) (w : A) → i < count → feeding step (count - i) i w ≡ goesOn (count - (i + 1)) i (step i w)
   next count i w h = ap (λ (k : ℕ). feeding step k i w) (left count i h) ∙ one (count - (i + 1)) i w
 
   -- an accepted step
   pub fed-more : (count i : ℕ) (f : Fed A) (w : A) {v : A} (refusal : Refusal) → i < count → accepts refusal ≡ true
       → outcome (numberOf refusal) v ≡ step i w → feeding step (count - i) i w ≡ f → feeding step (count - (i + 1)) (i + 1) v ≡ f
-  fed-more count i f w Accepted h a e g = ap (onward (count - (i + 1)) i) e ∙ sym (next count i w h) ∙ g
+  fed-more count i f w Accepted h a e g = ap (goesOn (count - (i + 1)) i) e ∙ sym (next count i w h) ∙ g
   fed-more count i f w Buffer h a e g = absurd (never a)
   fed-more count i f w Table h a e g = absurd (never a)
   fed-more count i f w State h a e g = absurd (never a)
@@ -46,14 +46,32 @@ module _ {A : Type 0} (step : ℕ → A → Outcome A) where
   pub fed-last : (count i : ℕ) (f : Fed A) (w : A) {v : A} (refusal : Refusal) → i < count → accepts refusal ≡ false
       → outcome (numberOf refusal) v ≡ step i w → feeding step (count - i) i w ≡ f → fed (numberOf refusal) i v ≡ f
   fed-last count i f w Accepted h a e g = absurd (never (sym a))
-  fed-last count i f w Buffer h a e g = ap (onward (count - (i + 1)) i) e ∙ sym (next count i w h) ∙ g
-  fed-last count i f w Table h a e g = ap (onward (count - (i + 1)) i) e ∙ sym (next count i w h) ∙ g
-  fed-last count i f w State h a e g = ap (onward (count - (i + 1)) i) e ∙ sym (next count i w h) ∙ g
+  fed-last count i f w Buffer h a e g = ap (goesOn (count - (i + 1)) i) e ∙ sym (next count i w h) ∙ g
+  fed-last count i f w Table h a e g = ap (goesOn (count - (i + 1)) i) e ∙ sym (next count i w h) ∙ g
+  fed-last count i f w State h a e g = ap (goesOn (count - (i + 1)) i) e ∙ sym (next count i w h) ∙ g
 
   -- all were accepted
   pub fed-all : (count i : ℕ) (f : Fed A) (w : A) → count - i ≡ 0 → feeding step (count - i) i w ≡ f → fed 0 i w ≡ f
   unfolding feeding
   fed-all count i f w h g = sym (ap (λ (k : ℕ). feeding step k i w) h) ∙ g
+
+  -- after accepted steps the others are made
+  pub ended-on : (count : ℕ) (refusal : Refusal) (i : ℕ) (w : A) → accepts refusal ≡ true
+      → ended step count (fed (numberOf refusal) i w) ≡ feeding step (count - i) i w
+  unfolding ended
+  ended-on count Accepted i w a = refl
+  ended-on count Buffer i w a = absurd (never a)
+  ended-on count Table i w a = absurd (never a)
+  ended-on count State i w a = absurd (never a)
+
+  -- after a refused one none is
+  pub ended-there : (count : ℕ) (refusal : Refusal) (i : ℕ) (w : A) → accepts refusal ≡ false
+      → ended step count (fed (numberOf refusal) i w) ≡ fed (numberOf refusal) i w
+  unfolding ended
+  ended-there count Accepted i w a = absurd (never (sym a))
+  ended-there count Buffer i w a = refl
+  ended-there count Table i w a = refl
+  ended-there count State i w a = refl
 
 -- the step of a place, by what its event does
 pub made-one : (gates otp : List ℕ) (events : ℕ → Event) (i : ℕ) (w : World) {v : World} {number : ℕ} {byte : Byte} {event : Event}

@@ -1,2 +1,3 @@
 -- The root of traffic's proofs.
 pub mod Feeding
+pub mod Burst

@@ -1,15 +1,20 @@
 -- Events made one after the other, up to the first call that is refused (change request #102).
 use mathlib.Core.Bool.{not}
+use mathlib.Core.Path.{_≡_}
 use mathlib.Core.List.{List, [], _∷_}
-use Prim.Native.Nat.{ℕ, zero, suc, _+_, min}
+use Prim.Native.Nat.{ℕ, zero, suc, _+_, _-_, min}
 use lib.Dec.{eqb}
+use lib.IntN.{ℤ}
 use lib.ListN.{length, getD}
 use Rattle.numbers.specs.Choice.{pick}
 use Rattle.numbers.specs.Rows.{Row, lookup}
 use Rattle.event.specs.declared.Event.{Event}
 use Rattle.event.specs.declared.Event.the-variants.{Command, Data, Read, Reset, Advance}
+use Rattle.guard_lengths.specs.declared.Lengths.{Lengths}
+use Rattle.guard_lengths.specs.Lengths.{planesLogLent}
 use Rattle.query.specs.Outcome.{Outcome, outcome}
-use Rattle.dispatch.specs.Dispatch.{World, Told, dispatched}
+use Rattle.dispatch.specs.Dispatch.{World, world, Told, dispatched}
+use Rattle.burst.specs.Burst.{Bursted}
 
 -- a row of the table
 abbrev pub row : ℕ → Event → Row Event
@@ -52,6 +57,10 @@ feeding step zero i w = fed 0 i w
 feeding step (suc n) i w =
     pick (eqb (step i w .number) 0) (feeding step n (i + 1) (step i w .held)) (fed (step i w .number) i (step i w .held))
 
+-- how count steps end, by how the first of them ended: a refused one was the last, after accepted ones the others are made
+unfoldable pub ended : {A : Type 0} → (ℕ → A → Outcome A) → ℕ → Fed A → Fed A
+ended step count f = pick (eqb (f .number) 0) (feeding step (count - f .made) (f .made) (f .left)) f
+
 -- the byte that a read gives is dropped
 abbrev pub unread : Outcome Told → Outcome World
 unread o = outcome (o .number) (o .held .left)
@@ -59,3 +68,13 @@ unread o = outcome (o .number) (o .held .left)
 -- the step that makes the event of a place
 abbrev pub made : List ℕ → List ℕ → (ℕ → Event) → ℕ → World → Outcome World
 made gates otp event i w = unread (dispatched gates otp w (event i))
+
+-- the rest of the events, fed from one place with its state and planes, ends as from another, whatever else is lent with the lengths of a data byte's call
+unfoldable pub EndsAlike : List ℕ → List ℕ → List ℕ → ℕ → Lengths → Bursted → Bursted → Type 0
+EndsAlike kinds times values count lengths one other =
+    (gates otp luts pixels log : List ℕ) (states : List ℤ)
+    → lengths ≡ planesLogLent (length states) (length luts) (length pixels) (length log) (length (one .blackWhite)) (length (one .red))
+    → feeding (made gates otp (eventAt kinds times values)) (count - other .made) (other .made)
+    (world (other .device) states luts pixels (other .blackWhite) (other .red) log)
+    ≡ feeding (made gates otp (eventAt kinds times values)) (count - one .made) (one .made)
+    (world (one .device) states luts pixels (one .blackWhite) (one .red) log)

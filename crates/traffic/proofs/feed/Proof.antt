@@ -1,4 +1,4 @@
--- `traffic::feed` meets its contract: after i turns, the events that are left give from what is there what all of them give from the start.
+-- `traffic::feed` meets its contract: after some turns, the events that are left give from what is there what all of them give from the start.
 use mathlib.Core.Path.{_≡_, sym, ap, _∙_}
 use Prim.Native.Nat.{ℕ, _-_, _≤_, min}
 use native.Mathlib.Omega.{arith}
@@ -8,7 +8,7 @@ use borrow.Author.Tests.{not-true, not-false}
 use Rattle.query.specs.Outcome.{Outcome}
 use Rattle.dispatch.specs.Dispatch.{World, world}
 use Rattle.traffic.specs.Traffic.{eventAt, shortest, made, feeding}
-use Rattle.traffic.proofs.Feeding.{made-one, fed-more, fed-last, fed-all}
+use Rattle.traffic.proofs.Feeding.{fed-all, ended-on, ended-there}
 use Rattle.traffic.proofs.feed.Statement.{statement}
 use Rattle.traffic.proofs.feed.Tie as tie
 
@@ -44,81 +44,65 @@ loop-holds c =
     let all : n - 0 ≡ n = omega arith in
     (ap (λ (k : ℕ). feeding (step s) k 0 (given s)) all, search needs)
 
-mul-event-of : tie.Need-mul-event-of Inv-loop μ-loop
-mul-event-of c = omega (arith, c .before .before .before .shorter2 .ensures, c .before .before .before .before .shorter .ensures, c .before .before .before .before .before .before .before .before .before .before .before .before .before .before .before .good .1 .1 .1 .1 .1 .1 .1 .1 .1 .1 .0 .1)
-
-shared-slice-read-event-of : tie.Need-shared-slice-read-event-of Inv-loop μ-loop
-shared-slice-read-event-of c = omega (arith, c .before .before .before .shorter2 .ensures, c .before .before .before .before .shorter .ensures)
-
-shared-slice-read-event-of-2 : tie.Need-shared-slice-read-event-of-2 Inv-loop μ-loop
-shared-slice-read-event-of-2 c = omega (arith, c .before .before .before .before .shorter2 .ensures, c .before .before .before .before .before .shorter .ensures)
-
-shared-slice-read-event-of-3 : tie.Need-shared-slice-read-event-of-3 Inv-loop μ-loop
-shared-slice-read-event-of-3 c = omega (arith, c .before .before .before .before .before .shorter2 .ensures, c .before .before .before .before .before .before .shorter .ensures)
-
-event-of-requires : tie.Need-event-of-requires Inv-loop μ-loop
-event-of-requires c κs = search needs
-
-dispatch-requires : tie.Need-dispatch-requires Inv-loop μ-loop
-dispatch-requires c κs = search needs
+turn-requires : tie.Need-turn-requires Inv-loop μ-loop
+turn-requires c κs =
+    let one = c .before .before .before .before .before .before .before .before .shorter2 .ensures in
+    let two = c .before .before .before .before .before .before .before .before .before .shorter .ensures in
+    (c .before .before .before .before .before .before .loop-test .taken, omega (arith, one, two), omega (arith, one, two), omega (arith, one, two))
 
 is-accepted-requires : tie.Need-is-accepted-requires Inv-loop μ-loop
 is-accepted-requires c κs = search needs
 
 same-length : tie.Need-same-length Inv-loop μ-loop
-same-length c = c .before .before .before .before .before .before .before .before .before .before .before .before .before .before .dispatch .kept .1 .0 ∙ c .before .before .before .before .before .before .before .before .before .before .before .before .before .before .before .before .before .before .before .before .before .before .before .before .before .before .loop .inv .1 .0
+same-length c = c .before .before .before .before .before .before .before .before .before .before .before .before .before .turn .kept .1 .0 ∙ c .before .before .before .before .before .before .before .before .before .before .before .before .before .before .before .before .before .before .before .before .before .loop .inv .1 .0
 
 same-length-2 : tie.Need-same-length-2 Inv-loop μ-loop
-same-length-2 c = c .before .before .before .before .before .before .before .before .before .before .before .before .before .before .dispatch .kept .1 .1 .0 ∙ c .before .before .before .before .before .before .before .before .before .before .before .before .before .before .before .before .before .before .before .before .before .before .before .before .before .before .loop .inv .1 .1
+same-length-2 c = c .before .before .before .before .before .before .before .before .before .before .before .before .before .turn .kept .1 .1 .0 ∙ c .before .before .before .before .before .before .before .before .before .before .before .before .before .before .before .before .before .before .before .before .before .loop .inv .1 .1
 
 same-length-3 : tie.Need-same-length-3 Inv-loop μ-loop
-same-length-3 c = c .before .before .before .before .before .before .before .before .before .before .before .before .before .before .dispatch .kept .1 .1 .1 .0 ∙ c .before .before .before .before .before .before .before .before .before .before .before .before .before .before .before .before .before .before .before .before .before .before .before .before .before .before .loop .inv .1 .2
+same-length-3 c = c .before .before .before .before .before .before .before .before .before .before .before .before .before .turn .kept .1 .1 .1 .0 ∙ c .before .before .before .before .before .before .before .before .before .before .before .before .before .before .before .before .before .before .before .before .before .loop .inv .1 .2
 
 same-length-4 : tie.Need-same-length-4 Inv-loop μ-loop
-same-length-4 c = c .before .before .before .before .before .before .before .before .before .before .before .before .before .before .dispatch .kept .1 .1 .1 .1 .0 ∙ c .before .before .before .before .before .before .before .before .before .before .before .before .before .before .before .before .before .before .before .before .before .before .before .before .before .before .loop .inv .1 .3
+same-length-4 c = c .before .before .before .before .before .before .before .before .before .before .before .before .before .turn .kept .1 .1 .1 .1 .0 ∙ c .before .before .before .before .before .before .before .before .before .before .before .before .before .before .before .before .before .before .before .before .before .loop .inv .1 .3
 
 same-length-5 : tie.Need-same-length-5 Inv-loop μ-loop
-same-length-5 c = c .before .before .before .before .before .before .before .before .before .before .before .before .before .before .dispatch .kept .1 .1 .1 .1 .1 .0 ∙ c .before .before .before .before .before .before .before .before .before .before .before .before .before .before .before .before .before .before .before .before .before .before .before .before .before .before .loop .inv .1 .4
+same-length-5 c = c .before .before .before .before .before .before .before .before .before .before .before .before .before .turn .kept .1 .1 .1 .1 .1 .0 ∙ c .before .before .before .before .before .before .before .before .before .before .before .before .before .before .before .before .before .before .before .before .before .loop .inv .1 .4
 
 same-length-6 : tie.Need-same-length-6 Inv-loop μ-loop
-same-length-6 c = c .before .before .before .before .before .before .before .before .before .before .before .before .before .before .dispatch .kept .1 .1 .1 .1 .1 .1 .1 .0 ∙ c .before .before .before .before .before .before .before .before .before .before .before .before .before .before .before .before .before .before .before .before .before .before .before .before .before .before .loop .inv .1 .5
+same-length-6 c = c .before .before .before .before .before .before .before .before .before .before .before .before .before .turn .kept .1 .1 .1 .1 .1 .1 .1 .0 ∙ c .before .before .before .before .before .before .before .before .before .before .before .before .before .before .before .before .before .before .before .before .before .loop .inv .1 .5
 
 returns : tie.Need-returns Inv-loop μ-loop
 returns c =
-    let s = c .before .before .before .before .before .before .before .before .before .before .before .before .before .before .before .before .before .before .before .before .before .before .before .before .before .before .before .before .before .before .before .before .before .before .before .before .before .before .before in
-    let m = c .before .before .before .before .before .before .before .before .before .before .before .before .before .before .before .before .before .before .before .before .before .before .before .before .before .before in
-    let w = world (m .loop .next) (m .loop .states) (m .loop .luts) (m .loop .pixels) (m .loop .black-white) (m .loop .red) (m .loop .log) in
+    let s = c .before .before .before .before .before .before .before .before .before .before .before .before .before .before .before .before .before .before .before .before .before .before .before .before .before .before .before .before .before .before .before .before .before .before in
+    let m = c .before .before .before .before .before .before .before .before .before .before .before .before .before .before .before .before .before .before .before .before .before in
     let n = m .before .shorter2 .result in
-    fed-last (step s) n (m .loop .i) (feeding (step s) n 0 (given s)) w (c .before .before .before .before .before .before .before .before .before .before .before .before .before .before .dispatch .result .refusal) (c .before .before .before .before .before .before .before .before .before .before .before .before .before .before .before .before .before .before .before .before .before .before .before .before .before .loop-test .taken)
-    (sym (c .before .is-accepted .ensures) ∙ not-true _ (c .if1 .taken))
-    (made-one (s .args .gates .now) (s .args .otp .now) (eventAt (s .args .kinds .now) (s .args .times .now) (s .args .values .now)) (m .loop .i) w (c .before .before .before .before .before .before .before .before .before .before .before .before .before .before .dispatch .ensures) (c .before .before .before .before .before .before .before .before .before .before .before .before .before .before .before .before .before .before .before .before .before .event-of .ensures))
-    (m .loop .inv .0)
+    let f = c .before .before .before .before .before .before .before .before .before .before .before .before .before .turn .result in
+    sym (ended-there (step s) n (f .refusal) (f .made) _ (sym (c .before .is-accepted .ensures) ∙ not-true _ (c .if1 .taken)))
+    ∙ c .before .before .before .before .before .before .before .before .before .before .before .before .before .turn .ensures .1
+    ∙ m .loop .inv .0
     ∙ ap (λ (k : ℕ). feeding (step s) k 0 (given s)) (m .before .shorter2 .ensures ∙ ap (min (length (s .args .kinds .now))) (m .before .before .shorter .ensures))
 
-add-i : tie.Need-add-i Inv-loop μ-loop
-add-i c = omega (arith, c .before .before .before .before .before .before .before .before .before .before .before .before .before .before .before .before .before .before .before .before .before .before .before .before .before .loop-test .taken, c .before .before .before .before .before .before .before .before .before .before .before .before .before .before .before .before .before .before .before .before .before .before .before .before .before .before .before .shorter2 .ok)
-
 loop-less : tie.Need-loop-less Inv-loop μ-loop
-loop-less c = omega (arith, c .before .before .before .before .before .before .before .before .before .before .before .before .before .before .before .before .before .before .before .before .before .before .before .before .before .loop-test .taken)
+loop-less c =
+    let h = c .before .before .before .before .before .before .before .before .before .before .before .before .before .before .turn .ensures .0 (sym (c .before .before .is-accepted .ensures) ∙ not-false _ (c .before .if1 .left)) in
+    omega (arith, h, c .before .before .before .before .before .before .before .before .before .before .before .before .before .before .before .before .before .before .before .before .before .loop-test .taken)
 
 loop-again : tie.Need-loop-again Inv-loop μ-loop
 loop-again c =
-    let s = c .before .before .before .before .before .before .before .before .before .before .before .before .before .before .before .before .before .before .before .before .before .before .before .before .before .before .before .before .before .before .before .before .before .before .before .before .before .before .before in
-    let m = c .before .before .before .before .before .before .before .before .before .before .before .before .before .before .before .before .before .before .before .before .before .before .before .before .before .before in
-    let w = world (m .loop .next) (m .loop .states) (m .loop .luts) (m .loop .pixels) (m .loop .black-white) (m .loop .red) (m .loop .log) in
-    let n = m .before .shorter2 .result in (
-      fed-more (step s) n (m .loop .i) (feeding (step s) n 0 (given s)) w (c .before .before .before .before .before .before .before .before .before .before .before .before .before .before .dispatch .result .refusal) (c .before .before .before .before .before .before .before .before .before .before .before .before .before .before .before .before .before .before .before .before .before .before .before .before .before .loop-test .taken)
-          (sym (c .before .is-accepted .ensures) ∙ not-false _ (c .if1 .left))
-          (made-one (s .args .gates .now) (s .args .otp .now) (eventAt (s .args .kinds .now) (s .args .times .now) (s .args .values .now)) (m .loop .i) w (c .before .before .before .before .before .before .before .before .before .before .before .before .before .before .dispatch .ensures) (c .before .before .before .before .before .before .before .before .before .before .before .before .before .before .before .before .before .before .before .before .before .event-of .ensures))
-          (m .loop .inv .0),
+    let s = c .before .before .before .before .before .before .before .before .before .before .before .before .before .before .before .before .before .before .before .before .before .before .before .before .before .before .before .before .before .before .before .before .before .before .before in
+    let m = c .before .before .before .before .before .before .before .before .before .before .before .before .before .before .before .before .before .before .before .before .before .before in
+    let n = m .before .shorter2 .result in
+    let f = c .before .before .before .before .before .before .before .before .before .before .before .before .before .before .turn .result in
+    let a = sym (c .before .before .is-accepted .ensures) ∙ not-false _ (c .before .if1 .left) in (
+      sym (ended-on (step s) n (f .refusal) (f .made) _ a) ∙ c .before .before .before .before .before .before .before .before .before .before .before .before .before .before .turn .ensures .1 ∙ m .loop .inv .0,
       (
-        c .before .before .before .before .before .before .before .before .before .before .before .before .before .before .dispatch .kept .1 .0 ∙ c .before .before .before .before .before .before .before .before .before .before .before .before .before .before .before .before .before .before .before .before .before .before .before .before .before .before .loop .inv .1 .0,
-        c .before .before .before .before .before .before .before .before .before .before .before .before .before .before .dispatch .kept .1 .1 .0 ∙ c .before .before .before .before .before .before .before .before .before .before .before .before .before .before .before .before .before .before .before .before .before .before .before .before .before .before .loop .inv .1 .1,
-        c .before .before .before .before .before .before .before .before .before .before .before .before .before .before .dispatch .kept .1 .1 .1 .0 ∙ c .before .before .before .before .before .before .before .before .before .before .before .before .before .before .before .before .before .before .before .before .before .before .before .before .before .before .loop .inv .1 .2,
-        c .before .before .before .before .before .before .before .before .before .before .before .before .before .before .dispatch .kept .1 .1 .1 .1 .0 ∙ c .before .before .before .before .before .before .before .before .before .before .before .before .before .before .before .before .before .before .before .before .before .before .before .before .before .before .loop .inv .1 .3,
-        c .before .before .before .before .before .before .before .before .before .before .before .before .before .before .dispatch .kept .1 .1 .1 .1 .1 .0 ∙ c .before .before .before .before .before .before .before .before .before .before .before .before .before .before .before .before .before .before .before .before .before .before .before .before .before .before .loop .inv .1 .4,
-        c .before .before .before .before .before .before .before .before .before .before .before .before .before .before .dispatch .kept .1 .1 .1 .1 .1 .1 .1 .0 ∙ c .before .before .before .before .before .before .before .before .before .before .before .before .before .before .before .before .before .before .before .before .before .before .before .before .before .before .loop .inv .1 .5,
-        omega (arith, c .before .before .before .before .before .before .before .before .before .before .before .before .before .before .before .before .before .before .before .before .before .before .before .before .before .loop-test .taken),
+        c .before .before .before .before .before .before .before .before .before .before .before .before .before .before .turn .kept .1 .0 ∙ m .loop .inv .1 .0,
+        c .before .before .before .before .before .before .before .before .before .before .before .before .before .before .turn .kept .1 .1 .0 ∙ m .loop .inv .1 .1,
+        c .before .before .before .before .before .before .before .before .before .before .before .before .before .before .turn .kept .1 .1 .1 .0 ∙ m .loop .inv .1 .2,
+        c .before .before .before .before .before .before .before .before .before .before .before .before .before .before .turn .kept .1 .1 .1 .1 .0 ∙ m .loop .inv .1 .3,
+        c .before .before .before .before .before .before .before .before .before .before .before .before .before .before .turn .kept .1 .1 .1 .1 .1 .0 ∙ m .loop .inv .1 .4,
+        c .before .before .before .before .before .before .before .before .before .before .before .before .before .before .turn .kept .1 .1 .1 .1 .1 .1 .1 .0 ∙ m .loop .inv .1 .5,
+        c .before .before .before .before .before .before .before .before .before .before .before .before .before .before .turn .ensures .0 a .1,
       ),
     )
 
@@ -159,12 +143,7 @@ feed-spec =
     shorter-requires
     shorter-requires-2
     loop-holds
-    shared-slice-read-event-of
-    mul-event-of
-    shared-slice-read-event-of-2
-    shared-slice-read-event-of-3
-    event-of-requires
-    dispatch-requires
+    turn-requires
     is-accepted-requires
     same-length
     same-length-2
@@ -173,7 +152,6 @@ feed-spec =
     same-length-5
     same-length-6
     returns
-    add-i
     loop-less
     loop-again
     same-length-7

@@ -1,0 +1,3 @@
+-- The laws of burst.
+pub mod Cases
+pub mod Running

@@ -1,0 +1,3 @@
+-- The root of burst's specs.
+pub mod Running
+pub mod Burst
