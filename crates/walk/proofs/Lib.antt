@@ -1,0 +1,2 @@
+-- Laws of walk that belong to no one function.
+pub mod Made
