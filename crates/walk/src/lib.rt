@@ -174,20 +174,20 @@ fn cut_pass(
     requires { ⌜ Ready driving first × Ready driving second × Ready driving third × Ready driving fourth ⌝ }
     ensures { λ r. ⌜ r ≡ foldl (cutStep driving until) progress (phasesIn first second third fourth) ⌝ }
 {
+    if progress.stopped {
+        return progress;
+    }
     let one = cut_phase(driving, until, first, progress);
     let two = cut_phase(driving, until, second, one);
     let three = cut_phase(driving, until, third, two);
     cut_phase(driving, until, fourth, three)
 }
 
-// A walk that has stopped needs no phases made.
-fn cut_group(driving: Driving, until: u64, group: Group, progress: Progress) -> Progress
+// The repeats of a group, phase by phase.
+fn cut_repeats(driving: Driving, until: u64, group: Group, progress: Progress) -> Progress
     requires { ⌜ (0 < group .«frame_ns») × Drivable driving ⌝ }
     ensures { λ r. ⌜ r ≡ foldl (cutStep driving until) progress (groupIn driving group) ⌝ }
 {
-    if progress.stopped {
-        return progress;
-    }
     let first = phases::lasting_of(driving, group, 0);
     let second = phases::lasting_of(driving, group, 1);
     let third = phases::lasting_of(driving, group, 2);
@@ -200,6 +200,29 @@ fn cut_group(driving: Driving, until: u64, group: Group, progress: Progress) -> 
         k += 1;
     }
     moved
+}
+
+// A group that ends by the cut is walked whole; an end that stopped at 2^64 − 1 says nothing.
+fn cut_group(driving: Driving, until: u64, group: Group, progress: Progress) -> Progress
+    requires { ⌜ (0 < group .«frame_ns») × Drivable driving ⌝ }
+    ensures { λ r. ⌜ r ≡ foldl (cutStep driving until) progress (groupIn driving group) ⌝ }
+{
+    if progress.stopped {
+        return progress;
+    }
+    let end = numbers::saturating_add_u64(progress.elapsed, duration::group_ns(group));
+    if end <= until {
+        if end < u64::MAX {
+            let transfer = progress.transfer;
+            let moved = group_transfer(driving, group, transfer);
+            return Progress {
+                transfer: moved,
+                elapsed: end,
+                stopped: false,
+            };
+        }
+    }
+    cut_repeats(driving, until, group, progress)
 }
 
 fn cut_groups(driving: Driving, until: u64, waveform: Waveform, progress: Progress) -> Progress

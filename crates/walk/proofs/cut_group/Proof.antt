@@ -1,101 +1,57 @@
 -- `walk::cut_group` meets its contract. Assumes nothing.
-use mathlib.Core.Path.{_≡_, sym, ap, _∙_}
+use mathlib.Core.Path.{_≡_, sym, _∙_}
+use mathlib.Core.Bool.{false}
+use Prim.Native.Nat.{_+_}
 use native.Mathlib.Omega.{arith}
-use Prim.Native.Nat.{ℕ, _≤_, _-_}
-use mathlib.Core.List.{List, foldl}
-use Rattle.waveform.specs.declared.Phase.{Phase}
-use Rattle.waveform.specs.Phases.{joined}
-use Rattle.waveform.specs.Walks.{groupIn, cutStep}
-use Rattle.waveform_laws.proofs.Joined.{fold-none, fold-more}
+use Rattle.waveform.specs.Walks.{groupIn}
+use Rattle.waveform_laws.proofs.Lasting.{total, total-group}
 use Rattle.waveform_laws.proofs.Steps.{stopped-stays}
-use Rattle.walk.specs.Ready.{phasesIn}
-use Rattle.walk.proofs.Made.{four-made}
+use Rattle.walk.proofs.Within.{within}
 use borrow.Author.Needs.{needs}
 use Rattle.walk.proofs.cut_group.Statement.{statement}
 use Rattle.walk.proofs.cut_group.Tie as tie
 
-abbrev Inv-loop : tie.InvT-loop
-Inv-loop driving until first second third fourth repeats moved₀ k₀ moved k = (k ≤ repeats) × (moved ≡ foldl (cutStep driving until) moved₀ (joined k (λ j. phasesIn first second third fourth)))
-
-abbrev μ-loop : tie.MeasureT-loop
-μ-loop driving until first second third fourth repeats moved₀ k₀ moved k = repeats - k
-
-returns : tie.Need-returns Inv-loop μ-loop
+returns : tie.Need-returns
 returns c = let s = c .before .args in sym (stopped-stays (s .driving) (s .until) (s .progress) (groupIn (s .driving) (s .group)) (c .if1 .taken))
 
-lasting-of-requires : tie.Need-lasting-of-requires Inv-loop μ-loop
-lasting-of-requires c κs = (omega arith, c .before .pre .0, c .before .pre .1)
+group-ns-requires : tie.Need-group-ns-requires
+group-ns-requires c κs = search needs
 
-lasting-of-requires-2 : tie.Need-lasting-of-requires-2 Inv-loop μ-loop
-lasting-of-requires-2 c κs = (omega arith, c .before .before .pre .0, c .before .before .pre .1)
+saturating-add-u64-requires : tie.Need-saturating-add-u64-requires
+saturating-add-u64-requires c κs = search needs
 
-lasting-of-requires-3 : tie.Need-lasting-of-requires-3 Inv-loop μ-loop
-lasting-of-requires-3 c κs = (omega arith, c .before .before .before .pre .0, c .before .before .before .pre .1)
+group-transfer-requires : tie.Need-group-transfer-requires
+group-transfer-requires c κs = search needs
 
-lasting-of-requires-4 : tie.Need-lasting-of-requires-4 Inv-loop μ-loop
-lasting-of-requires-4 c κs = (omega arith, c .before .before .before .before .pre .0, c .before .before .before .before .pre .1)
-
-times-requires : tie.Need-times-requires Inv-loop μ-loop
-times-requires c κs = tt
-
-loop-holds : tie.Need-loop-holds Inv-loop μ-loop
-loop-holds c = (omega arith, fold-none _ _ _)
-
-cut-pass-requires : tie.Need-cut-pass-requires Inv-loop μ-loop
-cut-pass-requires c κs =
-    let fourth = c .before .before .before in
-    let third = fourth .before in
-    let second = third .before in
-    let first = second .before in
-    (first .lasting-of .ensures .1, second .lasting-of2 .ensures .1, third .lasting-of3 .ensures .1, fourth .lasting-of4 .ensures .1)
-
-add-k : tie.Need-add-k Inv-loop μ-loop
-add-k c = omega (arith, c .before .before .before .times .ensures .1)
-
-loop-less : tie.Need-loop-less Inv-loop μ-loop
-loop-less c = search needs
-
-loop-again : tie.Need-loop-again Inv-loop μ-loop
-loop-again c =
-    let m = c .before .before in
-    let fourth = m .before .before in
-    let third = fourth .before in
-    let second = third .before in
-    let first = second .before in
-    let s = first .before .before .args in (
-      omega arith,
-      fold-more (cutStep (s .driving) (s .until)) (s .progress) (λ j. phasesIn (first .lasting-of .result) (second .lasting-of2 .result) (third .lasting-of3 .result) (fourth .lasting-of4 .result)) (m .loop .k) (m .loop .inv .1) (c .cut-pass .ensures),
-    )
-
-returns-2 : tie.Need-returns-2 Inv-loop μ-loop
+returns-2 : tie.Need-returns-2
 returns-2 c =
-    let fourth = c .before .before .before in
-    let third = fourth .before in
-    let second = third .before in
-    let first = second .before in
-    let s = first .before .before .args in
-    let step = cutStep (s .driving) (s .until) in
-    let e : c .before .loop .k ≡ s .group .repeats = omega (arith, c .before .before .times .ensures .0) in
-    c .before .loop .inv .1
-    ∙ ap (λ (k : ℕ). foldl step (s .progress) (joined k (λ j. phasesIn (first .lasting-of .result) (second .lasting-of2 .result) (third .lasting-of3 .result) (fourth .lasting-of4 .result)))) e
-    ∙ ap (λ (l : List Phase). foldl step (s .progress) (joined (s .group .repeats) (λ j. l)))
-    (four-made (s .driving) (s .group) (first .lasting-of .ensures .0) (second .lasting-of2 .ensures .0) (third .lasting-of3 .ensures .0) (fourth .lasting-of4 .ensures .0))
+    let tested = c .before .before .before in
+    let added = tested .before in
+    let length = added .before in
+    let going = length .before in
+    let s = going .before .args in
+    let ps = groupIn (s .driving) (s .group) in
+    let t = total-group (s .driving .levels) (s .driving .drive) (s .group) in
+    let short = c .before .before .if3 .taken in
+    let ends = tested .if2 .taken in
+    let e : added .saturating-add-u64 .result ≡ s .progress .elapsed + total ps = omega (arith, added .saturating-add-u64 .ensures, length .group-ns .ensures) in
+    (λ i. record { transfer = c .group-transfer .ensures i; elapsed = e i; stopped = false })
+    ∙ sym (within (s .driving) (s .until) (s .progress) ps (going .if1 .left) (omega arith) (omega arith))
+
+cut-repeats-requires : tie.Need-cut-repeats-requires
+cut-repeats-requires c κs = search needs
+
+returns-3 : tie.Need-returns-3
+returns-3 c = search needs
 
 pub cut-group-spec : {M : Type 1} → statement M
 cut-group-spec =
     tie.close
     (tie.spec
-    Inv-loop
-    μ-loop
     returns
-    lasting-of-requires
-    lasting-of-requires-2
-    lasting-of-requires-3
-    lasting-of-requires-4
-    times-requires
-    loop-holds
-    cut-pass-requires
-    add-k
-    loop-less
-    loop-again
-    returns-2)
+    group-ns-requires
+    saturating-add-u64-requires
+    group-transfer-requires
+    returns-2
+    cut-repeats-requires
+    returns-3)
