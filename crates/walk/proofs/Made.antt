@@ -14,7 +14,7 @@ use Rattle.waveform.specs.declared.Group.{Group}
 use Rattle.waveform.specs.declared.Phase.{Phase}
 use Rattle.waveform.specs.declared.Step.{Step}
 use Rattle.waveform.specs.Phases.{phaseOf, driven, joined}
-use Rattle.waveform.specs.Walks.{phaseIn, fourIn, groupIn, stepOf, stepped, pushed}
+use Rattle.waveform.specs.Walks.{phaseIn, fourIn, groupIn, stepped, pushed}
 use Rattle.waveform_laws.proofs.Joined.{driven-none}
 use Rattle.waveform_laws.proofs.Stepped.{drive-some, stepped-some}
 use Rattle.walk.specs.declared.phases.Lasting.{Lasting}

@@ -1,5 +1,5 @@
 -- A walk over phases that all end by the cut is the whole walk over them. Assumes nothing.
-use mathlib.Core.Path.{_≡_, refl, sym, ap, _∙_}
+use mathlib.Core.Path.{_≡_, refl, ap, _∙_}
 use mathlib.Core.Bool.{false}
 use mathlib.Core.List.{List, [], _∷_, foldl}
 use Prim.Native.Nat.{ℕ, _+_, _≤_}
@@ -10,7 +10,7 @@ use Rattle.waveform.specs.declared.Driving.{Driving}
 use Rattle.waveform.specs.declared.Phase.{Phase}
 use Rattle.waveform.specs.declared.Progress.{Progress}
 use Rattle.waveform.specs.Exact.{lasts}
-use Rattle.waveform.specs.Walks.{wholeStep, cutStep, runOn, endOf}
+use Rattle.waveform.specs.Walks.{wholeStep, cutStep, endOf}
 use Rattle.waveform_laws.proofs.Lasting.{total}
 use Rattle.waveform_laws.proofs.Steps.{step-on}
 

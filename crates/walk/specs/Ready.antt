@@ -1,8 +1,8 @@
--- What a walk up to a cut makes of a group once for all its repeats.
+-- What the walks make of a group once for all its repeats.
 use mathlib.Core.Path.{_≡_}
 use mathlib.Core.Bool.{Bool, _&&_}
 use mathlib.Core.List.{List, _++_}
-use Prim.Native.Nat.{ℕ, _*_, _<_, min}
+use Prim.Native.Nat.{_*_, _<_, min}
 use lib.Dec.{eqb}
 use lib.ListN.{getD}
 use Rattle.numbers.specs.Saturation.{largest}
