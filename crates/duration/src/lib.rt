@@ -24,7 +24,8 @@ fn frames(group: Group) -> u64
     a + b + c + d
 }
 
-fn group_ns(group: Group) -> u64
+// Every frame of a group's repeats.
+pub fn group_ns(group: Group) -> u64
     ensures { λ r. ⌜ r ≡ min (groupNs group) (largest 64) ⌝ }
 {
     let runs = numbers::saturating_mul_u64(frames(group), group.repeats as u64);

@@ -5,29 +5,41 @@ use waveform::Levels;
 use waveform::Waveform;
 ghost use mathlib.Core.Path.{_≡_};
 ghost use Prim.Native.Nat.{_+_, _/_, _%_, _<_};
-ghost use Rattle.waveform.specs.Setting.{codeIn, codesOf, frameRateOf, groupCodesOf, timed, waveformOf};
+ghost use Rattle.waveform.specs.Setting.{codesOf, frameRateOf, groupCodesOf, timed, waveformOf};
 
-// The code of a phase in a byte of four.
-fn code_in(byte: u8, phase: u8) -> u8
-    requires { ⌜ phase < 4 ⌝ }
-    ensures { λ r. ⌜ r ≡ codeIn byte phase ⌝ }
-{
-    (byte >> (6 - 2 * phase)) & 3
-}
-
+// The five LUTs' codes of a group. Literals and no loops, here and of the ten groups: the compiler then writes each code once,
+// in its place of the waveform that is handed back.
 fn codes_of(setting: &[u8; 112], group: usize) -> [u8; 20]
     requires { ⌜ group < 10 ⌝ }
     ensures { λ r. ⌜ r ≡ codesOf (now (setting .entry)) group ⌝ }
 {
-    let mut codes = [0u8; 20];
-    let mut k: usize = 0;
-    while k < 20 {
-        let byte = setting[10 * (k / 4) + group];
-        let code = code_in(byte, (k % 4) as u8);
-        codes[k] = code;
-        k += 1;
-    }
-    codes
+    let lut0 = setting[group];
+    let lut1 = setting[10 + group];
+    let lut2 = setting[20 + group];
+    let lut3 = setting[30 + group];
+    let lut4 = setting[40 + group];
+    [
+        (lut0 >> 6) & 3,
+        (lut0 >> 4) & 3,
+        (lut0 >> 2) & 3,
+        lut0 & 3,
+        (lut1 >> 6) & 3,
+        (lut1 >> 4) & 3,
+        (lut1 >> 2) & 3,
+        lut1 & 3,
+        (lut2 >> 6) & 3,
+        (lut2 >> 4) & 3,
+        (lut2 >> 2) & 3,
+        lut2 & 3,
+        (lut3 >> 6) & 3,
+        (lut3 >> 4) & 3,
+        (lut3 >> 2) & 3,
+        lut3 & 3,
+        (lut4 >> 6) & 3,
+        (lut4 >> 4) & 3,
+        (lut4 >> 2) & 3,
+        lut4 & 3,
+    ]
 }
 
 fn high_nibble(byte: u8) -> u8
@@ -111,14 +123,18 @@ fn group_of(setting: &[u8; 112], frame_period: &[u64; 16], group: usize) -> Grou
 pub fn from_setting(setting: &[u8; 112], frame_period: &[u64; 16]) -> Waveform
     ensures { λ r. ⌜ r ≡ waveformOf (now (setting .entry)) (now («frame_period» .entry)) ⌝ }
 {
-    let first = group_of(setting, frame_period, 0);
-    let mut groups = [first; 10];
-    let mut i: usize = 0;
-    while i < 10 {
-        let group = group_of(setting, frame_period, i);
-        groups[i] = group;
-        i += 1;
-    }
+    let groups = [
+        group_of(setting, frame_period, 0),
+        group_of(setting, frame_period, 1),
+        group_of(setting, frame_period, 2),
+        group_of(setting, frame_period, 3),
+        group_of(setting, frame_period, 4),
+        group_of(setting, frame_period, 5),
+        group_of(setting, frame_period, 6),
+        group_of(setting, frame_period, 7),
+        group_of(setting, frame_period, 8),
+        group_of(setting, frame_period, 9),
+    ];
     let levels = Levels::from_setting(setting);
     Waveform { groups, levels }
 }

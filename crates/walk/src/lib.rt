@@ -2,6 +2,7 @@
 pub mod phases;
 
 use glass::Transfer;
+use phases::Lasting;
 use waveform::Drive;
 use waveform::Driving;
 use waveform::Group;
@@ -14,7 +15,8 @@ ghost use mathlib.Core.Path.{_≡_};
 ghost use mathlib.Core.List.{foldl};
 ghost use Prim.Native.Nat.{_/_, _<_};
 ghost use Rattle.waveform.specs.Phases.{Timed, driven};
-ghost use Rattle.waveform.specs.Walks.{Drivable, Walkable, fourIn, groupIn, groupsIn, stepped, wholeStep, cutStep, runOn, cutShort, wholeOf, cutOf, transferOf};
+ghost use Rattle.waveform.specs.Walks.{Drivable, Walkable, groupIn, groupsIn, stepped, wholeStep, cutStep, cutShort, wholeOf, cutOf, transferOf};
+ghost use Rattle.walk.specs.Ready.{Ready, phasesIn};
 
 // ---- the whole display
 
@@ -80,7 +82,9 @@ fn whole_groups(driving: Driving, waveform: Waveform, transfer: Transfer) -> Tra
     let mut k: usize = 0;
     while k < 10 {
         let group = waveform.groups[k];
-        moved = group_transfer(driving, group, moved);
+        if !phases::idle(group) {
+            moved = group_transfer(driving, group, moved);
+        }
         k += 1;
     }
     moved
@@ -108,18 +112,6 @@ pub fn transfer_whole(
 
 // ---- up to a cut
 
-// A phase that ends by the cut.
-fn run_on(driving: Driving, phase: Phase, end: u64, transfer: Transfer) -> Progress
-    ensures { λ r. ⌜ r ≡ runOn driving phase end transfer ⌝ }
-{
-    let transfer = phases::push(driving, phase, phase.frames, transfer);
-    Progress {
-        transfer,
-        elapsed: end,
-        stopped: false,
-    }
-}
-
 // The frames that end within so many nanoseconds of a phase's start.
 fn frames_within(ns: u64, frame_ns: u64) -> u64
     requires { ⌜ 0 < «frame_ns» ⌝ }
@@ -142,58 +134,95 @@ fn cut_short(driving: Driving, phase: Phase, left: u64, end: u64, transfer: Tran
     }
 }
 
-fn cut_phase(driving: Driving, until: u64, phase: Phase, progress: Progress) -> Progress
-    requires { ⌜ 0 < phase .«frame_ns» ⌝ }
-    ensures { λ r. ⌜ r ≡ foldl (cutStep driving until) progress (driven phase) ⌝ }
+fn cut_phase(driving: Driving, until: u64, lasting: Lasting, progress: Progress) -> Progress
+    requires { ⌜ Ready driving lasting ⌝ }
+    ensures { λ r. ⌜ r ≡ foldl (cutStep driving until) progress (driven (lasting .step .phase)) ⌝ }
 {
     if progress.stopped {
         return progress;
     }
+    let step = lasting.step;
+    let phase = step.phase;
     if phase.frames == 0 {
         return progress;
     }
     let elapsed = progress.elapsed;
     let transfer = progress.transfer;
-    let length = numbers::saturating_mul_u64(phase.frames, phase.frame_ns);
-    let end = numbers::saturating_add_u64(elapsed, length);
+    let end = numbers::saturating_add_u64(elapsed, lasting.length);
     if until < end {
         let left = numbers::saturating_sub_u64(until, elapsed);
-        cut_short(driving, phase, left, end, transfer)
-    } else {
-        run_on(driving, phase, end, transfer)
+        return cut_short(driving, phase, left, end, transfer);
+    }
+    let moved = whole_step(driving, step, transfer);
+    Progress {
+        transfer: moved,
+        elapsed: end,
+        stopped: false,
     }
 }
 
 // The four phases of a group, once.
-fn cut_pass(driving: Driving, until: u64, group: Group, progress: Progress) -> Progress
-    requires { ⌜ (0 < group .«frame_ns») × Drivable driving ⌝ }
-    ensures { λ r. ⌜ r ≡ foldl (cutStep driving until) progress (fourIn driving group) ⌝ }
+fn cut_pass(
+    driving: Driving,
+    until: u64,
+    first: Lasting,
+    second: Lasting,
+    third: Lasting,
+    fourth: Lasting,
+    progress: Progress,
+) -> Progress
+    requires { ⌜ Ready driving first × Ready driving second × Ready driving third × Ready driving fourth ⌝ }
+    ensures { λ r. ⌜ r ≡ foldl (cutStep driving until) progress (phasesIn first second third fourth) ⌝ }
 {
     if progress.stopped {
         return progress;
     }
+    let one = cut_phase(driving, until, first, progress);
+    let two = cut_phase(driving, until, second, one);
+    let three = cut_phase(driving, until, third, two);
+    cut_phase(driving, until, fourth, three)
+}
+
+// The repeats of a group, phase by phase.
+fn cut_repeats(driving: Driving, until: u64, group: Group, progress: Progress) -> Progress
+    requires { ⌜ (0 < group .«frame_ns») × Drivable driving ⌝ }
+    ensures { λ r. ⌜ r ≡ foldl (cutStep driving until) progress (groupIn driving group) ⌝ }
+{
+    let first = phases::lasting_of(driving, group, 0);
+    let second = phases::lasting_of(driving, group, 1);
+    let third = phases::lasting_of(driving, group, 2);
+    let fourth = phases::lasting_of(driving, group, 3);
+    let repeats = times(group.repeats);
     let mut moved = progress;
-    let mut k: usize = 0;
-    while k < 4 {
-        let phase = phases::phase_of(driving, group, k);
-        moved = cut_phase(driving, until, phase, moved);
+    let mut k: u64 = 0;
+    while k < repeats {
+        moved = cut_pass(driving, until, first, second, third, fourth, moved);
         k += 1;
     }
     moved
 }
 
+// A group that ends by the cut is walked whole; an end that stopped at 2^64 − 1 says nothing.
 fn cut_group(driving: Driving, until: u64, group: Group, progress: Progress) -> Progress
     requires { ⌜ (0 < group .«frame_ns») × Drivable driving ⌝ }
     ensures { λ r. ⌜ r ≡ foldl (cutStep driving until) progress (groupIn driving group) ⌝ }
 {
-    let repeats = group.repeats;
-    let mut moved = progress;
-    let mut k: u16 = 0;
-    while k < repeats {
-        moved = cut_pass(driving, until, group, moved);
-        k += 1;
+    if progress.stopped {
+        return progress;
     }
-    moved
+    let end = numbers::saturating_add_u64(progress.elapsed, duration::group_ns(group));
+    if end <= until {
+        if end < u64::MAX {
+            let transfer = progress.transfer;
+            let moved = group_transfer(driving, group, transfer);
+            return Progress {
+                transfer: moved,
+                elapsed: end,
+                stopped: false,
+            };
+        }
+    }
+    cut_repeats(driving, until, group, progress)
 }
 
 fn cut_groups(driving: Driving, until: u64, waveform: Waveform, progress: Progress) -> Progress
@@ -204,7 +233,9 @@ fn cut_groups(driving: Driving, until: u64, waveform: Waveform, progress: Progre
     let mut k: usize = 0;
     while k < 10 {
         let group = waveform.groups[k];
-        moved = cut_group(driving, until, group, moved);
+        if !phases::idle(group) {
+            moved = cut_group(driving, until, group, moved);
+        }
         k += 1;
     }
     moved

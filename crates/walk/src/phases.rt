@@ -9,6 +9,21 @@ ghost use mathlib.Core.Path.{_≡_};
 ghost use Prim.Native.Nat.{_<_};
 ghost use Rattle.waveform.specs.Phases.{Takes, codeFor};
 ghost use Rattle.waveform.specs.Walks.{Drivable, phaseIn, saturatedDrive, stepOf, pushed};
+ghost use Rattle.walk.specs.Ready.{Ready, noFrames};
+
+// A phase with its drive and how long it lasts, in 64 bits: both made once for all repeats of its group.
+pub(crate) struct Lasting {
+    pub step: Step,
+    pub length: u64,
+}
+
+// A group without frames moves nothing, so its phases need not be made.
+pub(crate) fn idle(group: Group) -> bool
+    ensures { λ r. ⌜ r ≡ noFrames group ⌝ }
+{
+    let frames = group.frames;
+    (frames[0] == 0) & (frames[1] == 0) & (frames[2] == 0) & (frames[3] == 0)
+}
 
 // The source's code in a phase.
 fn code_for(drive: Drive, group: Group, phase: usize) -> u8
@@ -66,6 +81,16 @@ pub(crate) fn step_of(driving: Driving, group: Group, at: usize) -> Step
     let black = driving.positive_drives_black;
     let drive = drive_of(black, phase.millivolts, phase.frames, phase.frame_ns);
     Step { phase, drive }
+}
+
+pub(crate) fn lasting_of(driving: Driving, group: Group, at: usize) -> Lasting
+    requires { ⌜ (at < 4) × (0 < group .«frame_ns») × Drivable driving ⌝ }
+    ensures { λ r. ⌜ (r .step .phase ≡ phaseIn driving group at) × Ready driving r ⌝ }
+{
+    let step = step_of(driving, group, at);
+    let phase = step.phase;
+    let length = numbers::saturating_mul_u64(phase.frames, phase.frame_ns);
+    Lasting { step, length }
 }
 
 // A transfer, then `run` frames of a phase.

@@ -62,7 +62,7 @@ module _ (l : Levels) (drive : Drive) where
   total-repeats (suc n) ps =
       total-append (joined n (λ k. ps)) ps ∙ ap (λ (m : ℕ). m + total ps) (total-repeats n ps) ∙ sym (suc-mul n (total ps))
 
-  total-group : (g : Group) → total (groupPhases l drive g) ≡ groupNs g
+  pub total-group : (g : Group) → total (groupPhases l drive g) ≡ groupNs g
   unfolding groupNs
   total-group g =
       total-repeats (g .repeats) (fourPhases l drive g)

@@ -1,72 +1,75 @@
 -- `setting::codes_of` meets its contract. Assumes nothing.
-use Prim.Native.Nat.{ℕ, _+_, _*_, _/_, _%_, _-_}
+use mathlib.Core.Path.{_≡_, refl, sym, ap, _∙_}
+use mathlib.Core.List.{List, _∷_}
+use Prim.Native.Nat.{ℕ, _+_, _/_, _%_}
+use native.Mathlib.Nat.{div-one}
 use native.Mathlib.Omega.{arith}
-use mathlib.Core.List.{List}
-use lib.ListN.{getD, replicate}
-use Rattle.numbers.proofs.Painted.{Painted, painted-none, painted-more, painted-all}
+use lib.Bits.{bitAnd, and-mask}
+use lib.ListN.{getD}
+use Rattle.numbers.specs.Lists.{tab}
 use Rattle.waveform.specs.Setting.{codeIn, codesOf}
 use borrow.Author.Needs.{needs}
 use Rattle.setting.proofs.codes_of.Statement.{statement}
 use Rattle.setting.proofs.codes_of.Tie as tie
 
--- the code at place k of the answer
-abbrev codeAt : List ℕ → ℕ → ℕ → ℕ
-codeAt s group k = codeIn (getD s (10 * (k / 4) + group) 0) (k % 4)
+-- the four codes of a byte, before others
+four : (b : ℕ) {byte : ℕ} {others rest : List ℕ} → b ≡ byte → others ≡ rest
+    → bitAnd (b / 64) 3 ∷ bitAnd (b / 16) 3 ∷ bitAnd (b / 4) 3 ∷ bitAnd b 3 ∷ others ≡ codeIn byte 0 ∷ codeIn byte 1 ∷ codeIn byte 2 ∷ codeIn byte 3 ∷ rest
+four b p e = λ i.
+    (and-mask (b / 64) 2 ∙ ap (λ (n : ℕ). codeIn n 0) p) i
+    ∷ (and-mask (b / 16) 2 ∙ ap (λ (n : ℕ). codeIn n 1) p) i
+    ∷ (and-mask (b / 4) 2 ∙ ap (λ (n : ℕ). codeIn n 2) p) i
+    ∷ (and-mask b 2 ∙ ap (λ (n : ℕ). n % 4) (p ∙ sym (div-one _))) i
+    ∷ e i
 
-abbrev Inv-loop : tie.InvT-loop
-Inv-loop setting group codes₀ k₀ codes k = Painted k (codeAt setting group) (replicate 20 0) codes
+element-copy-out-lut0 : tie.Need-element-copy-out-lut0
+element-copy-out-lut0 c = search needs
 
-abbrev μ-loop : tie.MeasureT-loop
-μ-loop setting group codes₀ k₀ codes k = 20 - k
+add-lut1 : tie.Need-add-lut1
+add-lut1 c = search needs
 
-loop-holds : tie.Need-loop-holds Inv-loop μ-loop
-loop-holds c = painted-none _ _
+element-copy-out-lut1 : tie.Need-element-copy-out-lut1
+element-copy-out-lut1 c = search needs
 
-mul-byte : tie.Need-mul-byte Inv-loop μ-loop
-mul-byte c = search needs
+add-lut2 : tie.Need-add-lut2
+add-lut2 c = search needs
 
-add-byte : tie.Need-add-byte Inv-loop μ-loop
-add-byte c = search needs
+element-copy-out-lut2 : tie.Need-element-copy-out-lut2
+element-copy-out-lut2 c = search needs
 
-element-copy-out-byte : tie.Need-element-copy-out-byte Inv-loop μ-loop
-element-copy-out-byte c = search needs
+add-lut3 : tie.Need-add-lut3
+add-lut3 c = search needs
 
-cast-code-in : tie.Need-cast-code-in Inv-loop μ-loop
-cast-code-in c = search needs
+element-copy-out-lut3 : tie.Need-element-copy-out-lut3
+element-copy-out-lut3 c = search needs
 
-code-in-requires : tie.Need-code-in-requires Inv-loop μ-loop
-code-in-requires c κs = search needs
+add-lut4 : tie.Need-add-lut4
+add-lut4 c = search needs
 
-array-write-codes : tie.Need-array-write-codes Inv-loop μ-loop
-array-write-codes c = search needs
+element-copy-out-lut4 : tie.Need-element-copy-out-lut4
+element-copy-out-lut4 c = search needs
 
-add-k : tie.Need-add-k Inv-loop μ-loop
-add-k c = search needs
-
-loop-less : tie.Need-loop-less Inv-loop μ-loop
-loop-less c = search needs
-
-loop-again : tie.Need-loop-again Inv-loop μ-loop
-loop-again c = painted-more (c .before .before .before .loop .inv) (omega arith) (c .code-in .ensures)
-
-returns : tie.Need-returns Inv-loop μ-loop
-unfolding codesOf
-returns c = painted-all (c .before .loop .inv) (omega arith)
+returns : tie.Need-returns
+unfolding codesOf tab
+returns c =
+    let a = c .before .before .before .before .before .args in
+    let s = a .setting .now in
+    let g = a .group in
+    let first : g ≡ 0 + g = omega arith in
+    four (getD s g 0) (ap (λ (n : ℕ). getD s n 0) first)
+    (four (getD s (10 + g) 0) refl (four (getD s (20 + g) 0) refl (four (getD s (30 + g) 0) refl (four (getD s (40 + g) 0) refl refl))))
 
 pub codes-of-spec : {M : Type 1} → statement M
 codes-of-spec =
     tie.close
     (tie.spec
-    Inv-loop
-    μ-loop
-    loop-holds
-    mul-byte
-    add-byte
-    element-copy-out-byte
-    cast-code-in
-    code-in-requires
-    array-write-codes
-    add-k
-    loop-less
-    loop-again
+    element-copy-out-lut0
+    add-lut1
+    element-copy-out-lut1
+    add-lut2
+    element-copy-out-lut2
+    add-lut3
+    element-copy-out-lut3
+    add-lut4
+    element-copy-out-lut4
     returns)

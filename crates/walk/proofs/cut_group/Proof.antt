@@ -1,46 +1,57 @@
 -- `walk::cut_group` meets its contract. Assumes nothing.
-use mathlib.Core.Path.{_≡_, refl, ap, _∙_}
+use mathlib.Core.Path.{_≡_, sym, _∙_}
+use mathlib.Core.Bool.{false}
+use Prim.Native.Nat.{_+_}
 use native.Mathlib.Omega.{arith}
-use Prim.Native.Nat.{ℕ, _≤_, _-_}
-use mathlib.Core.List.{foldl}
-use Rattle.waveform.specs.Phases.{joined}
-use Rattle.waveform.specs.Walks.{fourIn, cutStep}
-use Rattle.waveform_laws.proofs.Joined.{fold-none, fold-more}
+use Rattle.waveform.specs.Walks.{groupIn}
+use Rattle.waveform_laws.proofs.Lasting.{total, total-group}
+use Rattle.waveform_laws.proofs.Steps.{stopped-stays}
+use Rattle.walk.proofs.Within.{within}
 use borrow.Author.Needs.{needs}
 use Rattle.walk.proofs.cut_group.Statement.{statement}
 use Rattle.walk.proofs.cut_group.Tie as tie
 
-abbrev Inv-loop : tie.InvT-loop
-Inv-loop driving until group repeats moved₀ k₀ moved k = (k ≤ repeats) × (repeats ≡ group .repeats) × (moved ≡ foldl (cutStep driving until) moved₀ (joined k (λ j. fourIn driving group)))
+returns : tie.Need-returns
+returns c = let s = c .before .args in sym (stopped-stays (s .driving) (s .until) (s .progress) (groupIn (s .driving) (s .group)) (c .if1 .taken))
 
-abbrev μ-loop : tie.MeasureT-loop
-μ-loop driving until group repeats moved₀ k₀ moved k = repeats - k
+group-ns-requires : tie.Need-group-ns-requires
+group-ns-requires c κs = search needs
 
-loop-holds : tie.Need-loop-holds Inv-loop μ-loop
-loop-holds c = (search needs, refl, fold-none _ _ _)
+saturating-add-u64-requires : tie.Need-saturating-add-u64-requires
+saturating-add-u64-requires c κs = search needs
 
-cut-pass-requires : tie.Need-cut-pass-requires Inv-loop μ-loop
-cut-pass-requires c κs = search needs
+group-transfer-requires : tie.Need-group-transfer-requires
+group-transfer-requires c κs = search needs
 
-add-k : tie.Need-add-k Inv-loop μ-loop
-add-k c = search needs
+returns-2 : tie.Need-returns-2
+returns-2 c =
+    let tested = c .before .before .before in
+    let added = tested .before in
+    let length = added .before in
+    let going = length .before in
+    let s = going .before .args in
+    let ps = groupIn (s .driving) (s .group) in
+    let t = total-group (s .driving .levels) (s .driving .drive) (s .group) in
+    let short = c .before .before .if3 .taken in
+    let ends = tested .if2 .taken in
+    let e : added .saturating-add-u64 .result ≡ s .progress .elapsed + total ps = omega (arith, added .saturating-add-u64 .ensures, length .group-ns .ensures) in
+    (λ i. record { transfer = c .group-transfer .ensures i; elapsed = e i; stopped = false })
+    ∙ sym (within (s .driving) (s .until) (s .progress) ps (going .if1 .left) (omega arith) (omega arith))
 
-loop-less : tie.Need-loop-less Inv-loop μ-loop
-loop-less c = search needs
+cut-repeats-requires : tie.Need-cut-repeats-requires
+cut-repeats-requires c κs = search needs
 
-loop-again : tie.Need-loop-again Inv-loop μ-loop
-loop-again c =
-    let m = c .before .before in
-    let s = m .before .args in
-    (omega arith, m .loop .inv .1, fold-more (cutStep (s .driving) (s .until)) (s .progress) (λ j. fourIn (s .driving) (s .group)) (m .loop .k) (m .loop .inv .2) (c .cut-pass .ensures))
-
-returns : tie.Need-returns Inv-loop μ-loop
-returns c =
-    let s = c .before .before .args in
-    let e : c .before .loop .k ≡ s .group .repeats = omega arith in
-    c .before .loop .inv .2 ∙ ap (λ (k : ℕ). foldl (cutStep (s .driving) (s .until)) (s .progress) (joined k (λ j. fourIn (s .driving) (s .group)))) e
+returns-3 : tie.Need-returns-3
+returns-3 c = search needs
 
 pub cut-group-spec : {M : Type 1} → statement M
 cut-group-spec =
     tie.close
-    (tie.spec Inv-loop μ-loop loop-holds cut-pass-requires add-k loop-less loop-again returns)
+    (tie.spec
+    returns
+    group-ns-requires
+    saturating-add-u64-requires
+    group-transfer-requires
+    returns-2
+    cut-repeats-requires
+    returns-3)

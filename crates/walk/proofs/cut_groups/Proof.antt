@@ -3,10 +3,12 @@ use mathlib.Core.Path.{_≡_, ap, _∙_}
 use native.Mathlib.Omega.{arith}
 use Prim.Native.Nat.{ℕ, _≤_, _-_}
 use mathlib.Core.List.{foldl}
+use mathlib.Core.Logic.{⊎-elim}
 use lib.ListN.{getD}
 use Rattle.waveform.specs.Phases.{noGroup, joined}
 use Rattle.waveform.specs.Walks.{groupIn, cutStep}
 use Rattle.waveform_laws.proofs.Joined.{fold-none, fold-more}
+use Rattle.walk.proofs.Made.{idle-walk}
 use borrow.Author.Needs.{needs}
 use Rattle.walk.proofs.cut_groups.Statement.{statement}
 use Rattle.walk.proofs.cut_groups.Tie as tie
@@ -26,8 +28,13 @@ mul-group c = search needs
 element-copy-out-group : tie.Need-element-copy-out-group Inv-loop μ-loop
 element-copy-out-group c = search needs
 
+idle-requires : tie.Need-idle-requires Inv-loop μ-loop
+idle-requires c κs = search needs
+
 cut-group-requires : tie.Need-cut-group-requires Inv-loop μ-loop
-cut-group-requires c κs = (c .before .before .before .pre .0 (c .before .before .loop .k) (omega arith), c .before .before .before .pre .1)
+cut-group-requires c κs =
+    let m = c .before .before .before .before in
+    (m .before .pre .0 (m .loop .k) (omega arith), m .before .pre .1)
 
 add-k : tie.Need-add-k Inv-loop μ-loop
 add-k c = search needs
@@ -37,9 +44,17 @@ loop-less c = search needs
 
 loop-again : tie.Need-loop-again Inv-loop μ-loop
 loop-again c =
-    let m = c .before .before .before in
+    let m = c .before .before .before .before in
     let s = m .before .args in
-    (omega arith, fold-more (cutStep (s .driving) (s .until)) (s .progress) (λ j. groupIn (s .driving) (getD (s .t3 .groups) j noGroup)) (m .loop .k) (m .loop .inv .1) (c .cut-group .ensures))
+    let step = cutStep (s .driving) (s .until) in
+    let g = getD (s .t3 .groups) (m .loop .k) noGroup in (
+      omega arith,
+      fold-more step (s .progress) (λ j. groupIn (s .driving) (getD (s .t3 .groups) j noGroup)) (m .loop .k) (m .loop .inv .1)
+          (⊎-elim
+          (λ w. w .2 ∙ w .1 .ensures)
+          (λ w. w .1 ∙ idle-walk step (s .driving) g (m .loop .moved) (c .before .idle .ensures) (w .0 .left))
+          (c .if1 .came)),
+    )
 
 returns : tie.Need-returns Inv-loop μ-loop
 returns c =
@@ -56,6 +71,7 @@ cut-groups-spec =
     loop-holds
     mul-group
     element-copy-out-group
+    idle-requires
     cut-group-requires
     add-k
     loop-less

@@ -1,0 +1,2 @@
+-- The root of walk's specs.
+pub mod Ready
