@@ -17,7 +17,7 @@ use Rattle.waveform.specs.declared.Drive.the-variants.{Lut}
 use Rattle.waveform.specs.Exact.{settingPhases}
 use Rattle.config.specs.declared.Ssd1677Config.{Ssd1677Config}
 use Rattle.calls.specs.World.{World, Call}
-use Rattle.history.specs.Reckon.{Core, stepped, Worked, worked, swingOf, drivesBy, numberAfter, numberOver, Reckoning, reckonCall, reckon}
+use Rattle.history.specs.Reckon.{Worked, worked, swingOf, drivesBy, numberAfter, numberOver, Reckoning, reckonCall, reckon}
 use Rattle.history.specs.Runs.{Runs}
 use Rattle.history.specs.History.{SameLut, Alike}
 use Rattle.history.proofs.History.{Kept, run-kept}
@@ -61,15 +61,15 @@ module _ (i j : ℕ) where
   over-keeps c (w ∷ ws) x y s h = over-keeps c ws (numberAfter c i x w) (numberAfter c j y w) (s .1) (after-keeps c w x y (s .0) h)
 
   -- of the whole numbers
-  pub order-kept : (otp : List ℕ) (calls : List Call) (r : Reckoning) → Alike i j otp (r .core) calls → r .number i ≤ r .number j
+  pub order-kept : (otp : List ℕ) (calls : List Call) (r : Reckoning) → Alike i j otp r calls → r .number i ≤ r .number j
       → reckon otp r calls .number i ≤ reckon otp r calls .number j
   unfolding reckon
   order-kept otp [] r a h = h
   order-kept otp (call ∷ calls) r a h =
-      order-kept otp calls (reckonCall otp r call) (a .1) (over-keeps (r .core .config) (worked otp (r .core) call) (r .number i) (r .number j) (a .0) h)
+      order-kept otp calls (reckonCall otp r call) (a .1) (over-keeps (r .core .config) (worked otp r call) (r .number i) (r .number j) (a .0) h)
 
   -- and of the lent states, after every run
-  pub order : {otp : List ℕ} {w u : World} {calls : List Call} (r : Reckoning) (count : ℕ) → Runs otp w calls u → Kept w r count → Alike i j otp (r .core) calls
+  pub order : {otp : List ℕ} {w u : World} {calls : List Call} (r : Reckoning) (count : ℕ) → Runs otp w calls u → Kept w r count → Alike i j otp r calls
       → r .number i ≤ r .number j → i < length (u .states) → j < length (u .states) → getD (u .states) i (pos 0) ≤ℤ getD (u .states) j (pos 0)
   order {otp = otp} {calls = calls} r count runs k a h in-i in-j =
       let s = run-kept r count runs k .shows in
