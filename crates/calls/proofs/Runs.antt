@@ -8,11 +8,12 @@ use Rattle.config.specs.declared.Ssd1677Config.{Ssd1677Config}
 use Rattle.config.specs.Answer.{isAccepted}
 use Rattle.device.specs.declared.Deadline.the-variants.{At}
 use Rattle.busy.specs.Busy.{busyAt, deadlineOf}
-use Rattle.query.specs.Outcome.{Outcome, outcome}
+use Rattle.guard.specs.declared.Refusal.the-variants.{Accepted}
+use Rattle.query.specs.Outcome.{Outcome, outcome, stateGuarded}
 use Rattle.power_on.specs.Start.{Buffers, started}
 use Rattle.calls.specs.World.{World, worldOf, Call, called, taken}
 use Rattle.calls.specs.Sound.{Sound, Held}
-use Rattle.calls.proofs.Accepted.{accepted-takes}
+use Rattle.calls.proofs.Accepted.{accepted-takes, state-passes}
 use Rattle.calls.proofs.Kept.{Typed, sound-kept}
 use Rattle.calls.proofs.Start.{started-sound}
 use Rattle.calls.proofs.Held.{held-kept, started-held, busy-to-end, deadline-at-end}
@@ -57,6 +58,10 @@ module _ (c : Ssd1677Config) (otp : List ℕ) (b : Buffers) (accepts : isAccepte
   -- no further call is refused: it answers 0 and does what it is to do
   pub never-refused : (call : Call) → called otp present call ≡ outcome 0 (taken otp present call)
   never-refused call = accepted-takes otp present (run-kept .sound) call
+
+  -- nor is a question (is_busy, busy_pin, next_deadline, config, panel_image, dropped_diagnostics): 13 accepts the state
+  pub never-refused-asking : stateGuarded (present .device) ≡ Accepted
+  never-refused-asking = state-passes (present .device) (run-kept .sound .state)
 
   module _ (run : present .device .display .running ≡ true) where
     -- while a refresh runs, BUSY is high up to its end
