@@ -29,9 +29,8 @@ use Rattle.low.specs.Command.{commandTaken}
 use Rattle.high.specs.Data.{dataIn}
 use Rattle.driven.specs.Read.{readIn}
 use Rattle.stages_laws.proofs.Kept.{either}
-use Rattle.calls.specs.World.{World, Call, advance, set-reset, write-command, write-data, read-data, set-ambient, take-diagnostics, glassOf, lentOf, taken}
+use Rattle.calls.specs.World.{World, Call, advance, set-reset, write-command, write-data, read-data, set-ambient, take-diagnostics, glassOf, lentOf, taken, Typed}
 use Rattle.calls.specs.Sound.{inert, UnderWay, Held}
-use Rattle.calls.proofs.Kept.{Typed}
 use Rattle.calls.proofs.Clock.{held-still, under-way-kept, held-advanced}
 use Rattle.calls.proofs.Begun.{held-closed, held-begun}
 use Rattle.calls.proofs.Written.{held-data}

@@ -30,20 +30,10 @@ use Rattle.low.specs.Command.{commandTaken}
 use Rattle.high.specs.Data.{dataIn}
 use Rattle.driven.specs.Read.{readIn}
 use Rattle.entry_laws.proofs.Passed.{ready-fine}
-use Rattle.calls.specs.World.{World, Call, advance, set-reset, write-command, write-data, read-data, set-ambient, take-diagnostics, glassOf, lentOf, taken}
+use Rattle.calls.specs.World.{World, Call, advance, set-reset, write-command, write-data, read-data, set-ambient, take-diagnostics, glassOf, lentOf, taken, Typed}
 use Rattle.calls.specs.Sound.{Sound}
 use Rattle.calls.proofs.Parts.{fine-kept, long-kept, sound-fine, sound-long, is-sound}
 use Rattle.calls.proofs.Line.{closed-count, closed-length, closed-regs, closed-config, closed-swing, closed-current, line-leaves, current-line}
-
--- the arguments are of the types that the entry points give them: bytes, and a register of 16 bits
-abbrev pub Typed : Call → Type 0
-Typed (advance time) = Unit {0}
-Typed (set-reset time low) = Unit {0}
-Typed (write-command time command) = command ≤ 255
-Typed (write-data time byte) = byte ≤ 255
-Typed (read-data time) = Unit {0}
-Typed (set-ambient register) = register ≤ 65535
-Typed take-diagnostics = Unit {0}
 
 -- an ignored command passes 13, and one with a byte or a read more as it did
 ignored : currentFine Ignoring ≡ true

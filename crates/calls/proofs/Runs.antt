@@ -11,22 +11,12 @@ use Rattle.busy.specs.Busy.{busyAt, deadlineOf}
 use Rattle.guard.specs.declared.Refusal.the-variants.{Accepted}
 use Rattle.query.specs.Outcome.{Outcome, outcome, stateGuarded}
 use Rattle.power_on.specs.Start.{Buffers, started}
-use Rattle.calls.specs.World.{World, worldOf, Call, set-reset, called, taken}
+use Rattle.calls.specs.World.{World, worldOf, Call, set-reset, called, taken, leftBy, AllTyped}
 use Rattle.calls.specs.Sound.{Sound, Held}
 use Rattle.calls.proofs.Accepted.{accepted-takes, state-passes}
-use Rattle.calls.proofs.Kept.{Typed, sound-kept}
+use Rattle.calls.proofs.Kept.{sound-kept}
 use Rattle.calls.proofs.Start.{started-sound}
 use Rattle.calls.proofs.Held.{held-kept, low-stops, started-held, busy-to-end, deadline-at-end}
-
--- what calls leave, one after the other, by the contracts of the entry points
-abbrev pub leftBy : List ℕ → World → List Call → World
-leftBy otp w [] = w
-leftBy otp w (call ∷ calls) = leftBy otp (called otp w call .held) calls
-
--- the arguments of each are of their types
-abbrev pub AllTyped : List Call → Type 0
-AllTyped [] = Unit {0}
-AllTyped (call ∷ calls) = Typed call × AllTyped calls
 
 -- both of what every call keeps
 pub record Kept (otp : List ℕ) (w : World) : Type 0 where
