@@ -48,6 +48,24 @@ reads-on : (a : the.Active) (range nothing : Bool) → currentFine (Active a) �
 unfolding currentFine
 reads-on a range nothing h = h
 
+-- a call hands back as many states as it was lent
+pub states-kept : (otp : List ℕ) (w : World) (call : Call) → length (taken otp w call .states) ≡ length (w .states)
+unfolding lineTaken commandTaken dataIn readIn
+states-kept otp w (advance time) = states-advanced (w .luts) time (glassOf w)
+states-kept otp w (set-reset time low) =
+    let g = advanced (w .luts) time (glassOf w) in
+    line-leaves (w .luts) low (withGlassLog (g .device) (g .states) (g .pixels) (w .log)) (g .device .bus .power) .states-long
+    ∙ states-advanced (w .luts) time (glassOf w)
+states-kept otp w (write-command time command) =
+    let g = advanced (w .luts) time (glassOf w) in
+    let c = closed (withLog (g .device) (w .log)) in
+    states-begun (lentOf otp w) command (withBuffers (c .device) (g .states) (w .luts) (g .pixels) (c .log)) (c .device .bus .power)
+    ∙ states-advanced (w .luts) time (glassOf w)
+states-kept otp w (write-data time byte) = states-advanced (w .luts) time (glassOf w)
+states-kept otp w (read-data time) = states-advanced (w .luts) time (glassOf w)
+states-kept otp w (set-ambient register) = refl
+states-kept otp w take-diagnostics = refl
+
 module _ (otp : List ℕ) (w : World) (s : Sound otp w) where
   -- what finishing a display asks
   ready : Ready (w .device) (w .states) (w .luts) (w .pixels)
