@@ -32,7 +32,7 @@ use Rattle.calls.proofs.Parts.{lengths-pass, has, sound-long}
 granted : {A : Type 0} (r : Refusal) (given done : A) → r ≡ Accepted → unless r given done ≡ outcome 0 done
 granted r given done e = rw e
 
-state-passes : (d : Ssd1677) → stateFine d ≡ true → stateGuarded d ≡ Accepted
+pub state-passes : (d : Ssd1677) → stateFine d ≡ true → stateGuarded d ≡ Accepted
 unfolding stateGuarded
 state-passes d e = rw e
 

@@ -29,9 +29,8 @@ use Rattle.low.specs.Command.{commandTaken}
 use Rattle.high.specs.Data.{dataIn}
 use Rattle.driven.specs.Read.{readIn}
 use Rattle.stages_laws.proofs.Kept.{either}
-use Rattle.calls.specs.World.{World, Call, advance, set-reset, write-command, write-data, read-data, set-ambient, take-diagnostics, glassOf, lentOf, taken}
+use Rattle.calls.specs.World.{World, Call, advance, set-reset, write-command, write-data, read-data, set-ambient, take-diagnostics, glassOf, lentOf, taken, Typed}
 use Rattle.calls.specs.Sound.{inert, UnderWay, Held}
-use Rattle.calls.proofs.Kept.{Typed}
 use Rattle.calls.proofs.Clock.{held-still, under-way-kept, held-advanced}
 use Rattle.calls.proofs.Begun.{held-closed, held-begun}
 use Rattle.calls.proofs.Written.{held-data}
@@ -66,6 +65,13 @@ module _ (luts : List ℕ) where
   held-line false w Running e h = h
   held-line false w Asleep e h = h
 
+  -- a line that is put low leaves no refresh under way
+  stopped-low : (w : WithGlassLog) (p : Power) → w .device .bus .power ≡ p → Held (w .device) → byLine luts true w p .device .display .running ≡ false
+  unfolding byLine
+  stopped-low w InReset e h = none-in-reset (w .device) h e (w .device .display .running) refl
+  stopped-low w Running e h = asserted-still w
+  stopped-low w Asleep e h = asserted-still w
+
 -- ---- a read changes nothing of a running display, and of the command its counts alone
 held-read : (blackWhite red : List ℕ) (k : WithLog) (p : Power) → Held (k .device) → Held (readTaken blackWhite red k p .left .device)
 held-read blackWhite red k p h run =
@@ -88,6 +94,11 @@ module _ (otp : List ℕ) (w : World) (h : Held (w .device)) where
     unfolding lineTaken
     line-holds low =
         held-line (w .luts) low (withGlassLog (moved .device) (moved .states) (moved .pixels) (w .log)) (moved .device .bus .power) refl held-moved
+
+    pub low-stops : taken otp w (set-reset time true) .device .display .running ≡ false
+    unfolding lineTaken
+    low-stops =
+        stopped-low (w .luts) (withGlassLog (moved .device) (moved .states) (moved .pixels) (w .log)) (moved .device .bus .power) refl held-moved
 
     command-holds : (command : ℕ) → Held (taken otp w (write-command time command) .device)
     unfolding commandTaken

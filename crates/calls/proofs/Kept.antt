@@ -30,20 +30,10 @@ use Rattle.low.specs.Command.{commandTaken}
 use Rattle.high.specs.Data.{dataIn}
 use Rattle.driven.specs.Read.{readIn}
 use Rattle.entry_laws.proofs.Passed.{ready-fine}
-use Rattle.calls.specs.World.{World, Call, advance, set-reset, write-command, write-data, read-data, set-ambient, take-diagnostics, glassOf, lentOf, taken}
+use Rattle.calls.specs.World.{World, Call, advance, set-reset, write-command, write-data, read-data, set-ambient, take-diagnostics, glassOf, lentOf, taken, Typed}
 use Rattle.calls.specs.Sound.{Sound}
 use Rattle.calls.proofs.Parts.{fine-kept, long-kept, sound-fine, sound-long, is-sound}
 use Rattle.calls.proofs.Line.{closed-count, closed-length, closed-regs, closed-config, closed-swing, closed-current, line-leaves, current-line}
-
--- the arguments are of the types that the entry points give them: bytes, and a register of 16 bits
-abbrev pub Typed : Call → Type 0
-Typed (advance time) = Unit {0}
-Typed (set-reset time low) = Unit {0}
-Typed (write-command time command) = command ≤ 255
-Typed (write-data time byte) = byte ≤ 255
-Typed (read-data time) = Unit {0}
-Typed (set-ambient register) = register ≤ 65535
-Typed take-diagnostics = Unit {0}
 
 -- an ignored command passes 13, and one with a byte or a read more as it did
 ignored : currentFine Ignoring ≡ true
@@ -57,6 +47,24 @@ goes-on a extra range h = h
 reads-on : (a : the.Active) (range nothing : Bool) → currentFine (Active a) ≡ true → currentFine (Active (countedRead a range nothing)) ≡ true
 unfolding currentFine
 reads-on a range nothing h = h
+
+-- a call hands back as many states as it was lent
+pub states-kept : (otp : List ℕ) (w : World) (call : Call) → length (taken otp w call .states) ≡ length (w .states)
+unfolding lineTaken commandTaken dataIn readIn
+states-kept otp w (advance time) = states-advanced (w .luts) time (glassOf w)
+states-kept otp w (set-reset time low) =
+    let g = advanced (w .luts) time (glassOf w) in
+    line-leaves (w .luts) low (withGlassLog (g .device) (g .states) (g .pixels) (w .log)) (g .device .bus .power) .states-long
+    ∙ states-advanced (w .luts) time (glassOf w)
+states-kept otp w (write-command time command) =
+    let g = advanced (w .luts) time (glassOf w) in
+    let c = closed (withLog (g .device) (w .log)) in
+    states-begun (lentOf otp w) command (withBuffers (c .device) (g .states) (w .luts) (g .pixels) (c .log)) (c .device .bus .power)
+    ∙ states-advanced (w .luts) time (glassOf w)
+states-kept otp w (write-data time byte) = states-advanced (w .luts) time (glassOf w)
+states-kept otp w (read-data time) = states-advanced (w .luts) time (glassOf w)
+states-kept otp w (set-ambient register) = refl
+states-kept otp w take-diagnostics = refl
 
 module _ (otp : List ℕ) (w : World) (s : Sound otp w) where
   -- what finishing a display asks

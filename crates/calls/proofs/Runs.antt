@@ -1,31 +1,22 @@
 -- From an accepted start on, whatever calls came, each with what the call before it left: no further call is refused, and BUSY is high to
 -- the end of a running display. Assumes nothing.
 use Prim.Native.Nat.{ℕ, _<_}
-use mathlib.Core.Path.{_≡_, sym, ap, subst}
-use mathlib.Core.Bool.{true}
+use mathlib.Core.Path.{_≡_, sym, ap, subst, _∙_}
+use mathlib.Core.Bool.{true, false}
 use mathlib.Core.List.{List, [], _∷_}
 use Rattle.config.specs.declared.Ssd1677Config.{Ssd1677Config}
 use Rattle.config.specs.Answer.{isAccepted}
 use Rattle.device.specs.declared.Deadline.the-variants.{At}
 use Rattle.busy.specs.Busy.{busyAt, deadlineOf}
-use Rattle.query.specs.Outcome.{Outcome, outcome}
+use Rattle.guard.specs.declared.Refusal.the-variants.{Accepted}
+use Rattle.query.specs.Outcome.{Outcome, outcome, stateGuarded}
 use Rattle.power_on.specs.Start.{Buffers, started}
-use Rattle.calls.specs.World.{World, worldOf, Call, called, taken}
+use Rattle.calls.specs.World.{World, worldOf, Call, set-reset, called, taken, leftBy, AllTyped}
 use Rattle.calls.specs.Sound.{Sound, Held}
-use Rattle.calls.proofs.Accepted.{accepted-takes}
-use Rattle.calls.proofs.Kept.{Typed, sound-kept}
+use Rattle.calls.proofs.Accepted.{accepted-takes, state-passes}
+use Rattle.calls.proofs.Kept.{sound-kept}
 use Rattle.calls.proofs.Start.{started-sound}
-use Rattle.calls.proofs.Held.{held-kept, started-held, busy-to-end, deadline-at-end}
-
--- what calls leave, one after the other, by the contracts of the entry points
-abbrev pub leftBy : List ℕ → World → List Call → World
-leftBy otp w [] = w
-leftBy otp w (call ∷ calls) = leftBy otp (called otp w call .held) calls
-
--- the arguments of each are of their types
-abbrev pub AllTyped : List Call → Type 0
-AllTyped [] = Unit {0}
-AllTyped (call ∷ calls) = Typed call × AllTyped calls
+use Rattle.calls.proofs.Held.{held-kept, low-stops, started-held, busy-to-end, deadline-at-end}
 
 -- both of what every call keeps
 pub record Kept (otp : List ℕ) (w : World) : Type 0 where
@@ -57,6 +48,15 @@ module _ (c : Ssd1677Config) (otp : List ℕ) (b : Buffers) (accepts : isAccepte
   -- no further call is refused: it answers 0 and does what it is to do
   pub never-refused : (call : Call) → called otp present call ≡ outcome 0 (taken otp present call)
   never-refused call = accepted-takes otp present (run-kept .sound) call
+
+  -- nor is a question (is_busy, busy_pin, next_deadline, config, panel_image, dropped_diagnostics): 13 accepts the state
+  pub never-refused-asking : stateGuarded (present .device) ≡ Accepted
+  never-refused-asking = state-passes (present .device) (run-kept .sound .state)
+
+  -- after a call that asserts RES# no refresh is under way
+  pub reset-stops : (time : ℕ) → called otp present (set-reset time true) .held .device .display .running ≡ false
+  reset-stops time =
+      ap (λ (o : Outcome World). o .held .device .display .running) (never-refused (set-reset time true)) ∙ low-stops otp present (run-kept .held) time
 
   module _ (run : present .device .display .running ≡ true) where
     -- while a refresh runs, BUSY is high up to its end

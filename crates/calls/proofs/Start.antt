@@ -32,7 +32,7 @@ use Rattle.guard_laws.proofs.Accepted.{none-refuses, FineLengths, fine-lengths}
 use Rattle.guard_laws.proofs.Started.{both, started-panel, started-swing, started-periods, started-table}
 use Rattle.query.specs.Outcome.{outcome, unless, stateGuarded}
 use Rattle.query.specs.Queries.{WithCount, ambientSet, diagnosticsTaken}
-use Rattle.power_on.specs.Start.{Buffers, lengthsIn, bufferTest, allTests, poweredOn, cleared, filled, Powered, poweredUp, started}
+use Rattle.power_on.specs.Start.{Buffers, lengthsIn, bufferTest, allTests, poweredOn, cleared, filled, Powered, poweredUp, unstarted, started}
 use Rattle.power_on.proofs.Refused.{unstarted-refused}
 use Rattle.wait.specs.Wait.{clockMoved}
 use Rattle.res.specs.Line.{lineMoved}
@@ -148,7 +148,12 @@ unfine-refused otp w e (set-ambient register) = ap (back (putDevice w)) (refused
 unfine-refused otp w e take-diagnostics =
     ap (back (λ (t : WithCount). putDevice w (t .device))) (refused-13 _ _ _ (alone-refuses (w .device) e))
 
--- so does every call with what a refused start left, whatever table it is lent
+-- what a refused start hands back, 13 refuses also where it is only asked (is_busy, busy_pin, next_deadline, config, panel_image,
+-- dropped_diagnostics)
+pub unstarted-refuses : (c : Ssd1677Config) → stateGuarded (unstarted c) ≡ State
+unstarted-refuses c = alone-refuses (unstarted c) (unstarted-refused c)
+
+-- and so does every call with what a refused start left, whatever table it is lent
 pub refused-start-refuses : (c : Ssd1677Config) (otp : List ℕ) (b : Buffers) → isAccepted (started c otp b .answer) ≡ false
     → (table : List ℕ) (call : Call) → called table (worldOf (started c otp b .left)) call ≡ outcome 13 (worldOf (started c otp b .left))
 refused-start-refuses c otp b h table call = unfine-refused table (worldOf (started c otp b .left)) (refused-start c otp b h) call

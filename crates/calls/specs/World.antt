@@ -1,7 +1,7 @@
 -- A device with all that it is lent, and the calls that change it (document 01, demand 3).
-use Prim.Native.Nat.{ℕ}
+use Prim.Native.Nat.{ℕ, _≤_}
 use mathlib.Core.Bool.{Bool}
-use mathlib.Core.List.{List}
+use mathlib.Core.List.{List, [], _∷_}
 use lib.IntN.{ℤ}
 use Rattle.device.specs.declared.Ssd1677.{Ssd1677}
 use Rattle.device.specs.Parts.{withConfig, withJournal}
@@ -167,3 +167,24 @@ taken otp w (write-data time byte) = putPlanes w (dataIn (w .luts) time byte (pl
 taken otp w (read-data time) = putGlassLog w (readIn (w .luts) (w .blackWhite) (w .red) time (glassLogOf w) .left)
 taken otp w (set-ambient register) = putDevice w (withConfig (w .device) (withAmbient (w .device .config) register))
 taken otp w take-diagnostics = putDevice w (withJournal (w .device) (emptied (w .device .journal)))
+
+-- ---- a list of calls
+-- what they leave, one after the other, each with what the one before left
+abbrev pub leftBy : List ℕ → World → List Call → World
+leftBy otp w [] = w
+leftBy otp w (call ∷ calls) = leftBy otp (called otp w call .held) calls
+
+-- a data byte is a byte, as its type says; nothing is asked of the other arguments
+abbrev pub Typed : Call → Type 0
+Typed (advance time) = Unit {0}
+Typed (set-reset time low) = Unit {0}
+Typed (write-command time command) = Unit {0}
+Typed (write-data time byte) = byte ≤ 255
+Typed (read-data time) = Unit {0}
+Typed (set-ambient register) = Unit {0}
+Typed take-diagnostics = Unit {0}
+
+-- every data byte of the list
+abbrev pub AllTyped : List Call → Type 0
+AllTyped [] = Unit {0}
+AllTyped (call ∷ calls) = Typed call × AllTyped calls

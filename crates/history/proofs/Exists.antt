@@ -8,12 +8,11 @@ use Rattle.config.specs.declared.Ssd1677Config.{Ssd1677Config}
 use Rattle.config.specs.Answer.{isAccepted}
 use Rattle.query.specs.Outcome.{Outcome, outcome}
 use Rattle.power_on.specs.Start.{Buffers, started}
-use Rattle.calls.specs.World.{World, Call, worldOf, called, taken}
+use Rattle.calls.specs.World.{World, Call, worldOf, called, taken, leftBy, AllTyped}
 use Rattle.calls.specs.Sound.{Sound}
 use Rattle.calls.proofs.Accepted.{accepted-takes}
 use Rattle.calls.proofs.Kept.{sound-kept}
 use Rattle.calls.proofs.Start.{started-sound}
-use Rattle.calls.proofs.Runs.{leftBy, AllTyped}
 use Rattle.history.specs.Reckon.{coreOf, reckon, begun}
 use Rattle.history.specs.Runs.{Runs, done, accepted, refused}
 use Rattle.history.specs.History.{Agrees}

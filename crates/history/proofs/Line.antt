@@ -23,9 +23,9 @@ use Rattle.clock.specs.Advance.{WithGlass, withGlass, isOver, clocked, quieted,
 use Rattle.chip.specs.Close.{closed}
 use Rattle.chip.specs.Report.{logged}
 use Rattle.reset.specs.Reset.{WithGlassLog, onDevice, onLog, onGlass, restored, isDriving, cutShort, dropped, cut, inReset, asserted, released, byLine}
-use Rattle.history.specs.Reckon.{upTo, Worked, refresh, falls, numberOver}
+use Rattle.history.specs.Reckon.{upTo, Worked, falls, numberOver}
 use Rattle.history.proofs.Blind.{seenGlassLog}
-use Rattle.history.proofs.Shows.{Marks, Shows, over, finish-shows}
+use Rattle.history.proofs.Shows.{Marks, Shows, over, refresh, finish-shows}
 
 -- ---- what the clock's move leaves of the device
 -- a refresh that is under way afterwards has not reached its end

@@ -17,7 +17,8 @@ use Rattle.busy.specs.Busy.{pending}
 use Rattle.moment.specs.Moments.{lowered}
 use Rattle.clock.specs.Advance.{WithGlass, isOver, clocked, quieted, published, endingOf, ended, advanced}
 use Rattle.clock.specs.Advance as chip
-use Rattle.history.specs.Reckon.{upTo, Worked, refresh}
+use Rattle.history.specs.Reckon.{upTo, Worked}
+use Rattle.history.proofs.Shows.{refresh}
 use Rattle.history.proofs.Line.{cutIn, bus-moved, now-moved}
 
 -- ---- what a cut is, before and after the clock's move

@@ -24,12 +24,12 @@ use Rattle.activation.specs.Display.{Displayed, displayOf, begun, shown, unchan
 use Rattle.activation.specs.Activation.{WithLuts, withLuts, Lent, WithBuffers, settled, before, during, staged, stagedIn, activated}
 use Rattle.begin.specs.Begin as begin
 use Rattle.calls.specs.World.{World, lentOf}
-use Rattle.history.specs.Reckon.{coreOf, deviceOf, all, Worked, refresh, atOnce, numberOver}
+use Rattle.history.specs.Reckon.{Core, coreOf, deviceOf, bare, all, Worked, numberOver}
 use Rattle.history.proofs.Blind.{seenBuffers}
 use Rattle.history.proofs.Stages.{unbused}
 use Rattle.history.proofs.Display.{during-plain}
 use Rattle.history.proofs.Begun.{told, still-told}
-use Rattle.history.proofs.Shows.{Marks, Shows, over, endsIn, advance-shows}
+use Rattle.history.proofs.Shows.{Marks, Shows, over, refresh, endsIn, advance-shows}
 
 -- ---- the stages and the end of the display
 shown-ends : (blackWhite red gates : List ℕ) (d : Ssd1677) (wanted two : Bool) (s : Step) (luts : List ℕ) → d .display .ends ≤ largest 64
@@ -72,9 +72,14 @@ staged-once k s =
     same : (n : ℕ) → max n n ≡ n
     same n = omega arith
 
--- what the reckoning has end at once is that
+-- what ends at once, of a core
+abbrev pub atOnce : List ℕ → Core → List Worked
+atOnce otp c =
+    let s = staged (lentOf otp (bare c)) (withLuts (deviceOf c) (c .luts) []) in
+    pick (s .device .display .running && leb (s .device .display .ends) (c .now)) (refresh (s .luts) (s .device .display) all ∷ []) []
+
 pub at-once : (otp : List ℕ) (w : World) → atOnce otp (coreOf w) ≡ onceIn (lentOf otp w) (w .device) (w .luts)
-unfolding atOnce staged settled
+unfolding staged settled
 at-once otp w =
     ap (byStart (w .device .now))
     (during-plain (lentOf otp w) (withLuts (deviceOf (coreOf w)) (w .luts) []) (controlOf (w .device .regs .«update_control_2»)))

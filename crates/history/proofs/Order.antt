@@ -1,6 +1,6 @@
 -- Two pixels whose LUTs are equal in every refresh that a list of calls works in keep the order of their states. Assumes nothing.
 use Prim.Native.Nat.{ℕ, suc, _-_, _≤_, _<_, min}
-use mathlib.Core.Path.{_≡_, refl, subst}
+use mathlib.Core.Path.{_≡_, refl, ap, subst, _∙_}
 use mathlib.Core.Bool.{Bool, true, false, cond}
 use mathlib.Core.List.{List, [], _∷_}
 use native.Mathlib.Omega.{arith}
@@ -10,17 +10,21 @@ use lib.Signed.{_≤ℤ_}
 use lib.ListN.{length, getD}
 use borrow.Author.Tests.{ltb-true}
 use Rattle.numbers.specs.Choice.{pick}
-use Rattle.numbers.proofs.Lin.{le-in, whole}
+use Rattle.numbers.proofs.Lin.{le-in, le-out, whole}
 use Rattle.glass.specs.Exact.{held, drive, drives}
 use Rattle.glass.proofs.Exactly.{drive-pos}
 use Rattle.waveform.specs.declared.Drive.the-variants.{Lut}
 use Rattle.waveform.specs.Exact.{settingPhases}
 use Rattle.config.specs.declared.Ssd1677Config.{Ssd1677Config}
-use Rattle.calls.specs.World.{World, Call}
-use Rattle.history.specs.Reckon.{Core, stepped, Worked, worked, swingOf, drivesBy, numberAfter, numberOver, Reckoning, reckonCall, reckon}
-use Rattle.history.specs.Runs.{Runs}
+use Rattle.config.specs.Answer.{isAccepted}
+use Rattle.power_on.specs.Start.{Buffers, started}
+use Rattle.calls.specs.World.{World, Call, worldOf}
+use Rattle.calls.proofs.Kept.{states-kept}
+use Rattle.history.specs.Reckon.{Worked, worked, swingOf, drivesBy, numberAfter, numberOver, coreOf, Reckoning, reckonCall, reckon, begun}
+use Rattle.history.specs.Runs.{Runs, done, accepted, refused}
 use Rattle.history.specs.History.{SameLut, Alike}
-use Rattle.history.proofs.History.{Kept, run-kept}
+use Rattle.history.proofs.Calls.{accepted-taken, refused-changes-nothing}
+use Rattle.history.proofs.History.{Kept, run-kept, start-kept}
 
 -- ---- one drive, whatever the states
 drive-down : (S d x : ℕ) → drive S (negsuc d) x ≡ min (x - suc d) S
@@ -39,6 +43,14 @@ drives-keep : (S : ℕ) (ds : List ℤ) (x y : ℕ) → x ≤ y → drives S ds 
 unfolding drives
 drives-keep S [] x y h = h
 drives-keep S (d ∷ ds) x y h = drives-keep S ds (drive S d x) (drive S d y) (drive-keeps S d x y h)
+
+-- ---- a run hands back as many states as it had
+runs-long : {otp : List ℕ} {w u : World} {calls : List Call} → Runs otp w calls u → length (u .states) ≡ length (w .states)
+runs-long done = refl
+runs-long {otp = otp} (accepted {w = w} {v = v} {call = call} e rest) =
+    runs-long rest ∙ ap (λ (x : World). length (x .states)) (accepted-taken otp w v call e) ∙ states-kept otp w call
+runs-long (refused {w = w} {v = v} {handed = handed} {back = back} {number = number} call table n e b rest) =
+    runs-long rest ∙ ap (λ (x : World). length (x .states)) (refused-changes-nothing table w handed back v number call n e b)
 
 -- ---- the refreshes of a call, and of a list of calls
 module _ (i j : ℕ) where
@@ -61,16 +73,29 @@ module _ (i j : ℕ) where
   over-keeps c (w ∷ ws) x y s h = over-keeps c ws (numberAfter c i x w) (numberAfter c j y w) (s .1) (after-keeps c w x y (s .0) h)
 
   -- of the whole numbers
-  pub order-kept : (otp : List ℕ) (calls : List Call) (r : Reckoning) → Alike i j otp (r .core) calls → r .number i ≤ r .number j
+  pub order-kept : (otp : List ℕ) (calls : List Call) (r : Reckoning) → Alike i j otp r calls → r .number i ≤ r .number j
       → reckon otp r calls .number i ≤ reckon otp r calls .number j
   unfolding reckon
   order-kept otp [] r a h = h
   order-kept otp (call ∷ calls) r a h =
-      order-kept otp calls (reckonCall otp r call) (a .1) (over-keeps (r .core .config) (worked otp (r .core) call) (r .number i) (r .number j) (a .0) h)
+      order-kept otp calls (reckonCall otp r call) (a .1) (over-keeps (r .core .config) (worked otp r call) (r .number i) (r .number j) (a .0) h)
 
-  -- and of the lent states, after every run
-  pub order : {otp : List ℕ} {w u : World} {calls : List Call} (r : Reckoning) (count : ℕ) → Runs otp w calls u → Kept w r count → Alike i j otp (r .core) calls
-      → r .number i ≤ r .number j → i < length (u .states) → j < length (u .states) → getD (u .states) i (pos 0) ≤ℤ getD (u .states) j (pos 0)
-  order {otp = otp} {calls = calls} r count runs k a h in-i in-j =
-      let s = run-kept r count runs k .shows in
-      rw (s .states i in-i, s .states j in-j) (le-in _ _ (omega (whole, order-kept otp calls r a h)))
+  -- and of the lent states
+  states-ordered : {otp : List ℕ} {w u : World} {calls : List Call} (r : Reckoning) (count : ℕ) → Runs otp w calls u → Kept w r count
+      → Alike i j otp r calls → i < length (w .states) → j < length (w .states) → getD (w .states) i (pos 0) ≤ℤ getD (w .states) j (pos 0)
+      → getD (u .states) i (pos 0) ≤ℤ getD (u .states) j (pos 0)
+  states-ordered {otp = otp} {calls = calls} r count runs k a in-i in-j h =
+      let s = k .shows in
+      let t = run-kept r count runs k .shows in
+      let n : r .number i ≤ r .number j = omega (whole, le-out (rw (s .states i in-i, s .states j in-j) at h)) in
+      rw (t .states i (omega (arith, runs-long runs)), t .states j (omega (arith, runs-long runs))) (le-in _ _ (omega (whole, order-kept otp calls r a n)))
+
+-- the theorem: from an accepted start, after any calls and then any more, two pixels that have one LUT in every refresh of the latter keep the
+-- order of their states
+pub order : (c : Ssd1677Config) (otp : List ℕ) (b : Buffers) → c .optics .«initial_gray» ≤ 255 → isAccepted (started c otp b .answer) ≡ true
+    → (calls more : List Call) (v u : World) → Runs otp (worldOf (started c otp b .left)) calls v → Runs otp v more u → (i j : ℕ)
+    → i < length (v .states) → j < length (v .states) → Alike i j otp (reckon otp (begun (coreOf (worldOf (started c otp b .left)))) calls) more
+    → getD (v .states) i (pos 0) ≤ℤ getD (v .states) j (pos 0) → getD (u .states) i (pos 0) ≤ℤ getD (u .states) j (pos 0)
+order c otp b byte ok calls more v u runs rest i j in-i in-j a h =
+    let first = begun (coreOf (worldOf (started c otp b .left))) in
+    states-ordered i j (reckon otp first calls) _ rest (run-kept first 0 runs (start-kept c otp b byte ok)) a in-i in-j h

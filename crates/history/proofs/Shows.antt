@@ -17,12 +17,13 @@ use Rattle.waveform.specs.Exact.{settingPhases}
 use Rattle.waveform.specs.declared.Until.{Until}
 use Rattle.waveform.specs.declared.Until.the-variants.{Whole, Cut}
 use Rattle.config.specs.declared.Ssd1677Config.{Ssd1677Config}
+use Rattle.panel.specs.declared.Display.{Display}
 use Rattle.panel.specs.Finish as finish
 use Rattle.panel.specs.Pixels.{statesBy}
 use Rattle.panel_laws.proofs.Exactly.{byLut, Told, exactAfter, exact-le, state-exactly, states-length, pixel-shows}
 use Rattle.device.specs.declared.Ssd1677.{Ssd1677}
 use Rattle.clock.specs.Advance.{WithGlass, isOver, clocked, quieted, published, endingOf, glassOf, ended, advanced}
-use Rattle.history.specs.Reckon.{Part, all, upTo, Worked, refresh, swingOf, drivesBy, numberAfter, numberOver}
+use Rattle.history.specs.Reckon.{Part, all, upTo, Worked, swingOf, drivesBy, numberAfter, numberOver}
 use Rattle.history.proofs.Blind.{Seen, seenGlass}
 
 -- a whole number for each pixel, and how many refreshes have been worked in
@@ -59,6 +60,10 @@ over-join c i x [] vs = refl
 over-join c i x (u ∷ us) vs = over-join c i (numberAfter c i x u) us vs
 
 -- ---- the end of one refresh
+-- so much of a display
+abbrev pub refresh : List ℕ → Display → Part → Worked
+refresh luts d part = record { luts = luts; setting = d .setting; part = part }
+
 abbrev untilOf : Part → Until
 untilOf all = Whole
 untilOf (upTo cut) = Cut cut

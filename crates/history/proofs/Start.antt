@@ -24,7 +24,7 @@ use Rattle.guard_laws.proofs.Accepted.{none-refuses, fine-lengths}
 use Rattle.power_on.specs.Start.{Buffers, Powered, lengthsIn, bufferTest, allTests, poweredOn, filled, poweredUp, started}
 use Rattle.power_on.proofs.Cases.{swings}
 use Rattle.calls.specs.World.{worldOf}
-use Rattle.history.specs.Reckon.{swingOf, firstNumber}
+use Rattle.history.specs.Reckon.{none, shownBy, swingOf, firstNumber}
 use Rattle.history.proofs.Shows.{Marks, Shows}
 use Rattle.history.proofs.Taken.{seen}
 
@@ -73,6 +73,11 @@ module _ (c : Ssd1677Config) (otp : List ℕ) (b : Buffers) (ok : isAccepted (st
       fine-lengths (c .panel) (lengthsIn b)
       (not-false (lengthsFit (c .panel) (lengthsIn b)) (last-of (startTests c otp) (bufferTest (c .panel) (lengthsIn b)) passed)) in
       fine .pixels ∙ sym (fine .states)
+
+  -- no refresh is under way
+  pub start-rests : shownBy (started c otp b .left .device .display) (started c otp b .left .buffers .luts) ≡ none
+  unfolding poweredUp poweredOn
+  start-rests = ap (λ (p : Powered). shownBy (p .device .display) (p .buffers .luts)) left-is
 
   -- ---- the glass that it leaves
   module _ (byte : c .optics .«initial_gray» ≤ 255) where

@@ -13,7 +13,7 @@ use Rattle.device.specs.declared.Power.the-variants.{Running, Asleep, InReset}
 use Rattle.busy.specs.Busy.{pending}
 use Rattle.clock.specs.Advance.{WithGlass, advanced}
 use Rattle.chip.specs.Close.{withLog, closed}
-use Rattle.reset.specs.Reset.{WithGlassLog, onGlass, byLine}
+use Rattle.reset.specs.Reset.{WithGlassLog, onGlass}
 use Rattle.activation.specs.Activation.{WithBuffers}
 use Rattle.acts.specs.Ram.{withRam}
 use Rattle.begin.specs.Begin as begin
@@ -22,7 +22,7 @@ use Rattle.low.specs.Command.{arrived, commandTaken}
 use Rattle.high.specs.Data.{dataIn}
 use Rattle.driven.specs.Read.{readIn}
 use Rattle.calls.specs.World.{World, Call, advance, set-reset, write-command, write-data, read-data, set-ambient, take-diagnostics, glassOf, glassLogOf, buffersOf, lentOf, taken}
-use Rattle.history.specs.Reckon.{Core, coreOf, Worked, reached, cutShort, falls, activates, atOnce, stepped, worked, numberOver}
+use Rattle.history.specs.Reckon.{Core, coreOf, Worked, falls, activates, stepped, numberOver}
 use Rattle.history.proofs.Blind.{Seen, seenBy, seenGlass, seenBuffers, behind}
 use Rattle.history.proofs.Steps.{quiet-closed}
 use Rattle.history.proofs.Written.{quiet-data}
@@ -32,7 +32,7 @@ use Rattle.history.proofs.Core.{core-taken}
 use Rattle.history.proofs.Shows.{Marks, Shows, over, over-join, count-join, endsIn, advance-shows}
 use Rattle.history.proofs.Line.{cutIn, not-over, config-moved, power-moved, line-shows}
 use Rattle.history.proofs.Moved.{cutAt, cut-moved, pending-moved}
-use Rattle.history.proofs.Once.{onceIn, at-once, reaches, activation-shows}
+use Rattle.history.proofs.Once.{onceIn, atOnce, at-once, reaches, activation-shows}
 
 abbrev pub seen : World → Seen
 seen w = seenBy (w .device) (w .states) (w .pixels)
@@ -45,7 +45,7 @@ joins s c d us vs number e h =
     subst (Shows s) same (subst (λ (x : Ssd1677Config). Shows s (over x vs (over c us number))) e h)
 
 -- what the reckoning says of 0x20 is what reaches the chip
-reaches-is : (t : ℕ) (x : Core) → activates t 0x20 x ≡ reaches (x .bus .power) (pending (x .bus .«busy_until») t)
+pub reaches-is : (t : ℕ) (x : Core) → activates t 0x20 x ≡ reaches (x .bus .power) (pending (x .bus .«busy_until») t)
 reaches-is t x = by (x .bus .power)
   where
     put : Power → Core
@@ -71,8 +71,22 @@ reaches-is t x = by (x .bus .power)
     by InReset = refl
 
 -- another command is none of it
-reaches-not : (t command : ℕ) (x : Core) → eqb command 0x20 ≡ false → activates t command x ≡ false
+pub reaches-not : (t command : ℕ) (x : Core) → eqb command 0x20 ≡ false → activates t command x ≡ false
 reaches-not t command x e = rw e
+
+-- what a call works in, by the display of the device
+abbrev pub workedBy : List ℕ → World → Call → List Worked
+workedBy otp w (advance time) = endsIn (w .luts) time (w .device)
+workedBy otp w (set-reset time low) =
+    endsIn (w .luts) time (w .device)
+    ++ pick (falls low (w .device .bus .power)) (cutAt (w .luts) (max (w .device .now) time) (w .device)) []
+workedBy otp w (write-command time command) =
+    endsIn (w .luts) time (w .device)
+    ++ pick (activates (max (w .device .now) time) command (coreOf w)) (atOnce otp (stepped otp (coreOf w) (advance time))) []
+workedBy otp w (write-data time byte) = endsIn (w .luts) time (w .device)
+workedBy otp w (read-data time) = endsIn (w .luts) time (w .device)
+workedBy otp w (set-ambient register) = []
+workedBy otp w take-diagnostics = []
 
 module _ (otp : List ℕ) (w : World) (number : Marks) (h : Shows (seen w) number) where
   -- the glass after the clock's move
@@ -90,8 +104,8 @@ module _ (otp : List ℕ) (w : World) (number : Marks) (h : Shows (seen w) numbe
   moves time = advance-shows (w .luts) time (glassOf w) number h
 
   -- ---- the reset line
-  resets : (time : ℕ) (low : Bool) → Shows (seen (taken otp w (set-reset time low))) (over c (worked otp (coreOf w) (set-reset time low)) number)
-  unfolding lineTaken worked reached cutShort
+  resets : (time : ℕ) (low : Bool) → Shows (seen (taken otp w (set-reset time low))) (over c (workedBy otp w (set-reset time low)) number)
+  unfolding lineTaken
   resets time low =
       let a : WithGlassLog = onGlass (advanced (w .luts) time) (glassLogOf w) in
       let t = max (w .device .now) time in
@@ -139,10 +153,10 @@ module _ (otp : List ℕ) (w : World) (number : Marks) (h : Shows (seen w) numbe
 
     -- the command's start, by whether it is 0x20
     commands : (command : ℕ) (b : Bool) → eqb command 0x20 ≡ b
-        → Shows (seen (left command)) (over c (worked otp (coreOf w) (write-command time command)) number)
-    unfolding commandTaken worked reached numberOver
+        → Shows (seen (left command)) (over c (workedBy otp w (write-command time command)) number)
+    unfolding commandTaken numberOver
     commands command true e =
-        subst (λ (x : ℕ). Shows (seen (left x)) (over c (worked otp (coreOf w) (write-command time x)) number)) (sym (eqb-true command 0x20 e))
+        subst (λ (x : ℕ). Shows (seen (left x)) (over c (workedBy otp w (write-command time x)) number)) (sym (eqb-true command 0x20 e))
         (joins (seen (left 0x20)) c (a .device .config) (first time) starts number config-is
         (subst (λ (ws : List Worked). Shows (seen (left 0x20)) (over (a .device .config) ws (over c (first time) number))) starts-is
         (activation-shows (lentOf otp w) (over c (first time) number) a (a .device .bus .power) closes)))
@@ -155,8 +169,8 @@ module _ (otp : List ℕ) (w : World) (number : Marks) (h : Shows (seen w) numbe
         (subst (λ (s : Seen). Shows s (over c (first time) number)) (sym (still-begun (lentOf otp w) command e (a .device .bus .power) a)) closes))
 
   -- ---- a data byte
-  writes : (time byte : ℕ) → Shows (seen (taken otp w (write-data time byte))) (over c (worked otp (coreOf w) (write-data time byte)) number)
-  unfolding dataIn worked reached
+  writes : (time byte : ℕ) → Shows (seen (taken otp w (write-data time byte))) (over c (workedBy otp w (write-data time byte)) number)
+  unfolding dataIn
   writes time byte =
       subst (λ (s : Seen). Shows s (over c (first time) number))
       (sym
@@ -165,8 +179,8 @@ module _ (otp : List ℕ) (w : World) (number : Marks) (h : Shows (seen w) numbe
       (moves time)
 
   -- ---- a read
-  reads : (time : ℕ) → Shows (seen (taken otp w (read-data time))) (over c (worked otp (coreOf w) (read-data time)) number)
-  unfolding readIn worked reached
+  reads : (time : ℕ) → Shows (seen (taken otp w (read-data time))) (over c (workedBy otp w (read-data time)) number)
+  unfolding readIn
   reads time =
       subst (λ (s : Seen). Shows s (over c (first time) number))
       (sym
@@ -176,8 +190,8 @@ module _ (otp : List ℕ) (w : World) (number : Marks) (h : Shows (seen w) numbe
 
 -- ---- every call
 pub shows-taken : (otp : List ℕ) (w : World) (number : Marks) → Shows (seen w) number → (call : Call)
-    → Shows (seen (taken otp w call)) (over (w .device .config) (worked otp (coreOf w) call) number)
-unfolding worked reached numberOver
+    → Shows (seen (taken otp w call)) (over (w .device .config) (workedBy otp w call) number)
+unfolding numberOver
 shows-taken otp w number h (advance time) = moves otp w number h time
 shows-taken otp w number h (set-reset time low) = resets otp w number h time low
 shows-taken otp w number h (write-command time command) = commands otp w number h time command (eqb command 0x20) refl

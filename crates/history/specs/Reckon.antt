@@ -1,6 +1,6 @@
 -- The plain reckoning beside the calls (document 01, demand 3): no log, no journal, no picture, no lent state. It is fed start's arguments
 -- and, of each accepted call, those that are neither state nor buffer.
-use Prim.Native.Nat.{ℕ, _+_, _-_, _*_, _/_, max, min}
+use Prim.Native.Nat.{ℕ, _-_, _*_, _/_, max, min}
 use mathlib.Core.Bool.{Bool, true, false, _&&_, not}
 use mathlib.Core.List.{List, [], _∷_, _++_}
 use lib.Dec.{eqb, leb, ltb}
@@ -20,8 +20,10 @@ use Rattle.device.specs.declared.Status.{Status}
 use Rattle.device.specs.declared.Power.{Power}
 use Rattle.device.specs.declared.Power.the-variants.{Running, Asleep, InReset}
 use Rattle.device.specs.declared.Ssd1677.{Ssd1677}
+use Rattle.device.specs.Parts.{withDisplay}
 use Rattle.busy.specs.Busy.{pending}
-use Rattle.activation.specs.Activation.{withLuts, WithLuts, staged}
+use Rattle.activation.specs.Activation.{withLuts, staged}
+use Rattle.power_on.specs.Start.{noDisplay}
 use Rattle.calls.specs.World.{World, Call, advance, set-reset, write-command, write-data, read-data, set-ambient, take-diagnostics, lentOf, taken}
 
 -- ---- what it keeps, but for the whole numbers
@@ -97,32 +99,32 @@ bare c =
 abbrev pub stepped : List ℕ → Core → Call → Core
 stepped otp c call = coreOf (taken otp (bare c) call)
 
--- ---- which refreshes a call works in
--- how much of a refresh counts: all of it, or what the cut lets it finish
-pub data Part : Type 0 where
-  all : Part
-  upTo : ℕ → Part
-
--- a refresh that a call works in: the LUT of each pixel, the 112 bytes that it began with, and how much of it counts
-pub record Worked : Type 0 where
-  pub luts : List ℕ
+-- ---- the refresh under way
+-- a refresh: its start of driving and its end, the 112 bytes that it began with and each pixel's LUT (document 01: an activation that displays)
+pub record Refresh : Type 0 where
+  pub started : ℕ
+  pub ends : ℕ
   pub setting : List ℕ
-  pub part : Part
+  pub luts : List ℕ
 
--- that of a display
-abbrev pub refresh : List ℕ → Display → Part → Worked
-refresh luts d part = record { luts = luts; setting = d .setting; part = part }
+-- none is under way, or one
+pub data Refreshing : Type 0 where
+  none : Refreshing
+  one : Refresh → Refreshing
 
--- the clock moves to the later of itself and the time; when it reaches the end of the refresh under way, all of it is added
-unfoldable pub reached : ℕ → Core → List Worked
-reached time c = pick (c .display .running && leb (c .display .ends) (max (c .now) time)) (refresh (c .luts) (c .display) all ∷ []) []
+-- what a display and the chosen LUTs say of it
+abbrev pub shownBy : Display → List ℕ → Refreshing
+shownBy d luts = pick (d .running) (one (record { started = d .started; ends = d .ends; setting = d .setting; luts = luts })) none
 
--- a reset at t from the start of driving on and before the end: what t less that start lets it finish; an earlier one adds nothing
-unfoldable pub cutShort : ℕ → Core → List Worked
-cutShort t c =
-    pick (c .display .running && (leb (c .display .started) t && ltb t (c .display .ends)))
-    (refresh (c .luts) (c .display) (upTo (t - c .display .started)) ∷ [])
-    []
+-- the reckoning: the core, the refresh under way, which it follows in words of its own, and a whole number for each pixel
+pub record Reckoning : Type 0 where
+  pub core : Core
+  pub underWay : Refreshing
+  pub number : ℕ → ℕ
+
+-- the clock moves to the later of itself and the time
+abbrev pub later : Reckoning → ℕ → ℕ
+later r time = max (r .core .now) time
 
 -- the line falls, in a chip that is not in reset
 abbrev pub falls : Bool → Power → Bool
@@ -139,26 +141,72 @@ activates t command c = eqb command 0x20 && (isRunning (c .bus .power) && not (p
     isRunning Asleep = false
     isRunning InReset = false
 
--- what the stages of 0x20 leave, before the clock is looked at again
-abbrev pub stagesOf : List ℕ → Core → WithLuts
-stagesOf otp c = staged (lentOf otp (bare c)) (withLuts (deviceOf c) (c .luts) [])
+-- the refresh that 0x20 begins, if it displays: what its stages start where none was
+abbrev pub begins : List ℕ → Core → Refreshing
+begins otp c =
+    let s = staged (lentOf otp (bare c)) (withLuts (withDisplay (deviceOf c) noDisplay) (c .luts) []) in
+    shownBy (s .device .display) (s .luts)
 
--- a refresh that 0x20 begins and whose end the clock has already reached: one of no frame, or at 2^64 − 1
-unfoldable pub atOnce : List ℕ → Core → List Worked
-atOnce otp c =
-    let s = stagesOf otp c in
-    pick (s .device .display .running && leb (s .device .display .ends) (c .now)) (refresh (s .luts) (s .device .display) all ∷ []) []
+-- once the clock, at t, has reached its end, it is under way no more
+unfoldable pub unreached : ℕ → Refreshing → Refreshing
+unreached t none = none
+unreached t (one r) = pick (leb (r .ends) t) none (one r)
 
--- by call; one call may end two refreshes
-unfoldable pub worked : List ℕ → Core → Call → List Worked
-worked otp c (advance time) = reached time c
-worked otp c (set-reset time low) = reached time c ++ pick (falls low (c .bus .power)) (cutShort (max (c .now) time) c) []
-worked otp c (write-command time command) =
-    reached time c ++ pick (activates (max (c .now) time) command c) (atOnce otp (stepped otp c (advance time))) []
-worked otp c (write-data time byte) = reached time c
-worked otp c (read-data time) = reached time c
-worked otp c (set-ambient register) = []
-worked otp c take-diagnostics = []
+-- one that begins, in place of another
+abbrev pub instead : Refreshing → Refreshing → Refreshing
+instead none old = old
+instead (one r) old = one r
+
+-- by call: none goes on past its end or the fall of RES#, and only 0x20 begins one (document 01, demand 3)
+unfoldable pub goesOn : List ℕ → Reckoning → Call → Refreshing
+goesOn otp r (advance time) = unreached (later r time) (r .underWay)
+goesOn otp r (set-reset time low) = pick (falls low (r .core .bus .power)) none (unreached (later r time) (r .underWay))
+goesOn otp r (write-command time command) =
+    unreached (later r time)
+    (pick (activates (later r time) command (r .core)) (instead (begins otp (stepped otp (r .core) (advance time))) (r .underWay)) (r .underWay))
+goesOn otp r (write-data time byte) = unreached (later r time) (r .underWay)
+goesOn otp r (read-data time) = unreached (later r time) (r .underWay)
+goesOn otp r (set-ambient register) = r .underWay
+goesOn otp r take-diagnostics = r .underWay
+
+-- ---- which refreshes a call works in
+-- how much of a refresh counts: all of it, or what the cut lets it finish
+pub data Part : Type 0 where
+  all : Part
+  upTo : ℕ → Part
+
+-- a refresh that a call works in: the LUT of each pixel, the 112 bytes that it began with, and how much of it counts
+pub record Worked : Type 0 where
+  pub luts : List ℕ
+  pub setting : List ℕ
+  pub part : Part
+
+-- so much of a refresh
+abbrev pub counted : Refresh → Part → Worked
+counted r part = record { luts = r .luts; setting = r .setting; part = part }
+
+-- when the clock, at t, reaches the end of the refresh under way, all of it is added
+unfoldable pub reached : ℕ → Refreshing → List Worked
+reached t none = []
+reached t (one r) = pick (leb (r .ends) t) (counted r all ∷ []) []
+
+-- a reset at t from the start of driving on and before the end: what t less that start lets it finish; an earlier one adds nothing
+unfoldable pub cutShort : ℕ → Refreshing → List Worked
+cutShort t none = []
+cutShort t (one r) = pick (leb (r .started) t && ltb t (r .ends)) (counted r (upTo (t - r .started)) ∷ []) []
+
+-- by call; one call may end two refreshes: 0x20 one before it, and at once the one that it begins, of no frame or at 2^64 − 1
+unfoldable pub worked : List ℕ → Reckoning → Call → List Worked
+worked otp r (advance time) = reached (later r time) (r .underWay)
+worked otp r (set-reset time low) =
+    reached (later r time) (r .underWay) ++ pick (falls low (r .core .bus .power)) (cutShort (later r time) (r .underWay)) []
+worked otp r (write-command time command) =
+    reached (later r time) (r .underWay)
+    ++ pick (activates (later r time) command (r .core)) (reached (later r time) (begins otp (stepped otp (r .core) (advance time)))) []
+worked otp r (write-data time byte) = reached (later r time) (r .underWay)
+worked otp r (read-data time) = reached (later r time) (r .underWay)
+worked otp r (set-ambient register) = []
+worked otp r take-diagnostics = []
 
 -- ---- the whole numbers
 -- the swing S: the smaller of full swing and 2^63 − 1 (document 01)
@@ -183,17 +231,13 @@ unfoldable pub numberOver : Ssd1677Config → ℕ → ℕ → List Worked → �
 numberOver c pixel x [] = x
 numberOver c pixel x (w ∷ ws) = numberOver c pixel (numberAfter c pixel x w) ws
 
--- the reckoning: the core, and a whole number for each pixel
-pub record Reckoning : Type 0 where
-  pub core : Core
-  pub number : ℕ → ℕ
-
 -- one accepted call
 abbrev pub reckonCall : List ℕ → Reckoning → Call → Reckoning
 reckonCall otp r call =
     record {
       core = stepped otp (r .core) call;
-      number = λ pixel. numberOver (r .core .config) pixel (r .number pixel) (worked otp (r .core) call);
+      underWay = goesOn otp r call;
+      number = λ pixel. numberOver (r .core .config) pixel (r .number pixel) (worked otp r call);
     }
 
 -- a list of accepted calls
@@ -205,6 +249,6 @@ reckon otp r (call ∷ calls) = reckon otp (reckonCall otp r call) calls
 abbrev pub firstNumber : Ssd1677Config → ℕ
 firstNumber c = swingOf c * c .optics .«initial_gray» / 255
 
--- the reckoning at the start
+-- the reckoning at the start: no refresh is under way
 abbrev pub begun : Core → Reckoning
-begun c = record { core = c; number = λ pixel. firstNumber (c .config) }
+begun c = record { core = c; underWay = none; number = λ pixel. firstNumber (c .config) }

@@ -1,0 +1,2 @@
+-- The laws of traffic_laws.
+pub mod Events

@@ -1,0 +1,38 @@
+-- Events beside the calls of document 01's demand 3.
+use Prim.Native.Nat.{ℕ, zero, suc, _+_}
+use mathlib.Core.List.{List, [], _∷_}
+use Rattle.event.specs.declared.Event.{Event}
+use Rattle.event.specs.declared.Event.the-variants.{Command, Data, Read, Reset, Advance}
+use Rattle.dispatch.specs.Dispatch as dispatch
+use Rattle.calls.specs.World.{World, Call, advance, set-reset, write-command, write-data, read-data}
+
+-- the call of an event
+abbrev pub callOf : Event → Call
+callOf (Command time command) = write-command time command
+callOf (Data time byte) = write-data time byte
+callOf (Read time) = read-data time
+callOf (Reset time low) = set-reset time low
+callOf (Advance time) = advance time
+
+-- those of n events, the first of them at place i
+abbrev pub callsFrom : (ℕ → Event) → ℕ → ℕ → List Call
+callsFrom event zero i = []
+callsFrom event (suc n) i = callOf (event i) ∷ callsFrom event n (i + 1)
+
+-- what events may change of a world: all but the gates
+abbrev pub gateless : World → dispatch.World
+gateless w = dispatch.world (w .device) (w .states) (w .luts) (w .pixels) (w .blackWhite) (w .red) (w .log)
+
+-- and the gates with it again
+abbrev pub withGates : List ℕ → dispatch.World → World
+withGates gates w =
+    record {
+      device = w .device;
+      states = w .states;
+      luts = w .luts;
+      pixels = w .pixels;
+      blackWhite = w .blackWhite;
+      red = w .red;
+      gates = gates;
+      log = w .log;
+    }

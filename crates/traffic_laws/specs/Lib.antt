@@ -1,0 +1,2 @@
+-- The root of traffic_laws' specs.
+pub mod Events
