@@ -12,6 +12,7 @@ const SECOND: u64 = 1_000_000_000;
 
 /// How often the lists have what they time, so that it is long beside what both lists share.
 const BYTES: usize = 1_000_000;
+const ALONE: usize = 100_000;
 const FRAMES: usize = 5;
 const CYCLES: usize = 10;
 /// The partial refreshes of a day, one a minute.
@@ -119,7 +120,17 @@ pub(super) fn rows(table: &Table) {
         e.command(0x24, &[]);
     });
     let bytes = first.then(|e| e.data(&picture(random, BYTES)));
-    row("a RAM byte, `write_data` of 0x24", (BYTES, "byte"), beyond(sides, rounds, Some(&first), &bytes));
+    row("a RAM byte of 0x24, after others", (BYTES, "byte"), beyond(sides, rounds, Some(&first), &bytes));
+
+    // A clock move after each byte, so that no byte follows another.
+    let moves = first.then(|e| (0..ALONE).for_each(|_| e.wait(1)));
+    let alone = first.then(|e| {
+        for byte in picture(random, ALONE) {
+            e.data(&[byte]);
+            e.wait(1);
+        }
+    });
+    row("a RAM byte of 0x24 alone, between clock moves", (ALONE, "byte"), beyond(sides, rounds, Some(&moves), &alone));
 
     let framed = ready.then(|e| frame(e, random));
     let frames = framed.then(|e| (0..FRAMES).for_each(|_| frame(e, random)));
