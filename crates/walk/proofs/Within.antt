@@ -11,7 +11,7 @@ use Rattle.waveform.specs.declared.Phase.{Phase}
 use Rattle.waveform.specs.declared.Progress.{Progress}
 use Rattle.waveform.specs.Exact.{lasts}
 use Rattle.waveform.specs.Walks.{wholeStep, cutStep, endOf}
-use Rattle.waveform_laws.proofs.Lasting.{total}
+use Rattle.waveform_laws.specs.Total.{total}
 use Rattle.waveform_laws.proofs.Steps.{step-on}
 
 -- a walk that goes on

@@ -4,7 +4,8 @@ use mathlib.Core.Bool.{false}
 use Prim.Native.Nat.{_+_}
 use native.Mathlib.Omega.{arith}
 use Rattle.waveform.specs.Walks.{groupIn}
-use Rattle.waveform_laws.proofs.Lasting.{total, total-group}
+use Rattle.waveform_laws.specs.Total.{total}
+use Rattle.waveform_laws.proofs.Lasting.{total-group}
 use Rattle.waveform_laws.proofs.Steps.{stopped-stays}
 use Rattle.walk.proofs.Within.{within}
 use borrow.Author.Needs.{needs}
