@@ -12,6 +12,7 @@ pub mod Line
 pub mod Once
 pub mod Moved
 pub mod Taken
+pub mod Refreshed
 pub mod Going
 pub mod Calls
 pub mod Start
