@@ -19,7 +19,7 @@ use Rattle.data.specs.Most.{isStream}
 use Rattle.burst.specs.declared.Course.{Course}
 use Rattle.burst.specs.declared.Reached.{Reached}
 use Rattle.burst.specs.Running.{quietAt, step, taking, Ran, running}
-use Rattle.burst.specs.Burst.{courseOf, startOf, receivedAs, reachedBy, Into, into, putBack, Bursted, bursted, ranInto, intoBlackWhite, intoRed, burstOf}
+use Rattle.burst.specs.Burst.{courseOf, startOf, receivedAs, reachedBy, Into, into, putBack, bursted, ranInto, burstOf}
 
 pub quiet-or-not : (c : Course) (moment : ℕ) (falls : Bool) → falls ≡ hasCome (c .«busy_until») moment
     → (not (c .running && leb (c .ends) moment) && not falls) ≡ quietAt c moment

@@ -9,7 +9,7 @@ use Rattle.numbers.specs.Choice.{pick}
 use Rattle.ram.specs.Plane.{writtenAt}
 use Rattle.burst.specs.declared.Course.{Course}
 use Rattle.burst.specs.declared.Reached.{Reached}
-use Rattle.burst.specs.Running.{takes, onward, Step, step, taking, Ran, ran, running}
+use Rattle.burst.specs.Running.{takes, onward, Step, taking, Ran, ran, running}
 
 module _ (kinds times values : List ℕ) (c : Course) where
   abbrev goes : ℕ → ℕ → Reached → List ℕ → Ran

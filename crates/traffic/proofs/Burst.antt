@@ -2,7 +2,7 @@
 use mathlib.Core.Path.{_≡_, refl, sym, ap, subst, _∙_}
 use mathlib.Core.Bool.{Bool, true, false, _&&_}
 use mathlib.Core.List.{List, [], _∷_}
-use Prim.Native.Nat.{ℕ, zero, suc, _+_, _-_, _≤_, _<_, max}
+use Prim.Native.Nat.{ℕ, zero, suc, _+_, _-_, _≤_, max}
 use native.Mathlib.Omega.{arith}
 use lib.Dec.{eqb}
 use lib.IntN.{ℤ}
@@ -15,7 +15,6 @@ use Rattle.counter.specs.declared.Counter.{Counter}
 use Rattle.counter.specs.Counter.{advancedOf}
 use Rattle.ram.specs.declared.Place.{Place}
 use Rattle.ram.specs.declared.Place.the-variants.{At, Outside}
-use Rattle.ram.specs.declared.Plane.the-variants.{BlackWhite, Red}
 use Rattle.ram.specs.Plane.{indexOf, putAt, planeOf, wroteAt, writtenAt}
 use Rattle.ram_laws.proofs.Tens.{TenBitCounter, TenBitWindow, advanced-ten}
 use Rattle.device.specs.declared.Active.{Active}
@@ -24,9 +23,9 @@ use Rattle.device.specs.declared.Current.the-variants as current
 use Rattle.device.specs.declared.Ssd1677.{Ssd1677}
 use Rattle.device.specs.Parts.{withNow, withCurrent, withPointed}
 use Rattle.clock.specs.Advance.{isQuiet}
-use Rattle.acts.specs.Ram.{WithRam, withRam}
+use Rattle.acts.specs.Ram.{withRam}
 use Rattle.data.specs.Most.{isStream}
-use Rattle.data.specs.Data.{counted, planeFor, ramWritten, dataTaken}
+use Rattle.data.specs.Data.{counted, planeFor, dataTaken}
 use Rattle.data.proofs.Cases.{puts, is-stream}
 use Rattle.guard_lengths.specs.declared.Lengths.{Lengths}
 use Rattle.guard_lengths.specs.Lengths.{lengthsFit, planesLogLent}
@@ -42,6 +41,7 @@ use Rattle.query.specs.Outcome.{Outcome, outcome}
 use Rattle.entry_laws.proofs.Passed.{only-accepted}
 use Rattle.event.specs.declared.Event.{Event}
 use Rattle.event.specs.declared.Event.the-variants.{Data}
+use Rattle.event.specs.Events.{eventOf}
 use Rattle.high.specs.Data.{WithPlanes, withPlanes, dataWritten}
 use Rattle.high.proofs.Cases.{data-rests}
 use Rattle.dispatch.specs.Dispatch.{World, world, putPlanes, dispatched}
@@ -49,7 +49,7 @@ use Rattle.burst.specs.declared.Reached.{Reached}
 use Rattle.burst.specs.Running.{takes, onward, Ran, ran, running}
 use Rattle.burst.proofs.Running.{from-on, not-past}
 use Rattle.burst.specs.Burst.{courseOf, startOf, receivedAs, reachedBy, Bursted, bursted, ranInto, burstOf}
-use Rattle.traffic.specs.Traffic.{Fed, eventOf, eventAt, fed, feeding, unread, made, EndsAlike}
+use Rattle.traffic.specs.Traffic.{eventAt, feeding, unread, made, EndsAlike}
 use Rattle.traffic.proofs.Feeding.{goesOn, one}
 
 -- ---- 13 and 11 refuse no byte of a burst

@@ -1,37 +1,18 @@
 -- Events made one after the other, up to the first call that is refused (change request #102).
-use mathlib.Core.Bool.{not}
 use mathlib.Core.Path.{_≡_}
-use mathlib.Core.List.{List, [], _∷_}
+use mathlib.Core.List.{List}
 use Prim.Native.Nat.{ℕ, zero, suc, _+_, _-_, min}
 use lib.Dec.{eqb}
 use lib.IntN.{ℤ}
 use lib.ListN.{length, getD}
 use Rattle.numbers.specs.Choice.{pick}
-use Rattle.numbers.specs.Rows.{Row, lookup}
 use Rattle.event.specs.declared.Event.{Event}
-use Rattle.event.specs.declared.Event.the-variants.{Command, Data, Read, Reset, Advance}
+use Rattle.event.specs.Events.{eventOf}
 use Rattle.guard_lengths.specs.declared.Lengths.{Lengths}
 use Rattle.guard_lengths.specs.Lengths.{planesLogLent}
 use Rattle.query.specs.Outcome.{Outcome, outcome}
 use Rattle.dispatch.specs.Dispatch.{World, world, Told, dispatched}
 use Rattle.burst.specs.Burst.{Bursted}
-
--- a row of the table
-abbrev pub row : ℕ → Event → Row Event
-row kind event = record { number = kind; gives = event }
-
--- the kinds 1 to 4 of an event (docs/replay-format.md)
-abbrev pub rows : ℕ → ℕ → List (Row Event)
-rows time value =
-    row 1 (Command time value) ∷
-    row 2 (Data time value) ∷
-    row 3 (Read time) ∷
-    row 4 (Reset time (not (eqb value 0))) ∷
-    []
-
--- the event of a kind's number; any other moves the clock alone
-unfoldable pub eventOf : ℕ → ℕ → ℕ → Event
-eventOf kind time value = lookup (Advance time) kind (rows time value)
 
 -- the event at a place of three lists
 abbrev pub eventAt : List ℕ → List ℕ → List ℕ → ℕ → Event

@@ -6,10 +6,9 @@ ghost use lib.ListN.{length};
 ghost use Rattle.guard.specs.Refusals.{numberOf, accepts};
 ghost use Rattle.dispatch.specs.Dispatch.{world};
 ghost use Rattle.burst.specs.Burst.{bursted};
-ghost use Rattle.traffic.specs.Traffic.{eventOf, eventAt, shortest, fed, made, feeding, ended, EndsAlike};
+ghost use Rattle.traffic.specs.Traffic.{eventAt, shortest, fed, made, feeding, ended, EndsAlike};
 use burst::Burst;
 use device::Ssd1677;
-use event::Event;
 use guard::Refusal;
 use guard_lengths::Lengths;
 
@@ -18,19 +17,6 @@ pub struct Fed {
     pub refusal: Refusal,
     pub state: Ssd1677,
     pub made: usize,
-}
-
-// The event of a number (docs/replay-format.md, kinds 1 to 5); any other moves the clock alone.
-pub fn event_of(kind: u8, time: u64, value: u8) -> Event
-    ensures { λ r. ⌜ r ≡ eventOf kind time value ⌝ }
-{
-    match kind {
-        1 => Event::Command(time, value),
-        2 => Event::Data(time, value),
-        3 => Event::Read(time),
-        4 => Event::Reset(time, value != 0),
-        _ => Event::Advance(time),
-    }
 }
 
 fn shorter(one: usize, other: usize) -> usize
@@ -96,7 +82,7 @@ fn one(
             made: at,
         };
     }
-    let event = event_of(kinds[at], times[at], values[at]);
+    let event = event::event_of(kinds[at], times[at], values[at]);
     let answer = dispatch::dispatch(
         state,
         &mut states[..],

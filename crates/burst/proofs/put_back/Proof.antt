@@ -1,6 +1,5 @@
 -- `burst::put_back` meets its contract.
 use borrow.Author.Needs.{needs}
-use mathlib.Core.Path.{refl}
 use Rattle.burst.proofs.Cases.{puts-back}
 use Rattle.burst.proofs.put_back.Statement.{statement}
 use Rattle.burst.proofs.put_back.Tie as tie

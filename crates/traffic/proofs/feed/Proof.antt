@@ -7,7 +7,7 @@ use borrow.Author.Needs.{needs}
 use borrow.Author.Tests.{not-true, not-false}
 use Rattle.query.specs.Outcome.{Outcome}
 use Rattle.dispatch.specs.Dispatch.{World, world}
-use Rattle.traffic.specs.Traffic.{eventAt, shortest, made, feeding}
+use Rattle.traffic.specs.Traffic.{eventAt, made, feeding}
 use Rattle.traffic.proofs.Feeding.{fed-all, ended-on, ended-there}
 use Rattle.traffic.proofs.feed.Statement.{statement}
 use Rattle.traffic.proofs.feed.Tie as tie

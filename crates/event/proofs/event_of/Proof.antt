@@ -1,12 +1,12 @@
--- `traffic::event_of` meets its contract: in each arm the kind is the row's number, and the table computes; in the last, it is no row's.
+-- `event::event_of` meets its contract: in each arm the kind is the row's number, and the table computes; in the last, it is no row's.
 use Prim.{Unit}
 use Rattle.event.specs.declared.Event.the-variants.{Advance}
 use Rattle.numbers.specs.Rows.{lookup}
 use Rattle.numbers.proofs.Miss.{miss}
 use mathlib.Core.Path.{refl}
-use Rattle.traffic.specs.Traffic.{rows, eventOf}
-use Rattle.traffic.proofs.event_of.Statement.{statement}
-use Rattle.traffic.proofs.event_of.Tie as tie
+use Rattle.event.specs.Events.{rows, eventOf}
+use Rattle.event.proofs.event_of.Statement.{statement}
+use Rattle.event.proofs.event_of.Tie as tie
 
 returns : tie.Need-returns
 unfolding lookup eventOf

@@ -1,0 +1,2 @@
+-- The root of event's specs.
+pub mod Events
