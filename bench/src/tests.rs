@@ -15,9 +15,13 @@ mod inside;
 #[cfg(time)]
 mod lent;
 #[cfg(time)]
+mod lists;
+#[cfg(time)]
 mod memory;
 mod proved;
 mod random;
+#[cfg(time)]
+mod record;
 #[cfg(compare)]
 mod settings;
 #[cfg(time)]
@@ -40,12 +44,16 @@ fn functions(table: &beside::Table) {
 #[cfg(time)]
 impl crate::Judge for Ssd1677 {
     fn run(arguments: &[String]) -> bool {
-        let rounds = arguments.get(1).and_then(|rounds| rounds.parse().ok());
-        match (arguments.first().map(String::as_str), rounds) {
-            (Some("functions"), Some(rounds)) => functions(&beside::Table::new(rounds)),
-            (Some("device"), Some(rounds)) => device::rows(&beside::Table::new(rounds)),
+        let numbers: Vec<u32> = arguments.iter().skip(1).flat_map(|word| word.parse()).collect();
+        match (arguments.first().map(String::as_str), numbers.as_slice()) {
+            (Some("functions"), &[rounds]) => functions(&beside::Table::new(rounds)),
+            (Some("device"), &[rounds]) => device::rows(&beside::Table::new(rounds)),
+            (Some("lists"), &[seed, count]) => return lists::run(seed.into(), count.into()),
+            (Some("lists-near-misses"), &[seed, count]) => {
+                return lists::near_misses(seed.into(), count.into());
+            }
             _ => {
-                eprintln!("usage: time functions|device ROUNDS");
+                eprintln!("usage: time functions|device ROUNDS, or time lists|lists-near-misses SEED COUNT");
                 return false;
             }
         }

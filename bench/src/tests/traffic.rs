@@ -8,6 +8,7 @@ use super::beside::timed;
 use super::inside;
 use super::lent::Lent;
 use super::proved::Published;
+use super::record::{LOG_BYTES, record};
 use crate::lines::ONE_GIGAHERTZ;
 use crate::ssd1677::config::{DisplayMode, OtpWaveform, Provenance};
 use crate::ssd1677::panel::RefreshKind;
@@ -60,11 +61,39 @@ impl Events {
         self.push(ADVANCE, 0);
     }
 
+    /// A clock move at a moment that has gone by.
+    pub(super) fn back(&mut self, nanoseconds: u64) {
+        self.push(ADVANCE, 0);
+        let last = self.times.len() - 1;
+        self.times[last] = self.time.saturating_sub(nanoseconds);
+    }
+
+    /// Bytes that the chip drives.
+    pub(super) fn read(&mut self, count: u64) {
+        for _ in 0..count {
+            self.time += BYTE;
+            self.push(READ, 0);
+        }
+    }
+
+    pub(super) fn data_count(&self) -> usize {
+        self.kinds.iter().filter(|&&kind| kind == DATA).count()
+    }
+
     /// RES# low, and high again.
     pub(super) fn reset(&mut self) {
         self.push(RESET, 1);
         self.time += MILLISECOND;
         self.push(RESET, 0);
+    }
+
+    /// All but the event at a place.
+    pub(super) fn without(&self, place: usize) -> Events {
+        let mut events = self.clone();
+        events.kinds.remove(place);
+        events.times.remove(place);
+        events.values.remove(place);
+        events
     }
 
     /// These events and some more.
@@ -106,6 +135,12 @@ fn header(device: &Ssd1677) -> Published {
         image.started.0,
         image.at.0,
     ]
+}
+
+/// What a run left beside what is compared.
+pub(super) struct Told {
+    pub(super) generation: u64,
+    pub(super) records: usize,
 }
 
 /// Both sides of one configuration, with what the last run of each left.
@@ -158,18 +193,34 @@ impl Sides {
         time
     }
 
-    /// Ends the run where the last runs of the two sides left something else.
+    /// Ends the run where the last runs of the two sides left something else, or a diagnostic.
     pub(super) fn compare(&self) {
+        let told = self.told().expect("no difference");
+        assert_eq!(told.records, 0, "diagnostics");
+    }
+
+    /// What the last runs of the two sides left, or where they differ.
+    pub(super) fn told(&self) -> Result<Told, &'static str> {
         let device = self.device.as_ref().expect("a run");
-        assert_eq!(header(device), self.published, "the image's header");
-        assert!(device.panel_image().pixels == self.lent.pixels, "pixels");
-        assert!(inside::glass(&device.panel).states == self.lent.states, "states");
-        assert!(device.ram(Plane::BlackWhite) == self.lent.black_white, "black and white");
-        assert!(device.ram(Plane::Red) == self.lent.red, "red");
-        if let Some(display) = &device.display {
-            assert!(inside::luts(display) == self.lent.luts, "LUTs");
+        let mut log: Vec<u8> = device.diagnostics.iter().flat_map(record).collect();
+        log.resize(LOG_BYTES, 0);
+        let lent = &self.lent;
+        let luts_alike = |display| inside::luts(display) == lent.luts;
+        let alike = [
+            (header(device) == self.published, "the image's header"),
+            (device.panel_image().pixels == lent.pixels, "pixels"),
+            (inside::glass(&device.panel).states == lent.states, "states"),
+            (device.ram(Plane::BlackWhite) == lent.black_white, "black and white"),
+            (device.ram(Plane::Red) == lent.red, "red"),
+            (device.display.as_ref().is_none_or(luts_alike), "LUTs"),
+            (log == lent.log, "the log"),
+        ];
+        match alike.iter().find(|(same, _)| !same) {
+            Some(&(_, what)) => Err(what),
+            None => Ok(Told {
+                generation: device.panel_image().generation,
+                records: device.diagnostics.len(),
+            }),
         }
-        assert!(device.diagnostics.is_empty(), "{:?}", device.diagnostics);
-        assert!(self.lent.log.iter().all(|&byte| byte == 0), "the log");
     }
 }
