@@ -1,4 +1,4 @@
-// Events made of a device one after the other, up to the first call that is refused: what change request #102 feeds from a file.
+// Events made of a device one after the other, up to the first call that is refused: what #102 feeds from a file.
 ghost use mathlib.Core.Path.{_≡_};
 ghost use mathlib.Core.Bool.{true};
 ghost use Prim.Native.Nat.{_+_, _-_, _≤_, _<_, min};
