@@ -24,7 +24,7 @@ planeOf blackWhite red Red = red
 unfoldable pub indexOf : Counter → Place
 indexOf c = pick (ltb (c .x / 8) 120 && ltb (c .y) 680) (At (c .y * 120 + c .x / 8)) Outside
 
--- the byte at a place; past the end of a list too short there is none (SCOPE, Buffers: a read outside gives none)
+-- the byte at a place; outside there is none (SCOPE, Buffers), nor past the end of a list too short (docs/DECISIONS.md, 22)
 abbrev pub byteAt : List ℕ → Place → Byte
 byteAt p (At i) = pick (ltb i (length p)) (byte.Is (getD p i 0)) byte.Nothing
 byteAt p Outside = byte.Nothing
