@@ -1,5 +1,7 @@
 // The parts of a display's end, whole or cut: its transfers, made once, and what they move.
 use glass::Transfer;
+use glass_tables::Move;
+use glass_tables::greys;
 use panel::Border;
 use panel::Display;
 use panel::Panel;
@@ -7,12 +9,14 @@ use waveform::Drive;
 use waveform::Until;
 use waveform::Waveform;
 ghost use mathlib.Core.Path.{_≡_};
+ghost use Prim.Native.Nat.{min};
 ghost use Rattle.waveform.specs.Walks.{Walkable};
 ghost use Rattle.waveform.specs.Setting.{waveformOf};
 ghost use Rattle.panel.specs.Border.{borderDrive};
 ghost use Rattle.panel.specs.Pixels.{stateBy, statesBy, grays};
 ghost use Rattle.panel.specs.Finish.{borderBy, withBorder};
 ghost use Rattle.finish.specs.Refresh.{AllWalkable, Repaintable, refreshOf, transferIn, fourTransfers, inTable};
+ghost use Rattle.finish.specs.Moves.{Upright, MovesOf};
 
 // What the transfers of a display are made from.
 pub struct Refresh {
@@ -69,14 +73,33 @@ fn transfers(refresh: Refresh) -> [Transfer; 4]
     [lut0, lut1, lut2, lut3]
 }
 
-fn moved(transfers: [Transfer; 4], lut: u8, state: i64) -> i64
-    ensures { λ r. ⌜ r ≡ stateBy (inTable transfers) lut state ⌝ }
+// The moves of LUTs 0 to 3, and a fifth that leaves every state, for a pixel that is not driven.
+fn moves(transfers: [Transfer; 4]) -> [Move; 5]
+    requires { ⌜ Upright transfers ⌝ }
+    ensures { λ r. ⌜ MovesOf transfers r ⌝ }
 {
-    if lut < 4 {
-        let transfer = transfers[lut as usize];
-        return transfer.apply(state);
-    }
-    state
+    let lut0 = transfers[0];
+    let lut1 = transfers[1];
+    let lut2 = transfers[2];
+    let lut3 = transfers[3];
+    let undriven = Transfer {
+        add: 0,
+        lo: i64::MIN,
+        hi: i64::MAX,
+    };
+    let move0 = glass_tables::move_of(lut0);
+    let move1 = glass_tables::move_of(lut1);
+    let move2 = glass_tables::move_of(lut2);
+    let move3 = glass_tables::move_of(lut3);
+    let left = glass_tables::move_of(undriven);
+    [move0, move1, move2, move3, left]
+}
+
+// Where a LUT's move stands: any byte from 4 on is an undriven pixel's.
+fn place(lut: u8) -> usize
+    ensures { λ r. ⌜ r ≡ min lut 4 ⌝ }
+{
+    if lut < 4 { lut as usize } else { 4 }
 }
 
 // One pass: each driven state moved, and every pixel the grey of its state.
@@ -88,13 +111,22 @@ fn paint(
     pixels: &mut [u8],
 )
     requires { ⌜ Repaintable refresh (now luts) (now states) (now pixels) ⌝ }
+    requires { ⌜ Upright transfers ⌝ }
     ensures { λ _. ⌜ now (states .exit) ≡ statesBy (inTable transfers) (now (luts .entry)) (now (states .entry)) ⌝ }
     ensures { λ _. ⌜ now (pixels .exit) ≡ grays (refresh .swing) (statesBy (inTable transfers) (now (luts .entry)) (now (states .entry))) ⌝ }
 {
+    let swing = refresh.swing;
+    let shift = greys::shift(swing);
+    let firsts = greys::firsts(swing, shift);
+    let ends = greys::ends(swing);
+    let moves = moves(transfers);
     for i in 0..states.len() {
-        let state = moved(transfers, luts[i], states[i]);
+        // Read from the table here: handed to a function, the table would be copied for every pixel.
+        let at = place(luts[i]);
+        let step = moves[at];
+        let state = step.apply(states[i]);
         states[i] = state;
-        pixels[i] = glass::gray(state, refresh.swing);
+        pixels[i] = greys::gray_of(&firsts, &ends, shift, swing, state);
     }
 }
 
