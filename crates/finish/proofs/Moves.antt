@@ -2,12 +2,12 @@
 use mathlib.Core.Path.{_≡_, refl, sym, ap, subst, _∙_}
 use mathlib.Core.Bool.{Bool, true, false}
 use mathlib.Core.List.{List, [], _∷_, foldl}
-use Prim.Native.Nat.{ℕ, zero, suc, _-_, _/_, _≤_, _<_, min}
+use Prim.Native.Nat.{ℕ, zero, suc, _-_, _/_, _≤_, _<_}
 use native.Mathlib.Omega.{arith}
 use lib.Dec.{ltb}
 use lib.IntN.{ℤ, pos, _+ℤ_}
 use lib.Signed.{_≤ℤ_}
-use lib.ListN.{getD}
+use lib.ListN.{getD, set, replicate, getD-replicate}
 use borrow.Author.Tests.{ltb-true, ltb-false}
 use Rattle.numbers.specs.Choice.{pick}
 use Rattle.numbers.specs.Lists.{tab}
@@ -55,27 +55,35 @@ four P a b d e (suc (suc zero)) l = d
 four P a b d e (suc (suc (suc zero))) l = e
 four P a b d e (suc (suc (suc (suc k)))) l = absurd (omega arith)
 
-module _ (ts : List Transfer) (ms : List Move) (driven : (lut : ℕ) → lut < 4 → Does (inTable ts lut) (moveAt ms lut)) (left : Does leaving (moveAt ms 4)) where
-  fits : (place : ℕ) → place < 5 → Fitting (moveAt ms place)
-  fits place h = by (ltb place 4) refl
-    where
-      by : (t : Bool) → ltb place 4 ≡ t → Fitting (moveAt ms place)
-      by true e = driven place (ltb-true _ _ e) .fitting
-      by false e = subst (λ (k : ℕ). Fitting (moveAt ms k)) (omega (arith, ltb-false place 4 e)) (left .fitting)
+-- one move throughout, then four written over the first of it
+abbrev pub written : Move → Move → Move → Move → Move → List Move
+written m a b d e = set (set (set (set (replicate 256 m) 0 a) 1 b) 2 d) 3 e
 
-  moves-state : (lut : ℕ) (x : ℤ) → Word x → movedBy (moveAt ms (min lut 4)) x ≡ stateBy (inTable ts) lut x
-  unfolding stateBy
-  moves-state lut x w = by (ltb lut 4) refl
+rest : (m a b d e : Move) (lut : ℕ) → 4 ≤ lut → lut < 256 → moveAt (written m a b d e) lut ≡ m
+rest m a b d e (suc (suc (suc (suc k)))) g l = getD-replicate 252 k m _ (omega arith)
+rest m a b d e zero g l = absurd (omega arith)
+rest m a b d e (suc zero) g l = absurd (omega arith)
+rest m a b d e (suc (suc zero)) g l = absurd (omega arith)
+rest m a b d e (suc (suc (suc zero))) g l = absurd (omega arith)
+
+module _ (ts : List Transfer) (m a b d e : Move) (left : Does leaving m) (driven : (lut : ℕ) → lut < 4 → Does (inTable ts lut) (moveAt (written m a b d e) lut)) where
+  abbrev ms : List Move
+  ms = written m a b d e
+
+  fits : (lut : ℕ) → lut < 256 → Fitting (moveAt ms lut)
+  fits lut h = by (ltb lut 4) refl
     where
-      by : (t : Bool) → ltb lut 4 ≡ t → movedBy (moveAt ms (min lut 4)) x ≡ pick t (applyT (inTable ts lut) x) x
-      by true e =
-          let l = ltb-true lut 4 e in
-          let m : min lut 4 ≡ lut = omega arith in
-          ap (λ (k : ℕ). movedBy (moveAt ms k) x) m ∙ driven lut l .does x w
-      by false e =
-          let l = ltb-false lut 4 e in
-          let m : min lut 4 ≡ 4 = omega arith in
-          ap (λ (k : ℕ). movedBy (moveAt ms k) x) m ∙ left .does x w ∙ leaves x w
+      by : (t : Bool) → ltb lut 4 ≡ t → Fitting (moveAt ms lut)
+      by true q = driven lut (ltb-true lut 4 q) .fitting
+      by false q = subst Fitting (sym (rest m a b d e lut (ltb-false lut 4 q) h)) (left .fitting)
+
+  moves-state : (lut : ℕ) → lut < 256 → (x : ℤ) → Word x → movedBy (moveAt ms lut) x ≡ stateBy (inTable ts) lut x
+  unfolding stateBy
+  moves-state lut h x w = by (ltb lut 4) refl
+    where
+      by : (t : Bool) → ltb lut 4 ≡ t → movedBy (moveAt ms lut) x ≡ pick t (applyT (inTable ts lut) x) x
+      by true q = driven lut (ltb-true lut 4 q) .does x w
+      by false q = ap (λ (n : Move). movedBy n x) (rest m a b d e lut (ltb-false lut 4 q) h) ∙ left .does x w ∙ leaves x w
 
   pub moves-of : MovesOf ts ms
   moves-of = record { fitting = fits; does = moves-state }

@@ -9,7 +9,6 @@ use waveform::Drive;
 use waveform::Until;
 use waveform::Waveform;
 ghost use mathlib.Core.Path.{_≡_};
-ghost use Prim.Native.Nat.{min};
 ghost use Rattle.waveform.specs.Walks.{Walkable};
 ghost use Rattle.waveform.specs.Setting.{waveformOf};
 ghost use Rattle.panel.specs.Border.{borderDrive};
@@ -73,8 +72,8 @@ fn transfers(refresh: Refresh) -> [Transfer; 4]
     [lut0, lut1, lut2, lut3]
 }
 
-// The moves of LUTs 0 to 3, and a fifth that leaves every state, for a pixel that is not driven.
-fn moves(transfers: [Transfer; 4]) -> [Move; 5]
+// The move of every byte that can stand for a LUT: those of LUTs 0 to 3, and for all others one that leaves every state.
+fn moves(transfers: [Transfer; 4]) -> [Move; 256]
     requires { ⌜ Upright transfers ⌝ }
     ensures { λ r. ⌜ MovesOf transfers r ⌝ }
 {
@@ -87,19 +86,13 @@ fn moves(transfers: [Transfer; 4]) -> [Move; 5]
         lo: i64::MIN,
         hi: i64::MAX,
     };
-    let move0 = glass_tables::move_of(lut0);
-    let move1 = glass_tables::move_of(lut1);
-    let move2 = glass_tables::move_of(lut2);
-    let move3 = glass_tables::move_of(lut3);
     let left = glass_tables::move_of(undriven);
-    [move0, move1, move2, move3, left]
-}
-
-// Where a LUT's move stands: any byte from 4 on is an undriven pixel's.
-fn place(lut: u8) -> usize
-    ensures { λ r. ⌜ r ≡ min lut 4 ⌝ }
-{
-    if lut < 4 { lut as usize } else { 4 }
+    let mut moves = [left; 256];
+    moves[0] = glass_tables::move_of(lut0);
+    moves[1] = glass_tables::move_of(lut1);
+    moves[2] = glass_tables::move_of(lut2);
+    moves[3] = glass_tables::move_of(lut3);
+    moves
 }
 
 // One pass: each driven state moved, and every pixel the grey of its state.
@@ -121,9 +114,8 @@ fn paint(
     let ends = greys::ends(swing);
     let moves = moves(transfers);
     for i in 0..states.len() {
-        // Read from the table here: handed to a function, the table would be copied for every pixel.
-        let at = place(luts[i]);
-        let step = moves[at];
+        // Read here: handed to a function, the table would be copied for every pixel.
+        let step = moves[luts[i] as usize];
         let state = step.apply(states[i]);
         states[i] = state;
         pixels[i] = greys::gray_of(&firsts, &ends, shift, swing, state);
