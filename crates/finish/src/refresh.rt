@@ -9,6 +9,7 @@ use waveform::Drive;
 use waveform::Until;
 use waveform::Waveform;
 ghost use mathlib.Core.Path.{_≡_};
+ghost use Prim.Native.Nat.{_<_};
 ghost use Rattle.waveform.specs.Walks.{Walkable};
 ghost use Rattle.waveform.specs.Setting.{waveformOf};
 ghost use Rattle.panel.specs.Border.{borderDrive};
@@ -95,6 +96,13 @@ fn moves(transfers: [Transfer; 4]) -> [Move; 256]
     moves
 }
 
+// Where the move of a LUT's byte stands.
+fn place(lut: u8) -> usize
+    ensures { λ r. ⌜ (r ≡ lut) × (r < 256) ⌝ }
+{
+    lut as usize
+}
+
 // One pass: each driven state moved, and every pixel the grey of its state.
 fn paint(
     refresh: Refresh,
@@ -115,7 +123,8 @@ fn paint(
     let moves = moves(transfers);
     for i in 0..states.len() {
         // Read here: handed to a function, the table would be copied for every pixel.
-        let step = moves[luts[i] as usize];
+        let at = place(luts[i]);
+        let step = moves[at];
         let state = step.apply(states[i]);
         states[i] = state;
         pixels[i] = greys::gray_of(&firsts, &ends, shift, swing, state);

@@ -62,17 +62,17 @@ moves-requires c κs = c .before .before .before .before .before .before .pre .1
 loop-holds : tie.Need-loop-holds Inv-loop μ-loop
 loop-holds c = (painted-none _ _, painted-none _ _, λ k l. absurd (omega arith))
 
-shared-slice-read-step : tie.Need-shared-slice-read-step Inv-loop μ-loop
-shared-slice-read-step c = omega arith
+shared-slice-read-place : tie.Need-shared-slice-read-place Inv-loop μ-loop
+shared-slice-read-place c = omega arith
 
-cast-step : tie.Need-cast-step Inv-loop μ-loop
-cast-step c = omega (arith, c .shared-slice-known2 .given (c .before .before .loop .i))
+place-requires : tie.Need-place-requires Inv-loop μ-loop
+place-requires c κs = tt
 
 mul-step : tie.Need-mul-step Inv-loop μ-loop
-mul-step c = omega (arith, c .shared-slice-known2 .given (c .before .before .loop .i))
+mul-step c = omega (arith, c .place .ensures .1)
 
 array-copy-out-step : tie.Need-array-copy-out-step Inv-loop μ-loop
-array-copy-out-step c = omega (arith, c .shared-slice-known2 .given (c .before .before .loop .i))
+array-copy-out-step c = c .place .ensures .1
 
 mul-apply : tie.Need-mul-apply Inv-loop μ-loop
 mul-apply c = omega arith
@@ -82,9 +82,8 @@ slice-copy-out-apply c = omega arith
 
 apply-requires : tie.Need-apply-requires Inv-loop μ-loop
 apply-requires c κs =
-    let known = c .before .before in
-    let m = known .before .before in
-    m .before .moves .ensures .fitting _ (omega (arith, known .shared-slice-known2 .given (m .loop .i)))
+    let place = c .before .before in
+    place .before .before .before .before .moves .ensures .fitting _ (place .place .ensures .1)
 
 mul-state : tie.Need-mul-state Inv-loop μ-loop
 mul-state c = omega arith
@@ -94,7 +93,7 @@ slice-set-from-state c = omega arith
 
 gray-of-requires : tie.Need-gray-of-requires Inv-loop μ-loop
 gray-of-requires c κs =
-    let ends = c .before .before .before .before .before .before .before .before .before in
+    let ends = c .before .before .before .before .before .before .before .before .before .before in
     record {
       some = search needs;
       steps = ends .before .before .shift .ensures;
@@ -114,7 +113,8 @@ loop-less c = omega arith
 loop-again : tie.Need-loop-again Inv-loop μ-loop
 loop-again c =
     let call = c .before .before .before in
-    let m = call .before .before .before .before .before in
+    let place = call .before .before .before in
+    let m = place .before .before .before in
     let s = m .before .before .before .before .before .before .before .before in
     let a = s .args in
     let ms = m .before .moves .result in
@@ -124,7 +124,7 @@ loop-again c =
     let was : rd (getD (m .loop .states) i (pos 0)) ≡ getD (a .states .now) i (pos 0) = field-back _ given ∙ next in
     let is : rd (call .apply .result) ≡ moved ms (a .luts .now) (a .states .now) i =
     got (call .apply .ok)
-    (call .apply .ensures ∙ ap (movedBy _) was) in (
+    (call .apply .ensures ∙ ap (movedBy _) was ∙ ap (λ (k : ℕ). movedBy (moveAt ms k) (getD (a .states .now) i (pos 0))) (place .place .ensures .0)) in (
       painted-more (m .loop .inv .0) (omega arith) is,
       painted-more (m .loop .inv .1) (omega (arith, s .pre .0 .pixels-long)) (c .gray-of .ensures ∙ ap (λ (z : ℤ). grayZ z (rd (a .refresh .swing))) is),
       read-more i (a .states .now) (m .loop .inv .2) (subst Word next (word (record { sfits = given }))),
@@ -166,8 +166,8 @@ paint-spec =
     ends-requires
     moves-requires
     loop-holds
-    shared-slice-read-step
-    cast-step
+    shared-slice-read-place
+    place-requires
     mul-step
     array-copy-out-step
     mul-apply
