@@ -32,7 +32,7 @@ use Rattle.waveform.specs.Walks.{drivingOf, saturatedDrive, pushed, wholeStep, 
 use Rattle.panel.specs.Pixels.{stateBy}
 use Rattle.finish.specs.declared.refresh.Refresh.{Refresh}
 use Rattle.finish.specs.Refresh.{transferIn, fourTransfers, inTable}
-use Rattle.finish.specs.Moves.{moveAt, Upright, MovesOf}
+use Rattle.finish.specs.Moves.{moveAt, Movable, MovesOf}
 
 -- ---- what the table does
 -- a transfer that leaves every number of 64 bits
@@ -120,9 +120,9 @@ walked-high w drive swing black some (Cut until) =
     let d = drivingOf w drive swing black in
     folds (λ (q : Progress). pos 0 ≤ℤ q .transfer .hi) (cutStep d until) (cut-high d some until) (phasesOf w drive) (started swing) (let n = le-out some in le-in _ _ (omega whole))
 
-pub upright : (r : Refresh) (ts : List Transfer) → pos 1 ≤ℤ r .swing → ts ≡ fourTransfers r → Upright ts
+pub movable : (r : Refresh) (ts : List Transfer) → pos 1 ≤ℤ r .swing → ts ≡ fourTransfers r → Movable ts
 unfolding fourTransfers transferIn
-upright r ts some made lut l =
+movable r ts some made lut l =
     subst (λ (t : Transfer). pos 0 ≤ℤ t .hi)
     (sym (ap (λ (us : List Transfer). inTable us lut) made ∙ getD-tab 4 (λ k. transferIn r (Lut k)) lut (identityT (pos 0)) l))
     (walked-high (r .waveform) (Lut lut) (r .swing) (r .«positive_drives_black») some (r .until))

@@ -15,9 +15,9 @@ use Rattle.finish.specs.Refresh.{inTable}
 abbrev pub moveAt : List Move → ℕ → Move
 moveAt ms lut = getD ms lut (record { low = pos 0; high = pos 0; add = pos 0 })
 
--- no transfer's upper bound is below 0
-abbrev pub Upright : List Transfer → Type 0
-Upright ts = (lut : ℕ) → lut < 4 → pos 0 ≤ℤ inTable ts lut .hi
+-- transfers that moves can stand for: no upper bound is below 0
+abbrev pub Movable : List Transfer → Type 0
+Movable ts = (lut : ℕ) → lut < 4 → pos 0 ≤ℤ inTable ts lut .hi
 
 -- a move for every byte, which does to a state of 64 bits what the transfer of that LUT does, or nothing
 pub record MovesOf (ts : List Transfer) (ms : List Move) : Type 0 where

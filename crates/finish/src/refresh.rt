@@ -16,7 +16,7 @@ ghost use Rattle.panel.specs.Border.{borderDrive};
 ghost use Rattle.panel.specs.Pixels.{stateBy, statesBy, grays};
 ghost use Rattle.panel.specs.Finish.{borderBy, withBorder};
 ghost use Rattle.finish.specs.Refresh.{AllWalkable, Repaintable, refreshOf, transferIn, fourTransfers, inTable};
-ghost use Rattle.finish.specs.Moves.{Upright, MovesOf};
+ghost use Rattle.finish.specs.Moves.{Movable, MovesOf};
 
 // What the transfers of a display are made from.
 pub struct Refresh {
@@ -73,9 +73,9 @@ fn transfers(refresh: Refresh) -> [Transfer; 4]
     [lut0, lut1, lut2, lut3]
 }
 
-// The move of every byte that can stand for a LUT: those of LUTs 0 to 3, and for all others one that leaves every state.
+// The moves of LUTs 0 to 3, and for every other byte one that leaves each state, so that no pixel tests whether it is driven.
 fn moves(transfers: [Transfer; 4]) -> [Move; 256]
-    requires { ⌜ Upright transfers ⌝ }
+    requires { ⌜ Movable transfers ⌝ }
     ensures { λ r. ⌜ MovesOf transfers r ⌝ }
 {
     let lut0 = transfers[0];
@@ -96,7 +96,7 @@ fn moves(transfers: [Transfer; 4]) -> [Move; 256]
     moves
 }
 
-// Where the move of a LUT's byte stands.
+// A LUT's place in the table of moves.
 fn place(lut: u8) -> usize
     ensures { λ r. ⌜ (r ≡ lut) × (r < 256) ⌝ }
 {
@@ -112,7 +112,7 @@ fn paint(
     pixels: &mut [u8],
 )
     requires { ⌜ Repaintable refresh (now luts) (now states) (now pixels) ⌝ }
-    requires { ⌜ Upright transfers ⌝ }
+    requires { ⌜ Movable transfers ⌝ }
     ensures { λ _. ⌜ now (states .exit) ≡ statesBy (inTable transfers) (now (luts .entry)) (now (states .entry)) ⌝ }
     ensures { λ _. ⌜ now (pixels .exit) ≡ grays (refresh .swing) (statesBy (inTable transfers) (now (luts .entry)) (now (states .entry))) ⌝ }
 {

@@ -1,5 +1,5 @@
-// Many pixels of one swing: what a refresh works out once, so that a pixel takes no division and no branch that its state or its LUT
-// decides. Moves stand for transfers, and tables for the grey's division (glass.rs, `Transfer::apply` and `gray`).
+// The transfers and greys of many pixels of one swing (glass.rs, `Transfer::apply` and `gray`): what a refresh works out once, so that a
+// pixel takes no division, and no branch that its LUT or a state within the swing decides.
 use glass::Transfer;
 
 pub mod greys;
@@ -37,8 +37,8 @@ fn saturating_sub_i64(a: i64, b: i64) -> i64
     if a < i64::MIN + b { i64::MIN } else { a - b }
 }
 
-// The move that does what a transfer does: its bounds, each less the sum. A bound that no state of 64 bits comes to is then the end of
-// 64 bits; where all stay below the lower one, all go there.
+// The move that does what a transfer does: its bounds, each less what it adds. A bound that no state of 64 bits comes to is then the end
+// of 64 bits; where all stay below the lower one, all go there.
 pub fn move_of(transfer: Transfer) -> Move
     requires { ⌜ pos 0 ≤ℤ transfer .hi ⌝ }
     ensures { λ r. ⌜ Does transfer r ⌝ }
@@ -61,6 +61,7 @@ pub fn move_of(transfer: Transfer) -> Move
 }
 
 impl Move {
+    // The state that a pixel in `state` has after the move.
     pub fn apply(self, state: i64) -> i64
         requires { ⌜ Fitting self ⌝ }
         ensures { λ r. ⌜ r ≡ movedBy self state ⌝ }
