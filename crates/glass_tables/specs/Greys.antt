@@ -22,6 +22,7 @@ firstsOf swing k = tab 512 (λ step. grayZ (pos (step * 2 ^ k)) swing)
 unfoldable pub endOf : ℕ → ℕ → ℕ
 endOf swing gray = ((2 * gray + 1) * swing + 509) / 510
 
+-- where each grey ends
 unfoldable pub endsOf : ℕ → List ℕ
 endsOf swing = tab 256 (endOf swing)
 
