@@ -2,16 +2,16 @@
 use mathlib.Core.Path.{_≡_, refl, sym, ap, subst, _∙_}
 use mathlib.Core.Bool.{Bool, true, false}
 use mathlib.Core.List.{List, [], _∷_, foldl}
-use Prim.Native.Nat.{ℕ, zero, suc, _-_, _/_, _≤_, _<_}
+use Prim.Native.Nat.{ℕ, zero, suc, _-_, _≤_, _<_}
 use native.Mathlib.Omega.{arith}
 use lib.Dec.{ltb}
 use lib.IntN.{ℤ, pos, _+ℤ_}
 use lib.Signed.{leZ, _≤ℤ_}
-use lib.ListN.{getD, set, replicate, getD-replicate}
+use lib.ListN.{set, replicate, getD-replicate}
 use borrow.Author.Tests.{ltb-true, ltb-false}
 use Rattle.numbers.specs.Choice.{pick}
 use Rattle.numbers.specs.Saturation.{clampZ, satZ, least, most}
-use Rattle.numbers.proofs.Lin.{Le, whole, le-in, le-out, eq-in, add-out}
+use Rattle.numbers.proofs.Lin.{whole, le-in, le-out, eq-in, add-out}
 use Rattle.numbers.proofs.Hold.{clamp-mid, at-least}
 use Rattle.glass.specs.declared.Transfer.{Transfer}
 use Rattle.glass.specs.Transfers.{identityT, applyT}
