@@ -6,6 +6,7 @@ mod dump;
 mod hash;
 mod inside;
 mod line;
+mod picture;
 mod record;
 mod replay;
 

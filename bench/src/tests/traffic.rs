@@ -104,7 +104,7 @@ impl Events {
     }
 }
 
-/// The table of a configuration as the port is lent it (document 01).
+/// A configuration's table as the port is lent it (SCOPE, OTP table).
 fn table(otp: &[OtpWaveform]) -> Vec<u8> {
     let entry = |w: &OtpWaveform| {
         let mode = match w.mode {

@@ -1,4 +1,4 @@
--- A value that the datasheet reserves or does not list (mod.rs, `reserved` and `check`; document 01: 30 comes once a command).
+-- A value that the datasheet reserves or does not list (mod.rs, `reserved` and `check`; SCOPE, Commands: 30 once a command).
 use Prim.Native.Nat.{ℕ}
 use mathlib.Core.Bool.{Bool}
 use Rattle.numbers.specs.Choice.{pick}

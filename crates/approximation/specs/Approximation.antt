@@ -18,7 +18,7 @@ abbrev pub approximate : Provenance → Bool
 approximate Approximation = true
 approximate Measured = false
 
--- an entry that is not measured: 0 in a table (01)
+-- an entry not measured: 0 (SCOPE, OTP table)
 abbrev pub approximateEntry : List ℕ → ℕ → Bool
 approximateEntry otp entry = eqb (provenanceAt otp entry) 0
 
@@ -27,7 +27,7 @@ pub record Outcome : Type 0 where
   pub told : Answer
   pub approximation : Bool
 
--- 01's number for each case
+-- the number of each case
 unfoldable pub outcomeOf : IsApproximation → Outcome
 outcomeOf (Is b) = record { told = accepted; approximation = b }
 outcomeOf BadTable = record { told = refused 12 0; approximation = false }

@@ -8,7 +8,7 @@ use lib.Signed.{leZ}
 use lib.ListN.{length}
 use Rattle.config.specs.Tests.{zeroPeriod}
 
--- every frame-rate code has a period (document 01, refusal 5)
+-- every frame-rate code has a period (5; SCOPE, Refusals)
 unfoldable pub lasting : List ℕ → Bool
 lasting periods = eqb (zeroPeriod periods) 16
 

@@ -20,7 +20,7 @@ quietAt c moment = not (c .running && leb (c .ends) moment) && not (hasCome (c .
 abbrev pub takes : Course → ℕ → ℕ → Reached → List ℕ → Bool
 takes c kind time s plane = (eqb kind 2 && quietAt c (max (s .latest) time)) && wroteAt plane (s .counter)
 
--- after the byte: the later clock, the counter's step, and one byte more, the count stopping at 65,535 (document 01)
+-- after the byte: the later clock, the counter's step, and one byte more, the count stopping at 65,535 (mod.rs)
 abbrev pub onward : Course → ℕ → Reached → Reached
 onward c time s =
     record {

@@ -1,4 +1,4 @@
--- What every call keeps from an accepted start on (document 01: nothing is refused on the way; a running refresh keeps BUSY to its end).
+-- What every call keeps from an accepted start on: nothing is refused on the way; a running refresh keeps BUSY to its end.
 use Prim.Native.Nat.{ℕ, _≤_, _<_}
 use mathlib.Core.Path.{_≡_}
 use mathlib.Core.Bool.{Bool, true, false}

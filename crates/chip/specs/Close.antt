@@ -1,4 +1,4 @@
--- What closing the current command does (mod.rs, `close_command`; document 01: 26 if parameters lack).
+-- Closing the current command (mod.rs, `close_command`; SCOPE, Commands: 26 if parameters lack).
 use Prim.Native.Nat.{ℕ}
 use mathlib.Core.Bool.{false}
 use mathlib.Core.List.{List}

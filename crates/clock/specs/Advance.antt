@@ -1,4 +1,4 @@
--- What the clock's move does (mod.rs, `advance`; document 01: time never goes back, the later clock counts).
+-- What the clock's move does (mod.rs, `advance`; SCOPE, Time: time never goes back, the later clock counts).
 use Prim.Native.Nat.{ℕ, max}
 use mathlib.Core.Bool.{Bool, false, _&&_, not}
 use mathlib.Core.List.{List}

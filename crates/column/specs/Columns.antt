@@ -1,4 +1,4 @@
--- Columns of decimals, right-justified (document 01, "Listing"), in ASCII, and text appended in a buffer.
+-- Columns of decimals, right-justified (SCOPE, Listing), in ASCII, and text appended in a buffer.
 use mathlib.Core.Bool.{Bool, false, _&&_, _||_}
 use mathlib.Core.List.{List, [], _∷_, _++_}
 use Prim.Native.Nat.{ℕ, _+_, _-_, _/_, _%_, _^_}

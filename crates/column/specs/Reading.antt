@@ -1,4 +1,4 @@
--- The number in a column of decimals, right-justified, blanks in front, no leading zeros (docs/replay-format.md; change request #102).
+-- The number in a column of decimals, right-justified, blanks in front, no leading zeros (docs/replay-format.md; #102).
 use mathlib.Core.Bool.{Bool, true, false, _&&_}
 use mathlib.Core.List.{List, [], _∷_}
 use Prim.Native.Nat.{ℕ, _+_, _-_, _*_, _^_}

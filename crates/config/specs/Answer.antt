@@ -1,4 +1,4 @@
--- What a call that may refuse answers: the number and the value that document 01 gives ("Who can cause which refusal").
+-- What a call that may refuse answers: the number and the value (SCOPE, Refusals).
 use mathlib.Core.Bool.{Bool, true, false}
 use mathlib.Core.List.{List, [], _∷_}
 use Prim.Native.Nat.{ℕ}
@@ -6,7 +6,7 @@ use Rattle.numbers.specs.Choice.{pick}
 use Rattle.config.specs.declared.ConfigError.{ConfigError}
 use Rattle.config.specs.declared.ConfigError.the-variants.{Accepted, EmptyPanel, PanelOutsideRam, OddRowsWithGd, ZeroSwing, ZeroFramePeriod, BadTable, OtpVoltage}
 
--- accepted, or refused with a number and its value (0 where 01 gives none)
+-- accepted, or refused with a number and its value (0 where there is none)
 pub data Answer : Type 0 where
   accepted : Answer
   refused : ℕ → ℕ → Answer
@@ -27,7 +27,7 @@ unfoldable pub firstOf : List Test → Answer
 firstOf [] = accepted
 firstOf (t ∷ ts) = pick (t .refuses) (refused (t .number) (t .value)) (firstOf ts)
 
--- 01's number and value for each case: of 5 the value is the code, of 6 the entry's index
+-- the number and value of each case: of 5 the value is the code, of 6 the entry's index
 unfoldable pub answerOf : ConfigError → Answer
 answerOf Accepted = accepted
 answerOf EmptyPanel = refused 1 0

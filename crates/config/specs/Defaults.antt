@@ -14,7 +14,7 @@ defaultGateScan = record { sm = false; gd = false }
 abbrev pub millisecond : ℕ
 millisecond = 1000000
 
--- the period of a frame, of every frame-rate code, in nanoseconds (01)
+-- a frame's period, of every code, in ns (SCOPE, Configuration)
 abbrev pub defaultFramePeriod : ℕ
 defaultFramePeriod = 20000000
 

@@ -1,4 +1,4 @@
--- A search from the front, for the lowest code of 5 and the first entry of 6 (document 01).
+-- A search from the front: the lowest code of 5 and the first entry of 6 (SCOPE, Refusals).
 use mathlib.Core.Bool.{Bool}
 use Prim.Native.Nat.{ℕ, zero, suc}
 use Rattle.numbers.specs.Choice.{pick}

@@ -1,4 +1,4 @@
--- The tests of a configuration that need no table: 1 to 5 (document 01; config.rs, `validate`).
+-- Tests of a configuration that need no table: 1 to 5 (SCOPE, Refusals; config.rs, `validate`).
 use mathlib.Core.Bool.{_&&_, _||_}
 use mathlib.Core.List.{List, [], _∷_, _++_}
 use Prim.Native.Nat.{ℕ, _+_, _%_}

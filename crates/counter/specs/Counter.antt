@@ -1,4 +1,4 @@
--- The RAM's window, data-entry mode and address counter (datasheet §8.2–8.5; document 01, ram.rs).
+-- The RAM's window, data-entry mode and address counter (datasheet §8.2–8.5; SCOPE, RAM).
 use mathlib.Core.Bool.{Bool, true, false, _&&_}
 use Prim.Native.Nat.{ℕ, _+_, _-_, _*_, _/_, min, max}
 use lib.Dec.{ltb, leb}
@@ -13,7 +13,7 @@ use Rattle.counter.specs.declared.Next.the-variants.{To, Past}
 abbrev pub resetWindow : Window
 resetWindow = record { «x_start» = 0; «x_end» = 959; «y_start» = 0; «y_end» = 679 }
 
--- the data-entry mode after reset: 3, both increment and x moves first (datasheet, by document 01)
+-- the data-entry mode after reset: 3, both increment and x moves first (datasheet; SCOPE, RAM)
 abbrev pub resetEntry : Entry
 resetEntry = record { 0 = 3 }
 
@@ -40,7 +40,7 @@ abbrev pub rowAfter : Next → ℕ → ℕ
 rowAfter (To row) start = row
 rowAfter Past start = start
 
--- the pixel after a step in x: the first of the byte, past the end the window's start, whose low three bits stay (document 01)
+-- the pixel after a step in x: the first of the byte, past the end the window's start, whose low three bits stay (SCOPE, RAM)
 abbrev pub pixelAfter : Next → ℕ → ℕ
 pixelAfter (To byte) start = byte * 8
 pixelAfter Past start = start
@@ -66,6 +66,6 @@ advancedOf c w e =
 unfoldable pub between : ℕ → ℕ → ℕ → Bool
 between at a b = leb (min a b) at && leb at (max a b)
 
--- the counter's byte lies in the window: columns are x / 8 (document 01)
+-- the counter's byte lies in the window: columns are x / 8 (SCOPE, RAM)
 unfoldable pub withinOf : Counter → Window → Bool
 withinOf c w = between (c .x / 8) (w .«x_start» / 8) (w .«x_end» / 8) && between (c .y) (w .«y_start») (w .«y_end»)

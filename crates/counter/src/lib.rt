@@ -130,7 +130,7 @@ impl Counter {
     }
 }
 
-// A 10-bit register written low byte first; `index` is the byte's place in its command (mod.rs).
+// A 10-bit register written low byte first; `index` is the byte's place in its value (mod.rs).
 pub fn ten_bits(value: u16, index: u16, byte: u8) -> u16
     ensures { λ r. ⌜ r ≡ tenBits value index byte ⌝ }
 {

@@ -24,7 +24,7 @@ use Rattle.chip.specs.Report.{logged}
 use Rattle.acts.specs.Ram.{WithRam, withRam, onDevice, onLog}
 use Rattle.parameter.specs.Parameter.{parameterTaken}
 
--- the command with one byte more, the count stopping at 65,535 (document 01), and what it has reported
+-- the command with one byte more, the count stopping at 65,535 (mod.rs), and what it has reported
 abbrev pub counted : Active → Bool → Bool → Active
 counted a extra range =
     record {

@@ -1,4 +1,4 @@
--- The log of diagnostics: 1,024 records of 16 bytes, and what a report makes of it (document 01; mod.rs, `report` and `reserved`).
+-- The log of diagnostics: 1,024 records of 16 bytes, and what a report makes of it (SCOPE, Log; mod.rs, `report` and `reserved`).
 use Prim.Native.Nat.{ℕ, _+_, _*_, min}
 use mathlib.Core.Bool.{Bool, true, false}
 use mathlib.Core.List.{List, _++_}
@@ -20,7 +20,7 @@ pub record Entries : Type 0 where
 abbrev pub entries : Journal → List ℕ → Entries
 entries j l = record { journal = j; log = l }
 
--- records that the log has room for (document 01)
+-- records that the log has room for (SCOPE, Log)
 abbrev pub room : ℕ
 room = 1024
 

@@ -1,4 +1,4 @@
--- A diagnostic's number and fields, and its record of 16 bytes (document 01, "Forms that cannot stay" and "The firmware on the bus").
+-- A diagnostic's number and fields, and its record of 16 bytes (SCOPE, Log; SCOPE, Diagnostics).
 use Prim.Native.Nat.{ℕ, _*_, _/_, _%_, _^_}
 use mathlib.Core.List.{List, [], _∷_}
 use Rattle.config.specs.declared.DisplayMode.{DisplayMode}

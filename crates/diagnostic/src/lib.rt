@@ -103,7 +103,7 @@ pub struct Journal {
     pub reserved_reported: bool,
 }
 
-// A record's fields, as 01 numbers them.
+// A record's fields (SCOPE, Log).
 pub struct Fields {
     pub number: u8,
     pub a: u8,

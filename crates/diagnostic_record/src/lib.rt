@@ -1,4 +1,4 @@
-// A diagnostic as a record of 16 bytes (document 01; the cases are those of diagnostic.rs).
+// A diagnostic as a record of 16 bytes (SCOPE, Log; the cases are those of diagnostic.rs).
 ghost use mathlib.Core.Path.{_≡_};
 ghost use Prim.Native.Nat.{_<_};
 ghost use Rattle.diagnostic.specs.Record.{byteAt, stageNumber, modeNumber, fieldsOf, recordOf};

@@ -1,5 +1,5 @@
 // What happens at the pins of the device, each event at its time: the kinds 1 to 5 of docs/replay-format.md, of which 1 to 4 are those of
-// change request #102.
+// #102.
 ghost use mathlib.Core.Path.{_≡_};
 ghost use Rattle.event.specs.Events.{eventOf};
 

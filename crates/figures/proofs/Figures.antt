@@ -1,4 +1,4 @@
--- Document 01's ★ figures, one theorem over one list. Assumes nothing.
+-- SCOPE's ★ figures, one theorem over one list. Assumes nothing.
 use mathlib.Core.Path.{_≡_, refl, ap, _∙_}
 use Rattle.numbers.specs.Choice.{bitOf}
 use Rattle.numbers.specs.Lists.{tab}

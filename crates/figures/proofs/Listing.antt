@@ -1,4 +1,4 @@
--- Document 01's example of a listing is what the definition of the listing gives for the Mode Two setting. Assumes nothing.
+-- SCOPE's example of a listing is what the definition of the listing gives for the Mode Two setting. Assumes nothing.
 use mathlib.Core.Path.{_≡_, refl, ap, _∙_}
 use Rattle.numbers.specs.Lists.{tab}
 use Rattle.voltage.specs.Codes.{voltage}

@@ -1,4 +1,4 @@
--- The ★ figures of document 01 ("Checked figures"): what the definitions that the contracts cite compute, beside what the paper states.
+-- The ★ figures (SCOPE, Figures): what the definitions that the contracts cite compute, beside what SCOPE states.
 -- An entry is a list of numbers, empty for none.
 use Prim.Native.Nat.{ℕ}
 use mathlib.Core.Bool.{true, false}
@@ -76,7 +76,7 @@ computed setting =
     ∷ after (cutTransfer setting periods (Lut 2) swing true 99999999)
     ∷ []
 
--- by the paper, in the same order
+-- by SCOPE, in the same order
 abbrev pub stated : List (List ℤ)
 stated =
     (pos 17000 ∷ [])

@@ -1,4 +1,4 @@
--- Document 01's example of a listing: what `wavelist` writes of the Mode Two setting, byte for byte.
+-- The example of SCOPE, Listing: what `wavelist` writes of the Mode Two setting, byte for byte.
 use mathlib.Core.List.{List, [], _∷_, _++_}
 use Prim.Native.Nat.{ℕ}
 

@@ -1,4 +1,4 @@
--- The Mode Two setting of `gdeq0426t82_otp`, of which document 01's figures and its listing speak.
+-- The Mode Two setting of `gdeq0426t82_otp`, of which SCOPE's figures and its listing speak.
 use mathlib.Core.List.{List}
 use Prim.Native.Nat.{ℕ}
 use lib.ListN.{drop}

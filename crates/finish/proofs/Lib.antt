@@ -1,3 +1,4 @@
 -- Laws of finish that belong to no one function.
 pub mod Drives
+pub mod Moves
 pub mod Steps

@@ -1,2 +1,3 @@
 -- The root of finish's specs.
 pub mod Refresh
+pub mod Moves

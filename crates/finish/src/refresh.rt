@@ -1,5 +1,7 @@
 // The parts of a display's end, whole or cut: its transfers, made once, and what they move.
 use glass::Transfer;
+use glass_tables::Move;
+use glass_tables::greys;
 use panel::Border;
 use panel::Display;
 use panel::Panel;
@@ -7,12 +9,14 @@ use waveform::Drive;
 use waveform::Until;
 use waveform::Waveform;
 ghost use mathlib.Core.Path.{_≡_};
+ghost use Prim.Native.Nat.{_<_};
 ghost use Rattle.waveform.specs.Walks.{Walkable};
 ghost use Rattle.waveform.specs.Setting.{waveformOf};
 ghost use Rattle.panel.specs.Border.{borderDrive};
 ghost use Rattle.panel.specs.Pixels.{stateBy, statesBy, grays};
 ghost use Rattle.panel.specs.Finish.{borderBy, withBorder};
 ghost use Rattle.finish.specs.Refresh.{AllWalkable, Repaintable, refreshOf, transferIn, fourTransfers, inTable};
+ghost use Rattle.finish.specs.Moves.{Movable, MovesOf};
 
 // What the transfers of a display are made from.
 pub struct Refresh {
@@ -69,14 +73,34 @@ fn transfers(refresh: Refresh) -> [Transfer; 4]
     [lut0, lut1, lut2, lut3]
 }
 
-fn moved(transfers: [Transfer; 4], lut: u8, state: i64) -> i64
-    ensures { λ r. ⌜ r ≡ stateBy (inTable transfers) lut state ⌝ }
+// The moves of LUTs 0 to 3, and for every other byte one that leaves each state, so that no pixel tests whether it is driven.
+fn moves(transfers: [Transfer; 4]) -> [Move; 256]
+    requires { ⌜ Movable transfers ⌝ }
+    ensures { λ r. ⌜ MovesOf transfers r ⌝ }
 {
-    if lut < 4 {
-        let transfer = transfers[lut as usize];
-        return transfer.apply(state);
-    }
-    state
+    let lut0 = transfers[0];
+    let lut1 = transfers[1];
+    let lut2 = transfers[2];
+    let lut3 = transfers[3];
+    let undriven = Transfer {
+        add: 0,
+        lo: i64::MIN,
+        hi: i64::MAX,
+    };
+    let left = glass_tables::move_of(undriven);
+    let mut moves = [left; 256];
+    moves[0] = glass_tables::move_of(lut0);
+    moves[1] = glass_tables::move_of(lut1);
+    moves[2] = glass_tables::move_of(lut2);
+    moves[3] = glass_tables::move_of(lut3);
+    moves
+}
+
+// A LUT's place in the table of moves.
+fn place(lut: u8) -> usize
+    ensures { λ r. ⌜ (r ≡ lut) × (r < 256) ⌝ }
+{
+    lut as usize
 }
 
 // One pass: each driven state moved, and every pixel the grey of its state.
@@ -88,13 +112,22 @@ fn paint(
     pixels: &mut [u8],
 )
     requires { ⌜ Repaintable refresh (now luts) (now states) (now pixels) ⌝ }
+    requires { ⌜ Movable transfers ⌝ }
     ensures { λ _. ⌜ now (states .exit) ≡ statesBy (inTable transfers) (now (luts .entry)) (now (states .entry)) ⌝ }
     ensures { λ _. ⌜ now (pixels .exit) ≡ grays (refresh .swing) (statesBy (inTable transfers) (now (luts .entry)) (now (states .entry))) ⌝ }
 {
+    let swing = refresh.swing;
+    let shift = greys::shift(swing);
+    let firsts = greys::firsts(swing, shift);
+    let ends = greys::ends(swing);
+    let moves = moves(transfers);
     for i in 0..states.len() {
-        let state = moved(transfers, luts[i], states[i]);
+        // Read here: handed to a function, the table would be copied for every pixel.
+        let at = place(luts[i]);
+        let step = moves[at];
+        let state = step.apply(states[i]);
         states[i] = state;
-        pixels[i] = glass::gray(state, refresh.swing);
+        pixels[i] = greys::gray_of(&firsts, &ends, shift, swing, state);
     }
 }
 

@@ -1,4 +1,4 @@
--- Grey levels and optical states, over ℤ (document 01, glass.rs).
+-- Grey levels and optical states, over ℤ (SCOPE, Glass).
 use Prim.Native.Nat.{ℕ}
 use lib.IntN.{ℤ, pos, natAbs, _+ℤ_, _*ℤ_}
 use lib.Signed.{quotZ}

@@ -11,7 +11,7 @@ shiftT delta swing = record { add = delta; lo = pos 0; hi = swing }
 abbrev pub identityT : ℤ → Transfer
 identityT swing = shiftT (pos 0) swing
 
--- t, then n: the sums saturate in 64 bits, and t's bounds are moved by n and held by it (document 01: transfers saturate in 64 bits)
+-- t, then n: the sums saturate in 64 bits, and t's bounds are moved by n and held by it (SCOPE, Glass)
 abbrev pub thenT : Transfer → Transfer → Transfer
 thenT t n =
     record {

@@ -1,4 +1,4 @@
--- What a call other than start refuses of what it is handed, in document 01's order: 13, 11, 12.
+-- What a call other than start refuses of what it is handed, by SCOPE, Refusals: 13, 11, 12.
 use Prim.Native.Nat.{ℕ}
 use mathlib.Core.Bool.{Bool, true, false, not}
 use mathlib.Core.List.{List}
@@ -11,7 +11,7 @@ use Rattle.guard.specs.declared.Refusal.the-variants.{Accepted, Buffer, 
 use Rattle.guard_state.specs.State.{stateFine}
 use Rattle.guard_lengths.specs.Lengths.{lengthsFit}
 
--- document 01's number of a refusal, 0 for none
+-- the number of a refusal, 0 for none
 abbrev pub numberOf : Refusal → ℕ
 numberOf Accepted = 0
 numberOf Buffer = 11

@@ -1,5 +1,4 @@
-// What the host must hand over with a call: a state, buffers of the right lengths and a table, or the call is refused (document 01,
-// "The host that lends").
+// What the host must hand over with a call: a state, buffers of the right lengths and a table, or it is refused (SCOPE, Refusals).
 ghost use mathlib.Core.Path.{_≡_};
 ghost use Rattle.guard.specs.Refusals.{accepts, numberOf, guarded, guardedWithTable};
 use device::Ssd1677;
@@ -27,7 +26,7 @@ pub fn is_accepted(refusal: Refusal) -> bool
     }
 }
 
-// Document 01's number, 0 for none.
+// The refusal's number, 0 for none.
 pub fn number(refusal: Refusal) -> u8
     ensures { λ r. ⌜ r ≡ numberOf refusal ⌝ }
 {

@@ -1,4 +1,4 @@
--- When a state's active command has the kind that `kind` gives it (document 01, 13).
+-- When an active command has the kind that `kind` gives it (13; SCOPE, Refusals).
 use mathlib.Core.Bool.{Bool, true, false, _&&_}
 use lib.Dec.{eqb}
 use Rattle.device.specs.declared.Kind.{Kind}

@@ -1,4 +1,4 @@
--- The lengths that 11 asks of what a call is lent (document 01, "Forms that cannot stay").
+-- The lengths that 11 asks of what a call is lent (SCOPE, Buffers).
 use Prim.Native.Nat.{ℕ, _*_}
 use mathlib.Core.Bool.{Bool, true, _&&_}
 use lib.Dec.{eqb}

@@ -1,4 +1,4 @@
--- What 13 asks of a state that is handed in (document 01, "The host that lends").
+-- What 13 asks of a state that is handed in (SCOPE, Refusals).
 use Prim.Native.Nat.{ℕ}
 use mathlib.Core.Bool.{Bool, _&&_, not}
 use mathlib.Core.List.{List}

@@ -1,4 +1,4 @@
--- An accepted call steps the core as its definition says, whatever the glass, the journal and the log hold (document 01, demand 3: the
+-- An accepted call steps the core as its definition says, whatever the glass, the journal and the log hold (SCOPE, History: the
 -- reckoning is fed none of them). Assumes nothing.
 use Prim.Native.Nat.{ℕ}
 use mathlib.Core.Path.{_≡_, refl, sym, ap, _∙_}

@@ -1,4 +1,4 @@
--- Demand 3 of document 01: after every list of calls from every accepted start, the reckoning has the core, each lent state is its pixel's whole
+-- SCOPE, History: after every list of calls from every accepted start, the reckoning has the core, each lent state is its pixel's whole
 -- number, from 0 to S, and each pixel shows the grey of it. The one premise beside acceptance is the starting grey's type, a byte.
 use Prim.Native.Nat.{ℕ, _≤_, _+_, min}
 use mathlib.Core.Path.{_≡_, refl, sym, ap, subst, _∙_}

@@ -1,4 +1,4 @@
--- Demand 3 of document 01: what the theorem says of a run's end.
+-- SCOPE, History: what the theorem says of a run's end.
 use Prim.Native.Nat.{ℕ, _+_, _≤_, _<_}
 use mathlib.Core.Path.{_≡_}
 use mathlib.Core.List.{List, [], _∷_}

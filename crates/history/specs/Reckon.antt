@@ -1,4 +1,4 @@
--- The plain reckoning beside the calls (document 01, demand 3): no log, no journal, no picture, no lent state. It is fed start's arguments
+-- The plain reckoning beside the calls (SCOPE, History): no log, no journal, no picture, no lent state. It is fed start's arguments
 -- and, of each accepted call, those that are neither state nor buffer.
 use Prim.Native.Nat.{ℕ, _-_, _*_, _/_, max, min}
 use mathlib.Core.Bool.{Bool, true, false, _&&_, not}
@@ -95,12 +95,12 @@ bare c =
       log = [];
     }
 
--- an accepted call steps all of this as its definition says (document 01)
+-- an accepted call steps all this as its definition says (SCOPE, History)
 abbrev pub stepped : List ℕ → Core → Call → Core
 stepped otp c call = coreOf (taken otp (bare c) call)
 
 -- ---- the refresh under way
--- a refresh: its start of driving and its end, the 112 bytes that it began with and each pixel's LUT (document 01: an activation that displays)
+-- a refresh: its start of driving and end, the 112 bytes that it began with and each pixel's LUT (SCOPE, History: an activation that displays)
 pub record Refresh : Type 0 where
   pub started : ℕ
   pub ends : ℕ
@@ -157,7 +157,7 @@ abbrev pub instead : Refreshing → Refreshing → Refreshing
 instead none old = old
 instead (one r) old = one r
 
--- by call: none goes on past its end or the fall of RES#, and only 0x20 begins one (document 01, demand 3)
+-- by call: none goes on past its end or the fall of RES#, and only 0x20 begins one (SCOPE, History)
 unfoldable pub goesOn : List ℕ → Reckoning → Call → Refreshing
 goesOn otp r (advance time) = unreached (later r time) (r .underWay)
 goesOn otp r (set-reset time low) = pick (falls low (r .core .bus .power)) none (unreached (later r time) (r .underWay))
@@ -209,7 +209,7 @@ worked otp r (set-ambient register) = []
 worked otp r take-diagnostics = []
 
 -- ---- the whole numbers
--- the swing S: the smaller of full swing and 2^63 − 1 (document 01)
+-- swing S: the smaller of full swing and 2^63 − 1 (SCOPE, Glass)
 abbrev pub swingOf : Ssd1677Config → ℕ
 swingOf c = min (c .optics .«full_swing») 9223372036854775807
 
@@ -245,7 +245,7 @@ unfoldable pub reckon : List ℕ → Reckoning → List Call → Reckoning
 reckon otp r [] = r
 reckon otp r (call ∷ calls) = reckon otp (reckonCall otp r call) calls
 
--- at first: the core that start gives, and S × grey / 255 rounded down for each pixel (document 01, `level`)
+-- at first: the core that start gives, and S × grey / 255 rounded down for each pixel (SCOPE, Glass)
 abbrev pub firstNumber : Ssd1677Config → ℕ
 firstNumber c = swingOf c * c .optics .«initial_gray» / 255
 

@@ -1,4 +1,4 @@
--- The dropped count over a list of calls (document 01: the log has room for 1,024 records, and the count of those beyond it stops at 2^64 − 1).
+-- The dropped count over a list of calls (SCOPE, Log: the log has room for 1,024 records, and the count of those beyond it stops at 2^64 − 1).
 use Prim.Native.Nat.{ℕ, _+_, _-_, min}
 use mathlib.Core.Path.{_≡_}
 use mathlib.Core.Bool.{Bool, true, false}

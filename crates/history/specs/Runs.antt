@@ -1,4 +1,4 @@
--- Every list of calls that the contracts allow (document 01, demand 3). An accepted call is handed what the last accepted one left, at first
+-- Every list of calls that the contracts allow (SCOPE, History). An accepted call is handed what the last accepted one left, at first
 -- what start left, and the table of the start; a refused one may be handed anything, the run's own state and buffers among it.
 use Prim.Native.Nat.{ℕ, _≤_}
 use mathlib.Core.Path.{_≡_}

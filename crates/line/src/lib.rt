@@ -1,4 +1,4 @@
-// A line of docs/replay-format.md: 26 bytes and LF, of which kinds 1 to 4 are those of change request #102.
+// A line of docs/replay-format.md: 26 bytes and LF, of which kinds 1 to 4 are those of #102.
 use event::Event;
 
 mod columns;

@@ -1,4 +1,4 @@
--- The listing of a setting (document 01, "Listing").
+-- The listing of a setting (SCOPE, Listing).
 use mathlib.Core.List.{List, [], _∷_, _++_}
 use Prim.Native.Nat.{ℕ}
 use lib.IntN.{ℤ}

@@ -1,4 +1,4 @@
-// The listing of a setting (document 01, "Listing"): a line for each phase with frames, then how long the display runs.
+// The listing of a setting (SCOPE, Listing): a line for each phase with frames, then how long the display runs.
 mod line;
 
 ghost use mathlib.Core.Path.{_≡_};
@@ -57,7 +57,7 @@ fn waveform_of(setting: &[u8]) -> Waveform
     setting::from_setting(&copied, &periods)
 }
 
-// Number 41 of document 01: the input is not 112 bytes.
+// 41 (SCOPE, Listing): the input is not 112 bytes.
 fn put_not_a_setting(out: &mut [u8]) -> usize
     requires room { ⌜ 4 ≤ length (now out) ⌝ }
     ensures text { λ r. ⌜ buffer r (now (out .exit)) ≡ appended (buffer 0 (now (out .entry))) notASetting ⌝ }

@@ -1,4 +1,4 @@
-// The lines of a listing (document 01, "Listing").
+// The lines of a listing (SCOPE, Listing).
 use waveform::Drive;
 use waveform::Driving;
 use waveform::Group;

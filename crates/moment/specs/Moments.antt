@@ -1,4 +1,4 @@
--- Moments in nanoseconds, and BUSY (document 01: computed moments stop at 2^64 − 1).
+-- Moments in nanoseconds, and BUSY (SCOPE, Time: computed moments stop at 2^64 − 1).
 use Prim.Native.Nat.{ℕ, _+_, _-_, min}
 use mathlib.Core.Bool.{Bool, false}
 use lib.Dec.{leb, ltb}

@@ -1,4 +1,4 @@
--- The table that is lent in place of the OTP: its entries, and what 12 and 6 refuse of them (document 01).
+-- The table lent in place of the OTP: its entries, and what 12 and 6 refuse of them (SCOPE, OTP table; SCOPE, Refusals).
 use mathlib.Core.Bool.{Bool, true, false, _||_, not}
 use mathlib.Core.List.{List, [], _∷_, _++_}
 use Prim.Native.Nat.{ℕ, _+_, _*_, _/_, _%_}

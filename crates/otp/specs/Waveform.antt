@@ -14,7 +14,7 @@ use Rattle.otp.specs.declared.Entry.the-variants.{At, Nothing}
 use Rattle.otp.specs.Table.{entryBytes, entriesOf, modeAt, lowerAt, upperAt, badTable}
 use Rattle.otp.specs.Search.{lastOf}
 
--- the mode's byte in a table (01)
+-- mode bytes (SCOPE, OTP table)
 abbrev pub modeByte : DisplayMode → ℕ
 modeByte One = 0
 modeByte Two = 1
@@ -25,7 +25,7 @@ covers otp mode register entry =
     eqb (modeAt otp entry) (modeByte mode) && ltZ (sixteenthsOf (lowerAt otp entry)) (sixteenthsOf register)
     && leZ (sixteenthsOf register) (sixteenthsOf (upperAt otp entry))
 
--- "The last match will be selected"; none of a table that 12 refuses (01)
+-- "The last match will be selected"; none of a table that 12 refuses
 unfoldable pub foundEntry : List ℕ → DisplayMode → ℕ → Entry
 foundEntry otp mode register = pick (badTable otp) Nothing (lastOf (covers otp mode register) (entriesOf otp))
 

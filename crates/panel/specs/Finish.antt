@@ -70,7 +70,7 @@ abbrev pub wasCut : Until → Bool
 wasCut Whole = false
 wasCut (Cut until) = true
 
--- the header of the image published: one generation more, stopping at 2^64 − 1 (document 01)
+-- the header of the image published: one generation more, stopping at 2^64 − 1 (SCOPE, Time)
 unfoldable pub published : Display → ℕ → Until → Panel → Panel
 published d at until p =
     record {

@@ -1,4 +1,4 @@
--- The glass at power-on (panel.rs, `Panel::new`; document 01, forms that cannot stay).
+-- The glass at power-on (panel.rs, `Panel::new`; SCOPE, Buffers).
 use mathlib.Core.Bool.{false}
 use mathlib.Core.List.{List}
 use Prim.Native.Nat.{ℕ}
@@ -11,7 +11,7 @@ use Rattle.glass.specs.Greys.{levelZ, grayZ}
 use Rattle.config.specs.declared.PanelGeometry.{PanelGeometry}
 use Rattle.panel.specs.declared.Panel.{Panel}
 
--- the smaller of full swing and 2^63 − 1 (document 01, glass.rs)
+-- the smaller of full swing and 2^63 − 1 (SCOPE, Glass)
 abbrev pub swingOf : Optics → ℤ
 swingOf o = satZ (pos (o .«full_swing»))
 

@@ -1,4 +1,4 @@
--- A pixel's whole number after a display, by the exact drives of its LUT (document 01, "Demand 3").
+-- A pixel's whole number after a display, by the exact drives of its LUT (SCOPE, History).
 use mathlib.Core.Bool.{Bool}
 use mathlib.Core.List.{List}
 use Prim.Native.Nat.{ℕ, _<_}

@@ -49,11 +49,11 @@ lengthsIn b =
 abbrev pub bufferTest : PanelGeometry → Lengths → Test
 bufferTest p l = record { number = 11; value = 0; refuses = not (lengthsFit p l) }
 
--- 1, 2, 3, 4, 5, 12, 6, 11 (document 01)
+-- 1 to 5, 12, 6, 11 (SCOPE, Refusals)
 abbrev pub allTests : Ssd1677Config → List ℕ → Lengths → List Test
 allTests c otp l = startTests c otp ++ bufferTest (c .panel) l ∷ []
 
--- 01's number and value for each case
+-- the number and value of each case
 unfoldable pub startAnswerOf : StartError → Answer
 startAnswerOf (Parameters error) = answerOf error
 startAnswerOf Buffer = refused 11 0
@@ -109,7 +109,7 @@ clean b r l = record { blackWhite = b; red = r; log = l }
 unfoldable pub cleared : ℕ → ℕ → ℕ → Clean
 cleared b r l = clean (tab b (λ _. 0)) (tab r (λ _. 0)) (tab l (λ _. 0))
 
--- the buffers at power-on: planes and log 0x00, chosen LUTs 255, the rest as `Panel::new` (document 01)
+-- buffers at power-on: planes and log 0x00, chosen LUTs 255, the rest as `Panel::new` (SCOPE, Buffers)
 unfoldable pub filled : Ssd1677Config → Buffers → Buffers
 filled c b =
     let glass = powerOn (c .panel) (c .optics) (length (b .states)) (length (b .luts)) (length (b .pixels)) in
@@ -144,6 +144,6 @@ start a p = record { answer = a; left = p }
 abbrev pub startBy : Ssd1677Config → Buffers → Answer → Start
 startBy c b a = start a (pick (isAccepted a) (poweredUp c b) (powered (unstarted c) b))
 
--- new: the first test that refuses decides (document 01: 1, 2, 3, 4, 5, 12, 6, 11)
+-- new: the first test that refuses decides (SCOPE, Refusals: 1 to 5, 12, 6, 11)
 unfoldable pub started : Ssd1677Config → List ℕ → Buffers → Start
 started c otp b = startBy c b (firstOf (allTests c otp (lengthsIn b)))

@@ -33,7 +33,7 @@ pub struct Started {
     pub state: Ssd1677,
 }
 
-// In document 01's order: the configuration and the table, then the lengths.
+// By SCOPE, Refusals: the configuration and the table, then the lengths.
 fn check(config: Ssd1677Config, otp: &[u8], lengths: Lengths) -> StartError
     ensures { λ r. ⌜ startAnswerOf r ≡ firstOf (allTests config (now (otp .entry)) lengths) ⌝ }
 {

@@ -1,4 +1,4 @@
--- What a call that may be refused answers and leaves (document 01, "Who can cause which refusal").
+-- What a call that may be refused answers and leaves (SCOPE, Refusals).
 use Prim.Native.Nat.{ℕ}
 use mathlib.Core.Bool.{not}
 use Rattle.numbers.specs.Choice.{pick}
@@ -8,7 +8,7 @@ use Rattle.guard.specs.declared.Refusal.the-variants.{Accepted, State}
 use Rattle.guard_state.specs.State.{stateFine}
 use Rattle.guard.specs.Refusals.{numberOf, accepts}
 
--- document 01's number, 0 for a call that is accepted, and all that the call answers and leaves beside it
+-- the refusal's number, 0 for a call that is accepted, and all that the call answers and leaves beside it
 pub record Outcome (A : Type 0) : Type 0 where
   pub number : ℕ
   pub held : A

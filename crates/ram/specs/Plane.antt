@@ -24,12 +24,12 @@ planeOf blackWhite red Red = red
 unfoldable pub indexOf : Counter → Place
 indexOf c = pick (ltb (c .x / 8) 120 && ltb (c .y) 680) (At (c .y * 120 + c .x / 8)) Outside
 
--- the byte at a place; past the end of a list that is too short there is none (document 01: a read outside gives none)
+-- the byte at a place; outside there is none (SCOPE, Buffers), nor past the end of a list too short (docs/DECISIONS.md, 22)
 abbrev pub byteAt : List ℕ → Place → Byte
 byteAt p (At i) = pick (ltb i (length p)) (byte.Is (getD p i 0)) byte.Nothing
 byteAt p Outside = byte.Nothing
 
--- what a read at the counter finds: the byte that the index names, or none (document 01)
+-- what a read at the counter finds: the byte the index names, or none (SCOPE, Buffers)
 unfoldable pub readAt : List ℕ → Counter → Byte
 readAt p c = byteAt p (indexOf c)
 
@@ -42,7 +42,7 @@ isThere p Outside = false
 unfoldable pub wroteAt : List ℕ → Counter → Bool
 wroteAt p c = isThere p (indexOf c)
 
--- a byte put at a place; `set` past the end changes nothing, as a write outside does (document 01)
+-- a byte put at a place; `set` past the end changes nothing, as a write outside does (ram.rs)
 abbrev pub putAt : List ℕ → Place → ℕ → List ℕ
 putAt p (At i) b = set p i b
 putAt p Outside b = p

@@ -34,7 +34,7 @@ pub record WithByte : Type 0 where
 abbrev pub withByte : WithLog → Byte → WithByte
 withByte k b = record { left = k; byte = b }
 
--- the command with one read more, the count stopping at 65,535 (document 01), and what it has reported
+-- the command with one read more, the count stopping at 65,535 (mod.rs), and what it has reported
 abbrev pub counted : Active → Bool → Bool → Active
 counted a range nothing =
     record {
@@ -82,7 +82,7 @@ ramFound a k (Is b) =
     withByte (going a (a .«range_reported») (a .«nothing_reported») (moved k)) (Is b)
 ramFound a k Nothing = withByte (going a true (a .«nothing_reported») (moved (outOfRange a k))) Nothing
 
--- 0x27: 0x00 first with the counter unmoved, then the RAM at the counter (document 01)
+-- 0x27: 0x00 first with the counter unmoved, then RAM at the counter (SCOPE, Commands)
 unfoldable pub ramRead : List ℕ → List ℕ → Active → WithLog → WithByte
 ramRead blackWhite red a k =
     pick (eqb (a .read) 0)

@@ -103,12 +103,12 @@ settingByte s i =
     (pick (ltb i 100) (getD (getD (s .frames) ((i - 50) / 5) 0 ∷ getD (s .rest) ((i - 50) / 5) 0 ∷ []) ((i - 50) % 5) 0)
     (pick (ltb i 105) 0 (getD voltages (i - 105) 0)))
 
--- the mode, 0 for an approximation, and the bounds' registers, high byte first (01)
+-- the mode, 0 for an approximation, and the bounds' registers, high byte first
 abbrev pub header : Setting → List ℕ
 header s =
     modeByte (s .mode) ∷ 0 ∷ registerOf (s .lower) / 256 ∷ registerOf (s .lower) % 256 ∷ registerOf (s .upper) / 256 ∷ registerOf (s .upper) % 256 ∷ []
 
--- an entry of the table (01)
+-- an entry: SCOPE, OTP table
 abbrev pub entryOf : Setting → List ℕ
 entryOf s = header s ++ tab 112 (settingByte s)
 

@@ -1,4 +1,4 @@
--- The bounds that document 01 sets on registers handed in (refusal 13): a reset meets them, and a stored byte keeps them. Assumes nothing.
+-- The bounds that 13 sets on registers handed in (SCOPE, Refusals): a reset meets them, and a stored byte keeps them. Assumes nothing.
 use mathlib.Core.Bool.{Bool, true, false}
 use mathlib.Core.List.{List}
 use Prim.Native.Nat.{ℕ, _+_, _*_, _/_, _%_, _≤_}

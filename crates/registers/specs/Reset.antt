@@ -1,4 +1,4 @@
--- The registers at their reset values (datasheet Table 7-1, as mod.rs has it; document 01).
+-- The registers' reset values (datasheet Table 7-1, as mod.rs has it; SCOPE, Commands).
 use mathlib.Core.Bool.{false}
 use mathlib.Core.List.{List}
 use Prim.Native.Nat.{ℕ}
@@ -6,7 +6,7 @@ use lib.ListN.{set, replicate}
 use Rattle.counter.specs.Counter.{resetWindow, resetEntry}
 use Rattle.device.specs.declared.Registers.{Registers}
 
--- the 112 setting bytes: all 0x00 but three, VSH1 41h, VSH2 A8h and VSL 32h (document 01)
+-- the 112 setting bytes: 0x00 but three, VSH1 41h, VSH2 A8h and VSL 32h (SCOPE, Commands)
 abbrev pub resetLut : List ℕ
 resetLut = set (set (set (replicate 112 0) 106 0x41) 107 0xA8) 108 0x32
 

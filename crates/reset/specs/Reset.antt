@@ -1,4 +1,4 @@
--- What a reset does (mod.rs, `set_reset`, `restore_registers`; document 01: a reset before driving starts drops the refresh).
+-- What a reset does (mod.rs, `set_reset`, `restore_registers`; SCOPE, Commands: a reset before driving drops the refresh).
 use Prim.Native.Nat.{ℕ}
 use mathlib.Core.Bool.{Bool, true, false, _&&_}
 use mathlib.Core.List.{List}
@@ -69,7 +69,7 @@ cutShort luts g =
 abbrev pub dropped : Ssd1677 → Ssd1677
 dropped d = withDisplay d (stopped (d .display))
 
--- a display whose driving has begun is cut, with 39; an earlier one is dropped, with no new picture and no 39 (document 01)
+-- a display whose driving has begun is cut, with 39; an earlier one is dropped, no new picture and no 39 (SCOPE, Commands)
 unfoldable pub cut : List ℕ → WithGlassLog → WithGlassLog
 cut luts w = pick (isDriving (w .device)) (onGlass (cutShort luts) (onLog (logged ResetDuringDisplay) w)) (onDevice dropped w)
 

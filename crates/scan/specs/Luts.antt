@@ -34,13 +34,13 @@ undriven = 255
 unfoldable pub lutOfBits : Bool → Bool → ℕ
 lutOfBits red blackWhite = 2 * pick red 1 0 + pick blackWhite 1 0
 
--- the LUT of a pixel's bits in the two planes; where one lies outside RAM the pixel is undriven (document 01)
+-- the LUT of a pixel's bits in both planes; where one lies outside RAM the pixel is undriven (SCOPE, Panel)
 unfoldable pub lutOfPixels : Scan → Pixel → Pixel → ℕ
 lutOfPixels s (pixel.Is red) (pixel.Is blackWhite) = lutOfBits (applied (s .red) red) (applied (s .«black_white») blackWhite)
 lutOfPixels s (pixel.Is red) pixel.Nothing = undriven
 lutOfPixels s pixel.Nothing blackWhite = undriven
 
--- the LUT of a source's pixel in a row of the two planes; with no row it is undriven (document 01)
+-- the LUT of a source's pixel in a row of both planes; with no row it is undriven (SCOPE, Panel)
 unfoldable pub lutInRow : Row → List ℕ → List ℕ → Scan → ℕ → ℕ
 lutInRow (Is row) red blackWhite s source = lutOfPixels s (bitAt red source row) (bitAt blackWhite source row)
 lutInRow Nothing red blackWhite s source = undriven

@@ -73,6 +73,6 @@ withEntries s e = step (withJournal (e .journal) (s .run)) (e .log)
 unfoldable pub noted : ℕ → DiagnosticKind → Step → Step
 noted time kind s = withEntries s (reported (entries (s .run .journal) (s .log)) time kind)
 
--- a stage's time is added; sums stop at 2^64 − 1 (document 01)
+-- a stage's time is added; sums stop at 2^64 − 1 (SCOPE, Time)
 unfoldable pub waited : ℕ → Run → Run
 waited ns r = withNs (min (r .ns + ns) (largest 64)) r

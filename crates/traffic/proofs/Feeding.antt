@@ -1,8 +1,8 @@
 -- Steps one after the other: one more, the last where it is refused, and the end. Assumes nothing.
 use mathlib.Core.Path.{_≡_, refl, sym, ap, _∙_}
-use mathlib.Core.Bool.{true, false}
+use mathlib.Core.Bool.{Bool, true, false}
 use mathlib.Core.List.{List}
-use Prim.Native.Nat.{ℕ, suc, _+_, _-_, _<_}
+use Prim.Native.Nat.{ℕ, suc, _+_, _-_, _<_, min}
 use native.Mathlib.Omega.{arith}
 use lib.Dec.{eqb}
 use Rattle.numbers.specs.Choice.{pick}
@@ -72,6 +72,20 @@ module _ {A : Type 0} (step : ℕ → A → Outcome A) where
   ended-there count Buffer i w a = refl
   ended-there count Table i w a = refl
   ended-there count State i w a = refl
+
+  -- a step, accepted or refused, with those that are made by then
+  pub step-made : (count i m : ℕ) (w : A) {v : A} (refusal : Refusal) → i < count → m ≡ pick (accepts refusal) (i + 1) i → outcome (numberOf refusal) v ≡ step i w
+      → (accepts refusal ≡ true → m ≡ min count (i + 1)) × (ended step count (fed (numberOf refusal) m v) ≡ feeding step (count - i) i w)
+  step-made count i m w {v} refusal h e o = by (accepts refusal) refl
+    where
+      by : (b : Bool) → accepts refusal ≡ b
+          → (accepts refusal ≡ true → m ≡ min count (i + 1)) × (ended step count (fed (numberOf refusal) m v) ≡ feeding step (count - i) i w)
+      by true a =
+          let f : m ≡ i + 1 = e ∙ ap (λ (b : Bool). pick b (i + 1) i) a in
+          (λ t. omega (arith, f, h), ap (λ (k : ℕ). ended step count (fed (numberOf refusal) k v)) f ∙ ended-on count refusal (i + 1) v a ∙ fed-more count i _ w refusal h a o refl)
+      by false a =
+          let f : m ≡ i = e ∙ ap (λ (b : Bool). pick b (i + 1) i) a in
+          (λ t. absurd (never (sym a ∙ t)), ap (λ (k : ℕ). ended step count (fed (numberOf refusal) k v)) f ∙ ended-there count refusal i v a ∙ fed-last count i _ w refusal h a o refl)
 
 -- the step of a place, by what its event does
 pub made-one : (gates otp : List ℕ) (events : ℕ → Event) (i : ℕ) (w : World) {v : World} {number : ℕ} {byte : Byte} {event : Event}

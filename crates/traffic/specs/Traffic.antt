@@ -1,4 +1,4 @@
--- Events made one after the other, up to the first call that is refused (change request #102).
+-- Events made one after the other, up to the first call that is refused (#102).
 use mathlib.Core.Path.{_≡_}
 use mathlib.Core.List.{List}
 use Prim.Native.Nat.{ℕ, zero, suc, _+_, _-_, min}

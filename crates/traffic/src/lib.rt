@@ -1,8 +1,9 @@
-// Events made of a device one after the other, up to the first call that is refused: what change request #102 feeds from a file.
+// Events made of a device one after the other, up to the first call that is refused: what #102 feeds from a file.
 ghost use mathlib.Core.Path.{_≡_};
 ghost use mathlib.Core.Bool.{true};
-ghost use Prim.Native.Nat.{_+_, _-_, _≤_, _<_, min};
+ghost use Prim.Native.Nat.{_+_, _-_, _^_, _≤_, _<_, min};
 ghost use lib.ListN.{length};
+ghost use Rattle.numbers.specs.Choice.{pick};
 ghost use Rattle.guard.specs.Refusals.{numberOf, accepts};
 ghost use Rattle.dispatch.specs.Dispatch.{world};
 ghost use Rattle.burst.specs.Burst.{bursted};
@@ -54,6 +55,17 @@ fn stream(
     Burst { made: from, state }
 }
 
+// How many events are made, with the one at a place accepted or refused.
+fn counted(refusal: Refusal, at: usize) -> usize
+    requires { ⌜ at + 1 < 2 ^ 64 ⌝ }
+    ensures { λ r. ⌜ r ≡ pick (accepts refusal) (at + 1) at ⌝ }
+{
+    if guard::is_accepted(refusal) {
+        return at + 1;
+    }
+    at
+}
+
 // The event at a place, where one is left.
 fn one(
     state: Ssd1677,
@@ -96,18 +108,12 @@ fn one(
         event,
     );
     let refusal = answer.refusal;
-    let next = answer.state;
-    if guard::is_accepted(refusal) {
-        return Fed {
-            refusal,
-            state: next,
-            made: at + 1,
-        };
-    }
+    let state = answer.state;
+    let made = counted(refusal, at);
     Fed {
         refusal,
-        state: next,
-        made: at,
+        state,
+        made,
     }
 }
 

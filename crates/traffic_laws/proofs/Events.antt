@@ -1,5 +1,5 @@
 -- An event does what its call does, and a list of events what the list of their calls does: from an accepted start on none is refused, all are
--- made, and what they leave agrees with the reckoning (document 01, demand 3). Assumes nothing.
+-- made, and what they leave agrees with the reckoning (SCOPE, History). Assumes nothing.
 use Prim.Native.Nat.{ℕ, zero, suc, _+_, _≤_}
 use mathlib.Core.Path.{_≡_, refl, sym, ap, subst, _∙_}
 use mathlib.Core.Bool.{true}
@@ -26,7 +26,7 @@ use Rattle.history.specs.History.{Agrees}
 use Rattle.history.proofs.Exists.{left-agrees}
 use Rattle.traffic_laws.specs.Events.{callOf, callsFrom, gateless, withGates}
 
--- an event does what its call does: demand 3 holds of what is handed to `dispatch`
+-- an event does what its call does: History holds of what is handed to `dispatch`
 pub dispatched-called : (gates otp : List ℕ) (w : dispatch.World) (event : Event)
     → back (λ (t : Told). withGates gates (t .left)) (dispatched gates otp w event) ≡ called otp (withGates gates w) (callOf event)
 unfolding dispatched
@@ -93,7 +93,7 @@ module _ (c : Ssd1677Config) (otp : List ℕ) (b : Buffers) (ok : isAccepted (st
       fed-sound (present .gates) otp event n 0 (gateless present) (run-kept c otp b ok calls typed .sound) bytes
       ∙ ap (λ (m : ℕ). fed 0 m (gateless (leftBy otp present (callsFrom event n 0)))) (omega arith)
 
-  -- so demand 3 holds of what is fed by `feed`
+  -- so History holds of what is fed by `feed`
   pub fed-agrees : c .optics .«initial_gray» ≤ 255
       → Agrees (withGates (present .gates) (feeding (made (present .gates) otp event) n 0 (gateless present) .left))
       (reckon otp (begun (coreOf (worldOf (started c otp b .left)))) (calls ++ callsFrom event n 0))

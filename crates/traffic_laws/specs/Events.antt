@@ -1,4 +1,4 @@
--- Events beside the calls of document 01's demand 3.
+-- Events beside the calls of SCOPE, History.
 use Prim.Native.Nat.{ℕ, zero, suc, _+_}
 use mathlib.Core.List.{List, [], _∷_}
 use Rattle.event.specs.declared.Event.{Event}

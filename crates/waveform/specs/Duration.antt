@@ -20,6 +20,6 @@ unfoldable pub groupsNs : List Group → ℕ → ℕ
 groupsNs gs zero = 0
 groupsNs gs (suc n) = groupsNs gs n + groupNs (getD gs n noGroup)
 
--- ten groups; computed moments stop at 2^64 − 1 (document 01)
+-- ten groups; computed moments stop at 2^64 − 1 (SCOPE, Time)
 abbrev pub durationOf : Waveform → ℕ
 durationOf w = min (groupsNs (w .groups) 10) (largest 64)

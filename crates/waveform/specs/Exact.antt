@@ -1,4 +1,4 @@
--- The exact drives of a display, in millivolts × nanoseconds towards white, with no number held to 64 bits (document 01, waveform.rs).
+-- The exact drives of a display, in millivolts × nanoseconds towards white, with no number held to 64 bits (SCOPE, Settings).
 use mathlib.Core.Bool.{Bool, true, false}
 use mathlib.Core.List.{List, [], _∷_}
 use Prim.Native.Nat.{ℕ, _-_, _*_, _/_}

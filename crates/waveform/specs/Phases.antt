@@ -1,4 +1,4 @@
--- The phases of a waveform in order: ten groups, each repeated, each of four phases (datasheet Figure 6-6, as document 01 gives it).
+-- The phases of a waveform in order: ten groups, each repeated, each of four phases (datasheet Figure 6-6; SCOPE, Settings).
 use mathlib.Core.List.{List, [], _∷_, _++_}
 use Prim.Native.Nat.{ℕ, zero, suc, _+_, _*_, _<_}
 use lib.IntN.{_-ℤ_}

@@ -1,4 +1,4 @@
--- Where the 112 bytes of a setting have what (datasheet Figure 6-6, as document 01 gives it).
+-- Where the 112 bytes of a setting have what (datasheet Figure 6-6; SCOPE, Settings).
 use mathlib.Core.List.{List, [], _∷_}
 use Prim.Native.Nat.{ℕ, _+_, _-_, _*_, _/_, _%_, _^_}
 use lib.Dec.{eqb}

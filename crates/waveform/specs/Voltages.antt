@@ -11,7 +11,7 @@ use Rattle.voltage.specs.declared.Millivolts.the-variants.{Listed, Unlisted}
 use Rattle.voltage.specs.Codes.{sourceVoltage, vslVoltage}
 use Rattle.waveform.specs.declared.Levels.{Levels}
 
--- an unlisted source voltage counts as 0 (document 01)
+-- an unlisted voltage counts as 0 (SCOPE, Settings)
 abbrev pub orZero : Millivolts → ℤ
 orZero (Listed millivolts) = millivolts
 orZero Unlisted = pos 0

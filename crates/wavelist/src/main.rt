@@ -1,4 +1,4 @@
-// The listing of the setting on standard input (document 01, "Listing").
+// The listing of the setting on standard input (SCOPE, Listing).
 use libc::STDIN_FILENO;
 use libc::STDOUT_FILENO;
 

@@ -1,11 +1,11 @@
-//! Document 01's checked figures and its listing example, asked of the reference.
+//! SCOPE's checked figures and its listing example, asked of the reference.
 
 use std::io::{self, Write};
 
 use super::{leaf, listing};
 use crate::ssd1677::reference::gdeq0426t82_otp;
 
-/// A question to a single function, and the document's answer.
+/// A question to a single function, and SCOPE's answer.
 const QUESTIONS: [(&str, &str); 14] = [
     ("source_millivolts 75", "1 17000"),
     ("source_millivolts 76", "0 0"),

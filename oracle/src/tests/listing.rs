@@ -1,4 +1,4 @@
-//! The listing of a setting (document 01, "Listing (added)"), with what the reference decodes.
+//! The listing of a setting (SCOPE, Listing), with what the reference decodes.
 
 use std::fmt::Write as _;
 use std::io::{self, Write};

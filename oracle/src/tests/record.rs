@@ -1,4 +1,4 @@
-//! Diagnostics as records of 16 bytes (document 01, "Forms that cannot stay"): time 0–7, number 8,
+//! Diagnostics as records of 16 bytes (SCOPE, Log): time 0–7, number 8,
 //! field a 9, b 10–11, c 12–13, low byte first, then zeros.
 
 use crate::ssd1677::{Diagnostic, DiagnosticKind, DisplayMode, Stage};

@@ -54,7 +54,7 @@ fn find_waveform_question(_: u64, random: &mut Random) -> Vec<i128> {
     numbers
 }
 
-/// A byte of the reference's waveforms, 118 an entry as document 01 has them.
+/// A byte of the reference's waveforms, 118 an entry (SCOPE, OTP table).
 fn reference_byte(arguments: &mut Arguments) -> Option<Vec<i128>> {
     let mut table = Vec::new();
     for waveform in gdeq0426t82_otp() {

@@ -1,6 +1,7 @@
 -- `finish::refresh::repaint` meets its contract. Assumes nothing.
 use mathlib.Core.Path.{_≡_, ap, _∙_}
 use Rattle.panel.specs.Pixels.{grays}
+use Rattle.finish.proofs.Moves.{movable}
 use Rattle.finish.proofs.Steps.{table-is}
 use borrow.Author.Needs.{needs}
 use Rattle.finish.proofs.refresh.repaint.Statement.{statement}
@@ -10,7 +11,10 @@ transfers-requires : tie.Need-transfers-requires
 transfers-requires c κs = search needs
 
 paint-requires : tie.Need-paint-requires
-paint-requires c κs = search needs
+paint-requires c κs =
+    let ts = c .before .before in
+    let s = ts .before .before .before in
+    (s .pre, movable (s .args .refresh) _ (s .pre .some) (ts .transfers .ensures))
 
 same-length : tie.Need-same-length
 same-length c = search needs

@@ -1,0 +1,3 @@
+-- Laws of glass_tables that belong to no one function.
+pub mod Found
+pub mod Moved

@@ -1,0 +1,156 @@
+-- `glass_tables::greys::gray_of` meets its contract. Assumes nothing.
+use mathlib.Core.Path.{_≡_, sym, ap, subst, _∙_}
+use mathlib.Core.List.{List}
+use Prim.Native.Nat.{ℕ, _+_, _*_, _/_, _^_, _≤_, _<_}
+use native.Mathlib.Omega.{arith}
+use lib.ListN.{getD}
+use lib.Pow.{shr-mono}
+use lib.IntN.{ℤ, pos, natAbs}
+use lib.Signed.{pos-natAbs}
+use Rattle.numbers.specs.Lists.{tab}
+use Rattle.numbers.proofs.Lin.{whole, rd, ranged, back, unsigned, abs-pos, abs-back, is-le}
+use Rattle.numbers.proofs.Painted.{getD-tab}
+use Rattle.glass.specs.Greys.{grayZ}
+use Rattle.glass_tables.specs.Greys.{firstsOf, endOf, endsOf}
+use Rattle.glass.proofs.Grey.{gray-low, gray-high}
+use Rattle.glass_tables.proofs.Found.{within-lt, gray-within, first-le, past, before}
+use borrow.Author.Needs.{needs}
+use Rattle.glass_tables.proofs.greys.gray_of.Statement.{statement}
+use Rattle.glass_tables.proofs.greys.gray_of.Tie as tie
+
+returns : tie.Need-returns
+returns c =
+    let s = c .before in
+    gray-low (s .args .state) _ (s .pre .some) (is-le (s .args .state) (pos 0) (omega (whole, ranged (s .fits .state))))
+
+returns-2 : tie.Need-returns-2
+returns-2 c =
+    let s = c .before .before in
+    gray-high (s .args .state) (s .args .swing) (s .pre .some) (is-le (s .args .swing) (s .args .state) (omega (whole, ranged (s .fits .state), ranged (s .fits .swing))))
+
+cast-found : tie.Need-cast-found
+cast-found c = let s = c .before .before in unsigned (s .fits .state) (omega (whole, ranged (s .fits .state)))
+
+-- ---- a state from 0 to the swing
+abbrev x : tie.Else2 → ℕ
+x c = natAbs (rd (c .before .before .args .state))
+
+abbrev n : tie.Else2 → ℕ
+n c = natAbs (c .before .before .args .swing)
+
+abbrev k : tie.Else2 → ℕ
+k c = c .before .before .args .shift
+
+record Within (c : tie.Else2) : Type 0 where
+  pub below : x c ≤ n c
+  pub some : 1 ≤ n c
+  pub state : pos (x c) ≡ c .before .before .args .state
+  pub swing : pos (n c) ≡ c .before .before .args .swing
+
+within : (c : tie.Else2) → Within c
+within c =
+    let s = c .before .before in
+    let o = s .pre .some in
+    let f = ranged (s .fits .state) in
+    let g = ranged (s .fits .swing) in
+    let p = abs-back (s .fits .state) in
+    let u = abs-pos (s .args .state) (omega whole) in
+    let v = abs-pos (s .args .swing) (omega whole) in
+    record {
+      below = omega whole;
+      some = omega whole;
+      state = pos-natAbs _ (cast-found c .0) ∙ back (s .fits .state);
+      swing = ap pos (sym (abs-back (s .fits .swing))) ∙ pos-natAbs _ (unsigned (s .fits .swing) (omega whole) .0) ∙ back (s .fits .swing);
+    }
+
+shr-first : tie.Need-shr-first
+shr-first c = search needs
+
+step-lt : (c : tie.Else2) → x c / 2 ^ k c < 512
+step-lt c = let w = within c in omega (arith, shr-mono (k c) (w .below), c .before .before .pre .steps .few)
+
+element-copy-out-first : tie.Need-element-copy-out-first
+element-copy-out-first c = step-lt c
+
+-- the grey that the state's step begins with
+abbrev l : tie.Else2 → ℕ
+l c = (510 * (x c / 2 ^ k c * 2 ^ k c) + n c) / (2 * n c)
+
+abbrev first : tie.Else2 → ℕ
+first c = getD (c .before .before .args .firsts .now) (x c / 2 ^ k c) 0
+
+first-is : (c : tie.Else2) → first c ≡ l c
+unfolding firstsOf
+first-is c =
+    let s = c .before .before in
+    let w = within c in
+    ap (λ (ls : List ℕ). getD ls (x c / 2 ^ k c) 0) (s .pre .firsts-are)
+    ∙ getD-tab 512 (λ step. grayZ (pos (step * 2 ^ k c)) (s .args .swing)) (x c / 2 ^ k c) 0 (step-lt c)
+    ∙ ap (grayZ _) (sym (w .swing))
+    ∙ sym (gray-within _ (n c) (let b = first-le (x c) (n c) (k c) (w .some) (s .pre .steps .fine) in omega arith) (w .some))
+
+l-lt : (c : tie.Else2) → l c < 256
+l-lt c =
+    let s = c .before .before in
+    let w = within c in
+    within-lt _ (n c) (let b = first-le (x c) (n c) (k c) (w .some) (s .pre .steps .fine) in omega arith) (w .some)
+
+end-is : (c : tie.Else2) → getD (c .before .before .args .ends .now) (first c) 0 ≡ endOf (n c) (l c)
+unfolding endsOf
+end-is c =
+    let s = c .before .before in
+    ap (λ (es : List ℕ). getD es (first c) 0) (s .pre .ends-are)
+    ∙ ap (λ (g : ℕ). getD (tab 256 (endOf (n c))) g 0) (first-is c)
+    ∙ getD-tab 256 (endOf (n c)) (l c) 0 (l-lt c)
+
+-- the grey, if it is found
+is : (c : tie.Else2) (g : ℕ) → g ≡ (510 * x c + n c) / (2 * n c) → g ≡ grayZ (c .before .before .args .state) (c .before .before .args .swing)
+is c g e = let w = within c in e ∙ gray-within (x c) (n c) (w .below) (w .some) ∙ (λ i. grayZ (w .state i) (w .swing i))
+
+cast-if3 : tie.Need-cast-if3
+cast-if3 c = record { fits = omega (arith, first-is (c .before), l-lt (c .before)) }
+
+mul-if3 : tie.Need-mul-if3
+mul-if3 c = record { fits = omega (arith, first-is (c .before), l-lt (c .before)) }
+
+element-copy-out-if3 : tie.Need-element-copy-out-if3
+element-copy-out-if3 c = omega (arith, first-is (c .before), l-lt (c .before))
+
+next : (c : tie.Then3) → l (c .before .before .before) + 1 ≡ (510 * x (c .before .before .before) + n (c .before .before .before)) / (2 * n (c .before .before .before))
+next c =
+    let e = c .before .before .before in
+    let w = within e in
+    past (x e) (n e) (k e) (w .some) (e .before .before .pre .steps .fine) (omega (arith, end-is e, c .if3 .taken))
+
+add-result : tie.Need-add-result
+add-result c =
+    let e = c .before .before .before in
+    let w = within e in
+    record { fits = omega (arith, first-is e, next c, within-lt (x e) (n e) (w .below) (w .some)) }
+
+returns-3 : tie.Need-returns-3
+returns-3 c =
+    let e = c .before .before .before in
+    is e _ (ap (λ (g : ℕ). g + 1) (first-is e) ∙ next c)
+
+returns-4 : tie.Need-returns-4
+returns-4 c =
+    let e = c .before .before .before in
+    let w = within e in
+    is e _ (first-is e ∙ before (x e) (n e) (k e) (w .some) (e .before .before .pre .steps .fine) (omega (arith, end-is e, c .if3 .left)))
+
+pub gray-of-spec : {M : Type 1} → statement M
+gray-of-spec =
+    tie.close
+    (tie.spec
+    returns
+    returns-2
+    cast-found
+    shr-first
+    element-copy-out-first
+    cast-if3
+    mul-if3
+    element-copy-out-if3
+    add-result
+    returns-3
+    returns-4)

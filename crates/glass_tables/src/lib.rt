@@ -1,0 +1,71 @@
+// The transfers and greys of many pixels of one swing (glass.rs, `Transfer::apply` and `gray`): what a refresh works out once, so that a
+// pixel takes no division, and no branch that its LUT or a state within the swing decides.
+use glass::Transfer;
+
+pub mod greys;
+
+ghost use mathlib.Core.Path.{_≡_};
+ghost use lib.IntN.{pos, _-ℤ_};
+ghost use lib.Signed.{_≤ℤ_};
+ghost use Rattle.numbers.specs.Saturation.{clampZ, satZ};
+ghost use Rattle.glass_tables.specs.Moves.{movedBy, Fitting, Does};
+
+// A transfer with its bounds put before its sum, which then needs no saturation: `x` held between `low` and `high`, plus `add`.
+pub struct Move {
+    pub low: i64,
+    pub high: i64,
+    pub add: i64,
+}
+
+// As `numbers::clamp_i64`, by two choices between values at hand, which a machine makes without a jump.
+fn hold(x: i64, lo: i64, hi: i64) -> i64
+    ensures { λ r. ⌜ r ≡ clampZ x lo hi ⌝ }
+{
+    let held = if hi < x { hi } else { x };
+    if x < lo { lo } else { held }
+}
+
+fn saturating_sub_i64(a: i64, b: i64) -> i64
+    ensures { λ r. ⌜ r ≡ satZ (a -ℤ b) ⌝ }
+{
+    if b < 0 {
+        if i64::MAX + b < a {
+            return i64::MAX;
+        }
+        return a - b;
+    }
+    if a < i64::MIN + b { i64::MIN } else { a - b }
+}
+
+// The move that does what a transfer does: its bounds, each less what it adds. A bound that no state of 64 bits comes to is then the end
+// of 64 bits; where all stay below the lower one, all go there.
+pub fn move_of(transfer: Transfer) -> Move
+    requires { ⌜ pos 0 ≤ℤ transfer .hi ⌝ }
+    ensures { λ r. ⌜ Does transfer r ⌝ }
+{
+    let highest = numbers::saturating_add_i64(i64::MAX, transfer.add);
+    if highest < transfer.lo {
+        return Move {
+            low: transfer.lo,
+            high: transfer.lo,
+            add: 0,
+        };
+    }
+    let low = saturating_sub_i64(transfer.lo, transfer.add);
+    let high = saturating_sub_i64(transfer.hi, transfer.add);
+    Move {
+        low,
+        high,
+        add: transfer.add,
+    }
+}
+
+impl Move {
+    // The state that a pixel in `state` has after the move.
+    pub fn apply(self, state: i64) -> i64
+        requires { ⌜ Fitting self ⌝ }
+        ensures { λ r. ⌜ r ≡ movedBy self state ⌝ }
+    {
+        hold(state, self.low, self.high) + self.add
+    }
+}
