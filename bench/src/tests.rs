@@ -9,6 +9,8 @@ mod compare;
 #[cfg(time)]
 mod device;
 #[cfg(time)]
+mod finish;
+#[cfg(time)]
 mod glass;
 #[cfg(time)]
 mod inside;
@@ -18,6 +20,8 @@ mod lent;
 mod lists;
 #[cfg(time)]
 mod memory;
+#[cfg(time)]
+mod pictures;
 mod proved;
 mod random;
 #[cfg(time)]
@@ -36,7 +40,7 @@ fn functions(table: &beside::Table) {
     glass::grays(table);
     waveform::transfers(table);
     glass::starts(table);
-    glass::finishes(table);
+    finish::rows(table);
     memory::auto_writes(table);
     memory::data_bytes(table);
 }

@@ -1,22 +1,21 @@
-//! The glass: greys, the choice of LUTs, and the end of a display, at 800×480.
+//! The glass: greys, the choice of LUTs, at 800×480.
 
 use std::hint::black_box;
 
 use emu_core::Cycles;
 
 use super::beside::{Table, timed};
-use super::proved::{self, Choice, Ending};
+use super::proved::{self, Choice};
 use super::random::Random;
 use super::waveform::{PERIODS, SWING, longest};
 use super::{inside, memory};
 use crate::glass::gray;
 use crate::ssd1677::panel::{Display, Panel, PlaneOption, RefreshKind, Scan};
 use crate::ssd1677::ram::{Plane, Ram};
-use crate::ssd1677::reference::gdeq0426t82_otp;
 use crate::ssd1677::waveform::{Drive, Waveform};
 use crate::ssd1677::{GateScan, Optics, PanelGeometry};
 
-const PIXELS: usize = 800 * 480;
+pub(super) const PIXELS: usize = 800 * 480;
 
 pub(super) fn grays(table: &Table) {
     let mut random = Random::of_place(1, 0);
@@ -50,11 +49,11 @@ fn scan_of(choice: &Choice) -> Scan {
     }
 }
 
-fn panel_of(choice: &Choice) -> Panel {
+pub(super) fn panel_of(choice: &Choice) -> Panel {
     Panel::new(choice.geometry.clone(), Optics::default())
 }
 
-fn display_of(panel: &Panel, ram: &Ram, choice: &Choice, waveform: &Waveform) -> Display {
+pub(super) fn display_of(panel: &Panel, ram: &Ram, choice: &Choice, waveform: &Waveform) -> Display {
     let (border, kind) = (Some(Drive::Lut(1)), RefreshKind::Full);
     let times = (Cycles(0), Cycles(0));
     panel.start(ram, scan_of(choice), waveform.clone(), border, kind, times)
@@ -63,7 +62,7 @@ fn display_of(panel: &Panel, ram: &Ram, choice: &Choice, waveform: &Waveform) ->
 const SEQUENCE: GateScan = GateScan { sm: false, gd: false };
 const HALVES: GateScan = GateScan { sm: true, gd: false };
 
-const CHOICE: Choice = Choice {
+pub(super) const CHOICE: Choice = Choice {
     geometry: PanelGeometry { first_source: 80, ..PanelGeometry::gdeq0426t82() },
     lines: 480,
     order: HALVES,
@@ -97,71 +96,5 @@ pub(super) fn starts(table: &Table) {
             },
         );
         assert_eq!(display.map(|display| inside::luts(&display)), Some(luts), "start");
-    }
-}
-
-/// A panel whose states are of many kinds: displays of chance that were cut at different moments.
-fn used_panel() -> Panel {
-    let mut panel = panel_of(&CHOICE);
-    let waveform = Waveform::from_setting(&gdeq0426t82_otp()[2].setting, &PERIODS);
-    for seed in 0..8 {
-        let display = display_of(&panel, &memory::ram(10 + seed), &CHOICE, &waveform);
-        panel.finish(&display, Cycles(0), Some((3 + seed) * 17_000_000));
-    }
-    panel
-}
-
-fn ending_of(setting: &[u8; 112], until: Option<u64>) -> Ending<'_> {
-    Ending {
-        setting,
-        periods: &PERIODS,
-        swing: SWING,
-        positive_drives_black: true,
-        register: 1,
-        partial: false,
-        size: (800, 480),
-        generation: 0,
-        started: 0,
-        at: 0,
-        until,
-    }
-}
-
-pub(super) fn finishes(table: &Table) {
-    let panel = used_panel();
-    let before = inside::glass(&panel);
-    let short = gdeq0426t82_otp()[0].setting;
-    let long = longest();
-    let ends = |setting| Waveform::from_setting(setting, &PERIODS).duration_ns() / 2;
-    let rows = [
-        ("Mode One, whole", &short, None),
-        ("Mode One, cut in the middle", &short, Some(ends(&short))),
-        ("ten groups of 256 repeats, whole", &long, None),
-        ("ten groups of 256 repeats, cut in the middle", &long, Some(ends(&long))),
-    ];
-    for (what, setting, until) in rows {
-        let waveform = Waveform::from_setting(setting, &PERIODS);
-        let display = display_of(&panel, &memory::ram(3), &CHOICE, &waveform);
-        let luts = inside::luts(&display);
-        let ending = ending_of(setting, until);
-        let mut after = panel.clone();
-        let (mut states, mut pixels, mut border) = (Vec::new(), vec![0; PIXELS], 0);
-        table.row(
-            &format!("finish, {what}"),
-            (PIXELS, "pixel"),
-            || {
-                after = panel.clone();
-                timed(|| after.finish(black_box(&display), Cycles(0), until))
-            },
-            || {
-                states.clone_from(&before.states);
-                timed(|| {
-                    (border, _) = proved::finish(&mut states, &luts, &mut pixels, before.border, black_box(&ending));
-                })
-            },
-        );
-        let theirs = inside::glass(&after);
-        assert_eq!((&theirs.states, theirs.border), (&states, border), "finish");
-        assert_eq!(after.image().pixels, pixels, "finish");
     }
 }

@@ -23,6 +23,14 @@ mod archive {
             until: u64,
             out: &mut [i64; 3],
         ) -> bool;
+        pub fn proved_combined(
+            setting: &[u8; 112],
+            periods: &[u64; 16],
+            lut: usize,
+            swing: i64,
+            positive_drives_black: bool,
+            out: &mut [i64; 3],
+        ) -> bool;
         pub fn proved_gates(
             gates: *mut u16,
             gates_len: usize,
@@ -96,7 +104,7 @@ pub(super) fn grays(states: &[i64], swing: i64, pixels: &mut [u8]) -> bool {
     unsafe { archive::proved_grays(states.as_ptr(), states.len(), swing, out, len) }
 }
 
-/// The transfer of LUT `lut`: what it adds, and its two ends.
+/// The transfer of LUT `lut`, walked: what it adds, and its two ends.
 pub(super) fn transfer(
     setting: &[u8; 112],
     periods: &[u64; 16],
@@ -108,6 +116,14 @@ pub(super) fn transfer(
     let (cut, end) = (until.is_some(), until.unwrap_or(0));
     let done =
         unsafe { archive::proved_transfer(setting, periods, lut, swing, true, cut, end, &mut out) };
+    assert!(done, "refused");
+    out
+}
+
+/// The same of a whole display, each group combined with itself.
+pub(super) fn combined(setting: &[u8; 112], periods: &[u64; 16], lut: usize, swing: i64) -> [i64; 3] {
+    let mut out = [0; 3];
+    let done = unsafe { archive::proved_combined(setting, periods, lut, swing, true, &mut out) };
     assert!(done, "refused");
     out
 }

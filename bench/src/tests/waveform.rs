@@ -1,4 +1,5 @@
-//! The transfer of a setting, decoding included on both sides.
+//! The transfer of a setting, decoding included on both sides: walked, whole or up to a cut, and
+//! whole with each group combined with itself.
 
 use std::hint::black_box;
 
@@ -10,34 +11,65 @@ use crate::ssd1677::waveform::{Drive, Waveform};
 pub(super) const SWING: i64 = 6_000_000_000_000;
 pub(super) const PERIODS: [u64; 16] = [20_000_000; 16];
 
-/// Ten groups of four phases of three frames, each run 256 times.
-pub(super) fn longest() -> [u8; 112] {
+/// Ten groups of four phases of three frames, each run once and `more` times.
+fn ten_groups(more: u8) -> [u8; 112] {
     let mut setting = [0x5A; 112];
     setting[40..50].fill(0);
     for group in 0..10 {
         setting[50 + 5 * group..54 + 5 * group].fill(3);
-        setting[54 + 5 * group] = 255;
+        setting[54 + 5 * group] = more;
     }
     setting[100..105].fill(0);
     setting[106..109].copy_from_slice(&[0x41, 0xA8, 0x32]);
     setting
 }
 
-pub(super) fn transfers(table: &Table) {
-    let short = gdeq0426t82_otp()[2].setting;
-    let long = longest();
-    let middle = Waveform::from_setting(&long, &PERIODS).duration_ns() / 2;
-    row(table, "transfer, reference setting of Mode Two", &short, None, 1000);
-    row(table, "transfer, ten groups of 256 repeats", &long, None, 1);
-    row(table, "the same, cut in the middle", &long, Some(middle), 1);
+pub(super) fn longest() -> [u8; 112] {
+    ten_groups(255)
 }
 
-fn row(table: &Table, what: &str, setting: &[u8; 112], until: Option<u64>, count: usize) {
+pub(super) fn transfers(table: &Table) {
+    let otp = gdeq0426t82_otp();
+    let long = longest();
+    let middle = Waveform::from_setting(&long, &PERIODS).duration_ns() / 2;
+    let settings = [
+        ("Mode One", otp[0].setting, 1000),
+        ("Mode Two", otp[2].setting, 1000),
+        ("ten groups of 2 repeats", ten_groups(1), 1000),
+        ("ten groups of 256 repeats", long, 1),
+    ];
+    for (what, setting, count) in settings {
+        walked(table, &format!("transfer, {what}, walked"), &setting, None, count);
+        combined(table, &format!("transfer, {what}, combined"), &setting, count);
+    }
+    walked(table, "transfer, ten groups of 256 repeats, cut in the middle", &long, Some(middle), 1);
+}
+
+fn walked(table: &Table, what: &str, setting: &[u8; 112], until: Option<u64>, count: usize) {
+    let proved = |setting: &_, lut| proved::transfer(setting, &PERIODS, lut, SWING, black_box(until));
+    row(table, what, setting, until, count, |numbers| numbers, proved);
+}
+
+fn combined(table: &Table, what: &str, setting: &[u8; 112], count: usize) {
+    // A combined transfer adds nothing where its ends have met.
+    let settled = |[add, lo, hi]: [i64; 3]| [if lo < hi { add } else { 0 }, lo, hi];
+    let proved = |setting: &_, lut| proved::combined(setting, &PERIODS, lut, SWING);
+    row(table, what, setting, None, count, settled, proved);
+}
+
+fn row(
+    table: &Table,
+    what: &str,
+    setting: &[u8; 112],
+    until: Option<u64>,
+    count: usize,
+    told: impl Fn([i64; 3]) -> [i64; 3],
+    proved: impl Fn(&[u8; 112], usize) -> [i64; 3],
+) {
     for lut in 0..5 {
         let transfer =
             Waveform::from_setting(setting, &PERIODS).transfer(Drive::Lut(lut), SWING, true, until);
-        let ours = proved::transfer(setting, &PERIODS, lut, SWING, until);
-        assert_eq!(inside::transfer(transfer), ours, "{what}");
+        assert_eq!(told(inside::transfer(transfer)), proved(setting, lut), "{what}");
     }
     table.row(
         what,
@@ -53,7 +85,7 @@ fn row(table: &Table, what: &str, setting: &[u8; 112], until: Option<u64>, count
         || {
             timed(|| {
                 for _ in 0..count {
-                    black_box(proved::transfer(black_box(setting), &PERIODS, 1, SWING, black_box(until)));
+                    black_box(proved(black_box(setting), 1));
                 }
             })
         },

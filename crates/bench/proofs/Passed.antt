@@ -16,7 +16,7 @@ use Rattle.numbers.proofs.Lin.{le-in, le-true}
 use Rattle.config.specs.Lowest.{lowest}
 use Rattle.config.specs.Tests.{zeroPeriod}
 use Rattle.config.specs.declared.PanelGeometry.{PanelGeometry}
-use Rattle.bench.specs.Asked.{lasting, grayable, walkable, scannable, finishable}
+use Rattle.bench.specs.Asked.{lasting, grayable, walkable, combinable, scannable, finishable}
 use Rattle.bench.specs.Made.{geometryOf}
 
 -- a search that finds nothing passed over every number
@@ -52,6 +52,14 @@ walk-lasts p lut e = lasts p (left (lasting p) (ltb lut 5) e)
 pub walk-lut : (p : List ℕ) (lut : ℕ) → walkable p lut ≡ true → lut < 5
 unfolding walkable
 walk-lut p lut e = ltb-true lut 5 (right (lasting p) (ltb lut 5) e)
+
+pub combine-walks : (p : List ℕ) (lut : ℕ) (swing : ℤ) → combinable p lut swing ≡ true → walkable p lut ≡ true
+unfolding combinable
+combine-walks p lut swing e = left (walkable p lut) (leZ (pos 1) swing) e
+
+pub combine-some : (p : List ℕ) (lut : ℕ) (swing : ℤ) → combinable p lut swing ≡ true → pos 1 ≤ℤ swing
+unfolding combinable
+combine-some p lut swing e = le-in (pos 1) swing (le-true (pos 1) swing (right (walkable p lut) (leZ (pos 1) swing) e))
 
 module _ (p : List ℕ) (swing : ℤ) (states luts pixels : ℕ) (e : finishable p swing states luts pixels ≡ true) where
   both : lasting p && grayable swing states pixels ≡ true

@@ -20,6 +20,10 @@ grayable swing states pixels = leZ (pos 1) swing && eqb pixels states
 unfoldable pub walkable : List ℕ → ℕ → Bool
 walkable periods lut = lasting periods && ltb lut 5
 
+-- a combined transfer: the same, and a swing from 1 on
+unfoldable pub combinable : List ℕ → ℕ → ℤ → Bool
+combinable periods lut swing = walkable periods lut && leZ (pos 1) swing
+
 -- the end of a display: frames that last, a swing from 1 on, and buffers of one length
 unfoldable pub finishable : List ℕ → ℤ → ℕ → ℕ → ℕ → Bool
 finishable periods swing states luts pixels = (lasting periods && grayable swing states pixels) && eqb luts states

@@ -1,7 +1,7 @@
 // The tests of what the functions ask.
 ghost use mathlib.Core.Path.{_≡_};
 ghost use Prim.Native.Nat.{_*_};
-ghost use Rattle.bench.specs.Asked.{lasting, grayable, walkable, scannable, finishable};
+ghost use Rattle.bench.specs.Asked.{lasting, grayable, walkable, combinable, scannable, finishable};
 
 // Every frame-rate code has a period.
 fn last(periods: &[u64; 16]) -> bool
@@ -27,6 +27,12 @@ pub(crate) fn can_walk(periods: &[u64; 16], lut: usize) -> bool
     ensures { λ r. ⌜ r ≡ walkable (now (periods .entry)) lut ⌝ }
 {
     last(periods) & (lut < 5)
+}
+
+pub(crate) fn can_combine(periods: &[u64; 16], lut: usize, swing: i64) -> bool
+    ensures { λ r. ⌜ r ≡ combinable (now (periods .entry)) lut swing ⌝ }
+{
+    can_walk(periods, lut) & (1 <= swing)
 }
 
 pub(crate) fn can_finish(

@@ -17,9 +17,11 @@ ghost use Rattle.auto_write.specs.Auto.{autoWritten};
 ghost use Rattle.gates.specs.Gates.{gatesStored};
 ghost use Rattle.scan.specs.Luts.{lutOf};
 ghost use Rattle.waveform.specs.declared.Drive.the-variants.{Lut};
+ghost use Rattle.waveform.specs.Walks.{wholeTransfer};
+ghost use Rattle.combine.specs.Settled.{settled};
 ghost use Rattle.panel.specs.Pixels.{grays};
 ghost use Rattle.panel.specs.Finish.{settingTransfer, glass, ending, finished};
-ghost use Rattle.bench.specs.Asked.{grayable, walkable, scannable, finishable};
+ghost use Rattle.bench.specs.Asked.{grayable, walkable, combinable, scannable, finishable};
 ghost use Rattle.bench.specs.Runs.{run, ranOn, counterOf, windowOf, entryOf};
 ghost use Rattle.bench.specs.Made.{untilOf, numbersOf, geometryOf, scanOf, panelOf, displayOf, shown, shownOf};
 
@@ -36,7 +38,7 @@ pub extern "C" fn proved_grays(states: &[i64], swing: i64, pixels: &mut [u8]) ->
     false
 }
 
-// The transfer of a setting's LUT, whole or up to a cut: what it adds, and its two ends.
+// The transfer of a setting's LUT, walked, whole or up to a cut: what it adds, and its two ends.
 #[no_mangle]
 pub extern "C" fn proved_transfer(
     setting: &[u8; 112],
@@ -55,6 +57,27 @@ pub extern "C" fn proved_transfer(
         let until = made::until_of(cut, until);
         let t = display::transfer(setting, periods, lut, swing, positive_drives_black, until);
         *out = [t.add, t.lo, t.hi];
+        return true;
+    }
+    false
+}
+
+// The same of a whole display, each group combined with itself: what it adds is 0 where its ends have met.
+#[no_mangle]
+pub extern "C" fn proved_combined(
+    setting: &[u8; 112],
+    periods: &[u64; 16],
+    lut: usize,
+    swing: i64,
+    positive_drives_black: bool,
+    out: &mut [i64; 3],
+) -> bool
+    ensures { λ r. ⌜ r ≡ combinable (now (periods .entry)) lut swing ⌝ }
+    ensures { λ r. ⌜ now (out .exit) ≡ pick r (numbersOf (settled (wholeTransfer (now (setting .entry)) (now (periods .entry)) (Lut lut) swing «positive_drives_black»))) (now (out .entry)) ⌝ }
+{
+    if asked::can_combine(periods, lut, swing) {
+        let whole = display::combined(setting, periods, lut, swing, positive_drives_black);
+        *out = [whole.add, whole.lo, whole.hi];
         return true;
     }
     false

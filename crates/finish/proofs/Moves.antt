@@ -2,25 +2,22 @@
 use mathlib.Core.Path.{_≡_, refl, sym, ap, subst, _∙_}
 use mathlib.Core.Bool.{Bool, true, false}
 use mathlib.Core.List.{List, [], _∷_, foldl}
-use Prim.Native.Nat.{ℕ, zero, suc, _-_, _/_, _≤_, _<_}
+use Prim.Native.Nat.{ℕ, zero, suc, _-_, _≤_, _<_}
 use native.Mathlib.Omega.{arith}
 use lib.Dec.{ltb}
 use lib.IntN.{ℤ, pos, _+ℤ_}
-use lib.Signed.{_≤ℤ_}
-use lib.ListN.{getD, set, replicate, getD-replicate}
+use lib.Signed.{leZ, _≤ℤ_}
+use lib.ListN.{set, replicate, getD-replicate}
 use borrow.Author.Tests.{ltb-true, ltb-false}
 use Rattle.numbers.specs.Choice.{pick}
-use Rattle.numbers.specs.Lists.{tab}
 use Rattle.numbers.specs.Saturation.{clampZ, satZ, least, most}
-use Rattle.numbers.proofs.Lin.{Le, whole, le-in, le-out, eq-in, add-out}
+use Rattle.numbers.proofs.Lin.{whole, le-in, le-out, eq-in, add-out}
 use Rattle.numbers.proofs.Hold.{clamp-mid, at-least}
-use Rattle.numbers.proofs.Painted.{getD-tab}
 use Rattle.glass.specs.declared.Transfer.{Transfer}
 use Rattle.glass.specs.Transfers.{identityT, applyT}
 use Rattle.glass_tables.specs.declared.Move.{Move}
 use Rattle.glass_tables.specs.Moves.{Word, movedBy, Fitting, Does}
 use Rattle.waveform.specs.declared.Drive.{Drive}
-use Rattle.waveform.specs.declared.Drive.the-variants.{Lut}
 use Rattle.waveform.specs.declared.Driving.{Driving}
 use Rattle.waveform.specs.declared.Phase.{Phase}
 use Rattle.waveform.specs.declared.Progress.{Progress}
@@ -28,11 +25,11 @@ use Rattle.waveform.specs.declared.Until.{Until}
 use Rattle.waveform.specs.declared.Until.the-variants.{Whole, Cut}
 use Rattle.waveform.specs.declared.Waveform.{Waveform}
 use Rattle.waveform.specs.Phases.{phasesOf}
-use Rattle.waveform.specs.Walks.{drivingOf, saturatedDrive, pushed, wholeStep, endOf, runOn, cutShort, cutStep, started, transferOf}
+use Rattle.waveform.specs.Walks.{drivingOf, saturatedDrive, pushed, wholeStep, endOf, runOn, cutShort, cutStep, started, wholeOf, transferOf}
+use Rattle.combine.specs.Settled.{settled, combinedOf}
 use Rattle.panel.specs.Pixels.{stateBy}
-use Rattle.finish.specs.declared.refresh.Refresh.{Refresh}
-use Rattle.finish.specs.Refresh.{transferIn, fourTransfers, inTable}
-use Rattle.finish.specs.Moves.{moveAt, Movable, MovesOf}
+use Rattle.finish.specs.Refresh.{inTable}
+use Rattle.finish.specs.Moves.{moveAt, MovesOf}
 
 -- ---- what the table does
 -- a transfer that leaves every number of 64 bits
@@ -120,9 +117,15 @@ walked-high w drive swing black some (Cut until) =
     let d = drivingOf w drive swing black in
     folds (λ (q : Progress). pos 0 ≤ℤ q .transfer .hi) (cutStep d until) (cut-high d some until) (phasesOf w drive) (started swing) (let n = le-out some in le-in _ _ (omega whole))
 
-pub movable : (r : Refresh) (ts : List Transfer) → pos 1 ≤ℤ r .swing → ts ≡ fourTransfers r → Movable ts
-unfolding fourTransfers transferIn
-movable r ts some made lut l =
-    subst (λ (t : Transfer). pos 0 ≤ℤ t .hi)
-    (sym (ap (λ (us : List Transfer). inTable us lut) made ∙ getD-tab 4 (λ k. transferIn r (Lut k)) lut (identityT (pos 0)) l))
-    (walked-high (r .waveform) (Lut lut) (r .swing) (r .«positive_drives_black») some (r .until))
+-- a combined transfer has the walk's upper bound
+pub combined-high : (w : Waveform) (drive : Drive) (swing : ℤ) (black : Bool) → pos 1 ≤ℤ swing → (until : Until) → pos 0 ≤ℤ combinedOf w drive swing black until .hi
+unfolding settled
+combined-high w drive swing black some Whole = by (leZ (t .hi) (t .lo))
+  where
+    t : Transfer
+    t = wholeOf w drive swing black
+
+    by : (b : Bool) → pos 0 ≤ℤ pick b (record { add = pos 0; lo = t .lo; hi = t .hi }) t .hi
+    by true = walked-high w drive swing black some Whole
+    by false = walked-high w drive swing black some Whole
+combined-high w drive swing black some (Cut until) = walked-high w drive swing black some (Cut until)

@@ -12,7 +12,7 @@ use Rattle.numbers.specs.Lists.{tab}
 use Rattle.numbers.proofs.Painted.{length-tab, getD-tab, tab-ext}
 use Rattle.glass.specs.declared.Transfer.{Transfer}
 use Rattle.glass.specs.Greys.{grayZ}
-use Rattle.glass.specs.Transfers.{identityT, applyT}
+use Rattle.glass.specs.Transfers.{applyT}
 use Rattle.waveform.specs.declared.Drive.{Drive}
 use Rattle.waveform.specs.declared.Drive.the-variants.{Lut}
 use Rattle.waveform.specs.declared.Until.{Until}
@@ -24,7 +24,7 @@ use Rattle.finish.specs.declared.refresh.Refresh.{Refresh}
 use Rattle.panel.specs.Border.{borderDrive}
 use Rattle.panel.specs.Pixels.{stateBy, statesBy, grays}
 use Rattle.panel.specs.Finish.{Glass, glass, Ending, settingTransfer, transferBy, borderBy, published, withBorder, finished}
-use Rattle.finish.specs.Refresh.{refreshOf, transferIn, fourTransfers, inTable}
+use Rattle.finish.specs.Refresh.{FourAlike, refreshOf, transferIn, inTable}
 
 -- ---- the pixels
 -- greys of states that are given by place
@@ -34,22 +34,21 @@ grays-tab swing n f =
     tab-ext n (λ i. grayZ (f i) swing) (λ i. grayZ (getD (tab n f) i (pos 0)) swing) (λ i l. ap (λ (z : ℤ). grayZ z swing) (sym (getD-tab n f i (pos 0) l)))
     ∙ ap (λ (k : ℕ). tab k (λ i. grayZ (getD (tab n f) i (pos 0)) swing)) (sym (length-tab n f))
 
--- the table of four has each LUT's transfer
-state-is : (r : Refresh) (lut : ℕ) (state : ℤ) → stateBy (inTable (fourTransfers r)) lut state ≡ stateBy (λ k. transferIn r (Lut k)) lut state
-unfolding stateBy fourTransfers
-state-is r lut state = by (ltb lut 4) refl
+-- a table that does what each LUT's transfer does
+state-is : (r : Refresh) (ts : List Transfer) → FourAlike r ts → (lut : ℕ) (state : ℤ) → stateBy (inTable ts) lut state ≡ stateBy (λ k. transferIn r (Lut k)) lut state
+unfolding stateBy
+state-is r ts alike lut state = by (ltb lut 4) refl
   where
-    by : (t : Bool) → ltb lut 4 ≡ t → pick t (applyT (inTable (tab 4 (λ k. transferIn r (Lut k))) lut) state) state ≡ pick t (applyT (transferIn r (Lut lut)) state) state
-    by true e = ap (λ (t : Transfer). applyT t state) (getD-tab 4 (λ k. transferIn r (Lut k)) lut (identityT (pos 0)) (ltb-true _ _ e))
+    by : (t : Bool) → ltb lut 4 ≡ t → pick t (applyT (inTable ts lut) state) state ≡ pick t (applyT (transferIn r (Lut lut)) state) state
+    by true e = alike lut (ltb-true _ _ e) state
     by false e = refl
 
-pub table-is : (r : Refresh) (luts : List ℕ) (states : List ℤ) (ts : List Transfer) → ts ≡ fourTransfers r
+pub table-is : (r : Refresh) (luts : List ℕ) (states : List ℤ) (ts : List Transfer) → FourAlike r ts
     → statesBy (inTable ts) luts states ≡ statesBy (λ k. transferIn r (Lut k)) luts states
 unfolding statesBy
-table-is r luts states ts made =
-    ap (λ (l : List Transfer). tab (length states) (λ i. stateBy (inTable l) (getD luts i 0) (getD states i (pos 0)))) made
-    ∙ tab-ext (length states) (λ i. stateBy (inTable (fourTransfers r)) (getD luts i 0) (getD states i (pos 0)))
-    (λ i. stateBy (λ k. transferIn r (Lut k)) (getD luts i 0) (getD states i (pos 0))) (λ i l. state-is r (getD luts i 0) (getD states i (pos 0)))
+table-is r luts states ts alike =
+    tab-ext (length states) (λ i. stateBy (inTable ts) (getD luts i 0) (getD states i (pos 0)))
+    (λ i. stateBy (λ k. transferIn r (Lut k)) (getD luts i 0) (getD states i (pos 0))) (λ i l. state-is r ts alike (getD luts i 0) (getD states i (pos 0)))
 
 -- ---- the whole end
 abbrev refreshIn : Ending → ℤ → Refresh

@@ -15,7 +15,7 @@ use Rattle.finish.specs.Refresh.{inTable}
 abbrev pub moveAt : List Move → ℕ → Move
 moveAt ms lut = getD ms lut (record { low = pos 0; high = pos 0; add = pos 0 })
 
--- transfers that moves can stand for: no upper bound is below 0
+-- transfers with no upper bound below 0, which is what making their moves asks
 abbrev pub Movable : List Transfer → Type 0
 Movable ts = (lut : ℕ) → lut < 4 → pos 0 ≤ℤ inTable ts lut .hi
 

@@ -2,11 +2,10 @@
 use mathlib.Core.Path.{_≡_}
 use mathlib.Core.Bool.{Bool}
 use mathlib.Core.List.{List}
-use Prim.Native.Nat.{ℕ}
+use Prim.Native.Nat.{ℕ, _<_}
 use lib.IntN.{ℤ, pos}
 use lib.Signed.{_≤ℤ_}
 use lib.ListN.{length, getD}
-use Rattle.numbers.specs.Lists.{tab}
 use Rattle.glass.specs.declared.Transfer.{Transfer}
 use Rattle.glass.specs.Transfers.{identityT}
 use Rattle.waveform.specs.declared.Drive.{Drive}
@@ -15,6 +14,7 @@ use Rattle.waveform.specs.declared.Until.{Until}
 use Rattle.waveform.specs.declared.Waveform.{Waveform}
 use Rattle.waveform.specs.Phases.{Takes}
 use Rattle.waveform.specs.Walks.{Walkable, transferOf}
+use Rattle.combine.specs.Settled.{Alike}
 use Rattle.finish.specs.declared.refresh.Refresh.{Refresh}
 
 -- a waveform that any drive may walk
@@ -29,13 +29,18 @@ refreshOf w swing black until = record { waveform = w; swing = swing; «positive
 unfoldable pub transferIn : Refresh → Drive → Transfer
 transferIn r drive = transferOf (r .waveform) drive (r .swing) (r .«positive_drives_black») (r .until)
 
--- those of LUTs 0 to 3
-unfoldable pub fourTransfers : Refresh → List Transfer
-fourTransfers r = tab 4 (λ lut. transferIn r (Lut lut))
-
 -- the transfer that a table has for a LUT
 abbrev pub inTable : List Transfer → ℕ → Transfer
 inTable ts lut = getD ts lut (identityT (pos 0))
+
+-- a table that does what the transfers of LUTs 0 to 3 do
+abbrev pub FourAlike : Refresh → List Transfer → Type 0
+FourAlike r ts = (lut : ℕ) → lut < 4 → Alike (inTable ts lut) (transferIn r (Lut lut))
+
+-- what the transfers of a display ask: a waveform that any drive may walk, and a swing from 1 on
+pub record Refreshable (r : Refresh) : Type 0 where
+  pub walkable : AllWalkable (r .waveform)
+  pub some : pos 1 ≤ℤ r .swing
 
 -- what refilling the pixels asks
 pub record Repaintable (r : Refresh) (luts : List ℕ) (states : List ℤ) (pixels : List ℕ) : Type 0 where

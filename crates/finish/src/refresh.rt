@@ -10,12 +10,15 @@ use waveform::Until;
 use waveform::Waveform;
 ghost use mathlib.Core.Path.{_≡_};
 ghost use Prim.Native.Nat.{_<_};
+ghost use lib.IntN.{pos};
+ghost use lib.Signed.{_≤ℤ_};
 ghost use Rattle.waveform.specs.Walks.{Walkable};
 ghost use Rattle.waveform.specs.Setting.{waveformOf};
+ghost use Rattle.combine.specs.Settled.{Alike};
 ghost use Rattle.panel.specs.Border.{borderDrive};
 ghost use Rattle.panel.specs.Pixels.{stateBy, statesBy, grays};
 ghost use Rattle.panel.specs.Finish.{borderBy, withBorder};
-ghost use Rattle.finish.specs.Refresh.{AllWalkable, Repaintable, refreshOf, transferIn, fourTransfers, inTable};
+ghost use Rattle.finish.specs.Refresh.{FourAlike, Refreshable, Repaintable, refreshOf, transferIn, inTable};
 ghost use Rattle.finish.specs.Moves.{Movable, MovesOf};
 
 // What the transfers of a display are made from.
@@ -47,12 +50,13 @@ pub(crate) fn refresh_of(
 }
 
 fn transfer(refresh: Refresh, drive: Drive) -> Transfer
-    requires { ⌜ Walkable (refresh .waveform) drive ⌝ }
-    ensures { λ r. ⌜ r ≡ transferIn refresh drive ⌝ }
+    requires { ⌜ Walkable (refresh .waveform) drive × (pos 1 ≤ℤ refresh .swing) ⌝ }
+    ensures { λ r. ⌜ Alike r (transferIn refresh drive) ⌝ }
+    ensures { λ r. ⌜ pos 0 ≤ℤ r .hi ⌝ }
 {
     let waveform = refresh.waveform;
     let until = refresh.until;
-    walk::transfer(
+    combine::transfer(
         waveform,
         drive,
         refresh.swing,
@@ -63,8 +67,9 @@ fn transfer(refresh: Refresh, drive: Drive) -> Transfer
 
 // Those of LUTs 0 to 3.
 fn transfers(refresh: Refresh) -> [Transfer; 4]
-    requires { ⌜ AllWalkable (refresh .waveform) ⌝ }
-    ensures { λ r. ⌜ r ≡ fourTransfers refresh ⌝ }
+    requires { ⌜ Refreshable refresh ⌝ }
+    ensures { λ r. ⌜ FourAlike refresh r ⌝ }
+    ensures { λ r. ⌜ Movable r ⌝ }
 {
     let lut0 = transfer(refresh, Drive::Lut(0));
     let lut1 = transfer(refresh, Drive::Lut(1));
@@ -143,7 +148,7 @@ pub(crate) fn repaint(refresh: Refresh, luts: &[u8], states: &mut [i64], pixels:
 
 // The border, driven or left.
 pub(crate) fn drive_border(refresh: Refresh, border: u8, panel: Panel) -> Panel
-    requires { ⌜ AllWalkable (refresh .waveform) ⌝ }
+    requires { ⌜ Refreshable refresh ⌝ }
     ensures { λ r. ⌜ r ≡ withBorder panel (borderBy (transferIn refresh) (borderDrive border) (panel .border)) ⌝ }
 {
     let drives = panel::border_drive(border);

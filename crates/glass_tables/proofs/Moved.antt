@@ -8,7 +8,6 @@ use Rattle.numbers.specs.Saturation.{clampZ, satZ, least, most}
 use Rattle.numbers.proofs.Lin.{Le, Lt, whole, le-in, le-out, eq-in, add-out, sub-out, ranged, fits-is}
 use Rattle.numbers.proofs.Hold.{clamp-low, clamp-high, clamp-mid, clamp-mono, clamp-elim, clamp-shift, below, above}
 use Rattle.glass.specs.declared.Transfer.{Transfer}
-use Rattle.glass.specs.Transfers.{applyT}
 use Rattle.glass_tables.specs.declared.Move.{Move}
 use Rattle.glass_tables.specs.Moves.{Word, movedBy, Fitting, Does}
 

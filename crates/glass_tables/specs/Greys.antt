@@ -7,7 +7,8 @@ use lib.Signed.{_≤ℤ_}
 use Rattle.numbers.specs.Lists.{tab}
 use Rattle.glass.specs.Greys.{grayZ}
 
--- steps of 2^k states: at most 512 of them reach from 0 to the swing, and none is longer than a grey, which has swing / 255 states
+-- steps of 2^k states: at most 512 of them reach from 0 to the swing, and the first and the last state of one are no farther apart than a
+-- grey is wide, swing / 255; a step's first state fits 63 bits
 pub record Steps (swing k : ℕ) : Type 0 where
   pub small : k ≤ 54
   pub few : swing / 2 ^ k < 512
@@ -21,6 +22,7 @@ firstsOf swing k = tab 512 (λ step. grayZ (pos (step * 2 ^ k)) swing)
 unfoldable pub endOf : ℕ → ℕ → ℕ
 endOf swing gray = ((2 * gray + 1) * swing + 509) / 510
 
+-- where each grey ends
 unfoldable pub endsOf : ℕ → List ℕ
 endsOf swing = tab 256 (endOf swing)
 

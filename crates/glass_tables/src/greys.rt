@@ -1,5 +1,5 @@
-// The greys of many states of one swing. The states from 0 to the swing are cut into at most 512 steps of 2^shift, none longer than a
-// grey, so that a step has states of two greys at most: one table has the grey that each step begins with, another where each grey ends.
+// The greys of many states of one swing. The states from 0 to the swing are cut into at most 512 steps of 2^shift. A step's ends are no
+// farther apart than a grey is wide, so that it has two greys at most: one table has that of its first state, another where each grey ends.
 ghost use mathlib.Core.Path.{_≡_};
 ghost use Prim.Native.Nat.{_*_, _^_, _≤_, _<_};
 ghost use lib.IntN.{pos, natAbs};
@@ -72,7 +72,7 @@ pub fn ends(swing: i64) -> [u64; 256]
     ends
 }
 
-// The grey of a state, as `glass::gray`. The states from 0 to the swing, which a panel has, take no branch that depends on them.
+// The grey of a state, as `glass::gray`. For the states from 0 to the swing, which a panel has, both tests always go one way.
 pub fn gray_of(firsts: &[u8; 512], ends: &[u64; 256], shift: u64, swing: i64, state: i64) -> u8
     requires { ⌜ Tables swing shift (now firsts) (now ends) ⌝ }
     ensures { λ r. ⌜ r ≡ grayZ state swing ⌝ }

@@ -38,7 +38,7 @@ fn saturating_sub_i64(a: i64, b: i64) -> i64
 }
 
 // The move that does what a transfer does: its bounds, each less what it adds. A bound that no state of 64 bits comes to is then the end
-// of 64 bits; where all stay below the lower one, all go there.
+// of 64 bits; where no sum reaches `lo`, every state goes there. An upper bound below 0 could lie beyond that end, so none is taken.
 pub fn move_of(transfer: Transfer) -> Move
     requires { ⌜ pos 0 ≤ℤ transfer .hi ⌝ }
     ensures { λ r. ⌜ Does transfer r ⌝ }

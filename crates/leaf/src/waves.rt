@@ -106,8 +106,14 @@ fn until(numbers: &[u64]) -> Until {
     Until::Whole
 }
 
-// What a drive does under the question's waveform; no number where a period is 0.
-fn driven(text: &mut [u8; text::ROOM], at: usize, drive: Drive, numbers: &[u64]) -> usize
+// What a drive does under the question's waveform, walked or combined; no number where a period is 0, or no swing is combined.
+fn driven(
+    text: &mut [u8; text::ROOM],
+    at: usize,
+    drive: Drive,
+    combined: bool,
+    numbers: &[u64],
+) -> usize
     requires { ⌜ Takes drive ⌝ }
 {
     let swing = take::signed(numbers, 2);
@@ -117,19 +123,25 @@ fn driven(text: &mut [u8; text::ROOM], at: usize, drive: Drive, numbers: &[u64])
     let setting = take::setting(numbers, 22);
     if lasting(periods) {
         let waveform = setting::from_setting(&setting, &periods);
-        let transfer = walk::transfer(waveform, drive, swing, black, until);
-        return transfers::put(text, at, transfer);
+        if !combined {
+            let walked = walk::transfer(waveform, drive, swing, black, until);
+            return transfers::put(text, at, walked);
+        }
+        if 1 <= swing {
+            let transfer = combine::transfer(waveform, drive, swing, black, until);
+            return transfers::put(text, at, transfer);
+        }
     }
     at
 }
 
-fn transfer(text: &mut [u8; text::ROOM], at: usize, numbers: &[u64]) -> usize {
+fn transfer(text: &mut [u8; text::ROOM], at: usize, combined: bool, numbers: &[u64]) -> usize {
     let code = take::byte(numbers, 1);
     if take::truth(numbers, 0) {
-        return driven(text, at, Drive::Fixed(code), numbers);
+        return driven(text, at, Drive::Fixed(code), combined, numbers);
     }
     if code < 5 {
-        return driven(text, at, Drive::Lut(code as usize), numbers);
+        return driven(text, at, Drive::Lut(code as usize), combined, numbers);
     }
     at
 }
@@ -146,7 +158,10 @@ pub fn answer(text: &mut [u8; text::ROOM], at: usize, name: &[u8], numbers: &[u6
         return frame_rate_code(text, at, numbers);
     }
     if take::asks(name, b"transfer", numbers, 134) {
-        return transfer(text, at, numbers);
+        return transfer(text, at, false, numbers);
+    }
+    if take::asks(name, b"combined", numbers, 134) {
+        return transfer(text, at, true, numbers);
     }
     at
 }

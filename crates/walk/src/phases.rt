@@ -18,7 +18,7 @@ pub(crate) struct Lasting {
 }
 
 // A group without frames moves nothing, so its phases need not be made.
-pub(crate) fn idle(group: Group) -> bool
+pub fn idle(group: Group) -> bool
     ensures { λ r. ⌜ r ≡ noFrames group ⌝ }
 {
     let frames = group.frames;
@@ -94,7 +94,7 @@ pub(crate) fn lasting_of(driving: Driving, group: Group, at: usize) -> Lasting
 }
 
 // A transfer, then `run` frames of a phase.
-pub(crate) fn push(driving: Driving, phase: Phase, run: u64, transfer: Transfer) -> Transfer
+pub fn push(driving: Driving, phase: Phase, run: u64, transfer: Transfer) -> Transfer
     ensures { λ r. ⌜ r ≡ pushed driving phase run transfer ⌝ }
 {
     let black = driving.positive_drives_black;

@@ -110,6 +110,12 @@ fn state(swing: i64, edges: bool, random: &mut Random) -> i64 {
     random.between(0, swing.unsigned_abs()).cast_signed()
 }
 
+/// A number of any size, mostly past 0 or the swing, as no display leaves one.
+fn any_state(random: &mut Random) -> i64 {
+    let size = random.any_size().cast_signed();
+    if random.truth() { size } else { !size }
+}
+
 fn swing(place: u64, random: &mut Random) -> i64 {
     match place % 5 {
         0 => 1,
@@ -157,15 +163,19 @@ impl Case {
         let shown = shown(place, &setting, &periods, random);
         let edges = random.one_in(4);
         let pixels = usize::from(geometry.width) * usize::from(geometry.height);
+        let (black_white, red) = (plane(random), plane(random));
+        // Every eleventh panel has states that lie anywhere.
+        let one = |_| if place % 11 == 7 { any_state(random) } else { state(shown.swing, edges, random) };
+        let states = (0..pixels).map(one).collect();
         Case {
             geometry,
             scanned,
             shown,
             setting,
             periods,
-            black_white: plane(random),
-            red: plane(random),
-            states: (0..pixels).map(|_| state(shown.swing, edges, random)).collect(),
+            black_white,
+            red,
+            states,
         }
     }
 }

@@ -20,6 +20,7 @@ pub(super) struct Tally {
     moved: [u64; 2],
     border: [u64; 3],
     swings: [u64; 4],
+    outside: usize,
     black: [u64; 2],
 }
 
@@ -57,6 +58,8 @@ impl Tally {
             i64::MAX => 2,
             _ => 3,
         }] += 1;
+        let swing = 0..=case.shown.swing;
+        self.outside += case.states.iter().filter(|&state| !swing.contains(state)).count();
         self.black[usize::from(case.shown.positive_drives_black)] += 1;
     }
 
@@ -86,6 +89,7 @@ impl Tally {
         );
         println!("border driven by a LUT, fixed, left: {:?}", self.border);
         println!("swing 1, 6·10^12, 2^63−1, other: {:?}", self.swings);
+        println!("states below 0 or above the swing: {}", self.outside);
         println!("positive drives white, black: {:?}", self.black);
     }
 }

@@ -16,6 +16,9 @@ drivable c =
     subst (λ (r : Refresh). AllWalkable (r .waveform)) (sym (c .refresh-of .ensures))
     (λ drive takes. walkable _ _ drive (c .before .before .before .pre .lasting) takes)
 
+swings : (c : tie.After-refresh-of) → pos 1 ≤ℤ c .refresh-of .result .swing
+swings c = subst (λ (r : Refresh). pos 1 ≤ℤ r .swing) (sym (c .refresh-of .ensures)) (c .before .before .before .pre .some)
+
 refresh-of-requires : tie.Need-refresh-of-requires
 refresh-of-requires c κs = search needs
 
@@ -25,13 +28,13 @@ repaint-requires c κs =
     let pre = call .before .before .before .pre in
     record {
       walkable = drivable call;
-      some = subst (λ (r : Refresh). pos 1 ≤ℤ r .swing) (sym (call .refresh-of .ensures)) (pre .some);
+      some = swings call;
       luts-long = pre .luts-long;
       pixels-long = pre .pixels-long;
     }
 
 drive-border-requires : tie.Need-drive-border-requires
-drive-border-requires c κs = drivable (c .before .before .before .before .before .before)
+drive-border-requires c κs = let call = c .before .before .before .before .before .before in record { walkable = drivable call; some = swings call }
 
 publish-requires : tie.Need-publish-requires
 publish-requires c κs =

@@ -93,7 +93,8 @@ fn frame_rate_code(arguments: &mut Arguments) -> Option<Vec<i128>> {
     Some(vec![numbers[26 * group + 5]])
 }
 
-fn transfer_answer(arguments: &mut Arguments) -> Option<Vec<i128>> {
+/// The transfer of a question's display, and whether it is a whole one.
+fn displayed(arguments: &mut Arguments) -> Option<(Transfer, bool)> {
     let drive = match arguments.up_to(1)? {
         0 => Drive::Lut(usize::from(arguments.up_to(4)?)),
         _ => Drive::Fixed(arguments.up_to(3)?),
@@ -104,12 +105,17 @@ fn transfer_answer(arguments: &mut Arguments) -> Option<Vec<i128>> {
     let until = arguments.take()?;
     let waveform = waveform(arguments)?;
     let until = cut.then_some(until);
-    Some(numbers(waveform.transfer(
-        drive,
-        swing,
-        positive_drives_black,
-        until,
-    )))
+    let transfer = waveform.transfer(drive, swing, positive_drives_black, until);
+    Some((transfer, !cut))
+}
+
+/// The reference's transfer, with nothing added where the ends of a whole display's have met: they
+/// take every state to one, however it came about.
+fn combined_answer(arguments: &mut Arguments) -> Option<Vec<i128>> {
+    let (transfer, whole) = displayed(arguments)?;
+    let [add, lo, hi] = inside::transfer(transfer);
+    let counts = !whole || lo < hi;
+    Some(decimals![if counts { add } else { 0 }, lo, hi].to_vec())
 }
 
 fn whole_or_cut_question(_: u64, random: &mut Random) -> Vec<i128> {
@@ -165,7 +171,12 @@ pub(super) fn leaves() -> Vec<Leaf> {
         },
         Leaf {
             name: "transfer",
-            answer: transfer_answer,
+            answer: |arguments| Some(numbers(displayed(arguments)?.0)),
+            question: whole_or_cut_question,
+        },
+        Leaf {
+            name: "combined",
+            answer: combined_answer,
             question: whole_or_cut_question,
         },
     ]);

@@ -19,7 +19,7 @@ enum-known-drives c = search needs
 transfer-requires : tie.Need-transfer-requires
 transfer-requires c κs =
     let call = c .before .before .before in
-    call .before .pre _ (border-takes _ _ (sym (call .border-drive .ensures) ∙ c .before .drives .given .1))
+    (call .before .pre .walkable _ (border-takes _ _ (sym (call .border-drive .ensures) ∙ c .before .drives .given .1)), call .before .pre .some)
 
 apply-requires : tie.Need-apply-requires
 apply-requires c κs = search needs
@@ -34,7 +34,7 @@ returns c =
     let a = call .before .args in
     let p = a .panel in
     let border =
-    got (c .apply .ok) (c .apply .ensures ∙ (λ i. applyT (c .before .before .transfer .ensures i) (field-back (p .border) (c .before .struct-told .given .1 .0 .1) i)))
+    got (c .apply .ok) (c .apply .ensures ∙ ap (applyT (c .before .before .transfer .result)) (field-back (p .border) (c .before .struct-told .given .1 .0 .1)) ∙ c .before .before .transfer .ensures .0 (p .border))
     ∙ ap (λ (b : Border). borderBy (transferIn (a .refresh)) b (p .border)) (sym (told .drives .given .1) ∙ call .border-drive .ensures) in
     λ i. record { swing = p .swing; border = border i; image = p .image }
 

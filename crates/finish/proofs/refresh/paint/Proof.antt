@@ -12,7 +12,6 @@ use Rattle.glass.specs.Greys.{grayZ}
 use Rattle.glass_tables.specs.declared.Move.{Move}
 use Rattle.glass_tables.specs.Moves.{Word, movedBy}
 use Rattle.glass_tables.proofs.Moved.{word}
-use Rattle.numbers.specs.Lists.{tab}
 use Rattle.numbers.proofs.Lin.{rd, got, field-back}
 use Rattle.numbers.proofs.Painted.{Painted, painted-none, painted-more, painted-all, painted-next, tab-ext}
 use Rattle.panel.specs.Pixels.{stateBy, statesBy, grays}

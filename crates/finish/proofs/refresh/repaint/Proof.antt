@@ -1,7 +1,6 @@
 -- `finish::refresh::repaint` meets its contract. Assumes nothing.
 use mathlib.Core.Path.{_≡_, ap, _∙_}
 use Rattle.panel.specs.Pixels.{grays}
-use Rattle.finish.proofs.Moves.{movable}
 use Rattle.finish.proofs.Steps.{table-is}
 use borrow.Author.Needs.{needs}
 use Rattle.finish.proofs.refresh.repaint.Statement.{statement}
@@ -14,7 +13,7 @@ paint-requires : tie.Need-paint-requires
 paint-requires c κs =
     let ts = c .before .before in
     let s = ts .before .before .before in
-    (s .pre, movable (s .args .refresh) _ (s .pre .some) (ts .transfers .ensures))
+    (s .pre, ts .transfers .ensures .1)
 
 same-length : tie.Need-same-length
 same-length c = search needs
@@ -27,7 +26,7 @@ returns c =
     let call = c .before .before .before in
     let ts = call .before .before .before in
     let a = ts .before .before .before .args in
-    let states = table-is (a .refresh) (a .luts .now) (a .states .now) (ts .transfers .result) (ts .transfers .ensures) in (
+    let states = table-is (a .refresh) (a .luts .now) (a .states .now) (ts .transfers .result) (ts .transfers .ensures .0) in (
       call .paint .ensures .0 ∙ states,
       call .paint .ensures .1 ∙ ap (grays _) states,
     )

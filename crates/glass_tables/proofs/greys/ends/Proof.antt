@@ -1,12 +1,12 @@
 -- `glass_tables::greys::ends` meets its contract: after i turns the first i ends are filled. Assumes nothing.
-use mathlib.Core.Path.{_≡_, ap, _∙_}
-use Prim.Native.Nat.{ℕ, _-_, _≤_, _<_}
+use mathlib.Core.Path.{ap, _∙_}
+use Prim.Native.Nat.{ℕ, _-_, _≤_}
 use native.Mathlib.Omega.{arith}
 use lib.IntN.{natAbs}
 use mir.Syntax.{w64}
 use mir.Val.{toZ}
 use Rattle.numbers.specs.Lists.{tab}
-use Rattle.numbers.proofs.Lin.{whole, rd, ranged, unsigned, abs-back, abs-pos}
+use Rattle.numbers.proofs.Lin.{whole, ranged, unsigned, abs-back, abs-pos}
 use Rattle.numbers.proofs.Painted.{Painted, painted-none, painted-more, painted-all}
 use Rattle.glass_tables.specs.Greys.{endOf, endsOf}
 use Rattle.glass_tables.proofs.greys.ends.Statement.{statement}

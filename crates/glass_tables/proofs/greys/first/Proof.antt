@@ -1,6 +1,6 @@
 -- `glass_tables::greys::first` meets its contract: a state that a step begins with fits 63 bits. Assumes nothing.
 use mathlib.Core.Path.{_≡_, ap, _∙_}
-use Prim.Native.Nat.{ℕ, _*_, _^_, _<_, _%_}
+use Prim.Native.Nat.{_*_, _^_, _<_, _%_}
 use native.Mathlib.Omega.{arith}
 use native.Mathlib.Nat.{mul-le-mul}
 use lib.Pow.{pow-mono, shl-exact}

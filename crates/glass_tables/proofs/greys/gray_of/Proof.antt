@@ -1,11 +1,11 @@
 -- `glass_tables::greys::gray_of` meets its contract. Assumes nothing.
-use mathlib.Core.Path.{_≡_, sym, ap, subst, _∙_}
+use mathlib.Core.Path.{_≡_, sym, ap, _∙_}
 use mathlib.Core.List.{List}
 use Prim.Native.Nat.{ℕ, _+_, _*_, _/_, _^_, _≤_, _<_}
 use native.Mathlib.Omega.{arith}
 use lib.ListN.{getD}
 use lib.Pow.{shr-mono}
-use lib.IntN.{ℤ, pos, natAbs}
+use lib.IntN.{pos, natAbs}
 use lib.Signed.{pos-natAbs}
 use Rattle.numbers.specs.Lists.{tab}
 use Rattle.numbers.proofs.Lin.{whole, rd, ranged, back, unsigned, abs-pos, abs-back, is-le}

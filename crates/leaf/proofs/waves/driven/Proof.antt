@@ -1,8 +1,20 @@
--- `leaf::waves::driven` is safe: its waveform is one that the walks take, since every period was tested.
-use borrow.Author.Needs.{needs}
+-- `leaf::waves::driven` is safe: its waveform is one that the walks take, since every period was tested, and so was the swing of what
+-- is combined.
+use lib.IntN.{pos}
+use Rattle.numbers.proofs.Lin.{rd, le-in, le-true}
+use Rattle.waveform.specs.Walks.{Walkable}
 use Rattle.waveform_laws.proofs.Decoded.{decoded-walkable}
+use borrow.Author.Needs.{needs}
 use Rattle.leaf.proofs.waves.driven.Statement.{statement}
 use Rattle.leaf.proofs.waves.driven.Tie as tie
+
+abbrev start : tie.After-from-setting → tie.Start
+start c = c .before .before .before .before .before .before .before .before .before .before .before
+
+walkable : (c : tie.After-from-setting) → Walkable (c .from-setting .result) (start c .args .drive)
+walkable c =
+    let tested = c .before .before .before in
+    decoded-walkable _ _ _ (c .from-setting .ensures) (tested .before .lasting .ensures (tested .if1 .taken)) (start c .pre)
 
 signed-requires : tie.Need-signed-requires
 signed-requires c κs = search needs
@@ -26,10 +38,7 @@ from-setting-requires : tie.Need-from-setting-requires
 from-setting-requires c κs = search needs
 
 transfer-requires : tie.Need-transfer-requires
-transfer-requires c κs =
-    let tested = c .before .before .before in
-    let start = tested .before .before .before .before .before .before .before .before in
-    decoded-walkable _ _ _ (c .from-setting .ensures) (tested .before .lasting .ensures (tested .if1 .taken)) (start .pre)
+transfer-requires c κs = walkable (c .before)
 
 put-requires : tie.Need-put-requires
 put-requires c κs = search needs
@@ -37,8 +46,23 @@ put-requires c κs = search needs
 returns : tie.Need-returns
 returns c = search needs
 
+transfer-requires-2 : tie.Need-transfer-requires-2
+transfer-requires-2 c κs =
+    let made = c .before .before in
+    let swing = rd (made .before .before .before .before .before .before .before .before .before .signed .result) in
+    (walkable made, le-in (pos 1) swing (le-true (pos 1) swing (c .if3 .taken)))
+
+put-requires-2 : tie.Need-put-requires-2
+put-requires-2 c κs = search needs
+
 returns-2 : tie.Need-returns-2
 returns-2 c = search needs
+
+returns-3 : tie.Need-returns-3
+returns-3 c = search needs
+
+returns-4 : tie.Need-returns-4
+returns-4 c = search needs
 
 pub driven-spec : {M : Type 1} → statement M
 driven-spec =
@@ -54,4 +78,8 @@ driven-spec =
     transfer-requires
     put-requires
     returns
-    returns-2)
+    transfer-requires-2
+    put-requires-2
+    returns-2
+    returns-3
+    returns-4)

@@ -1,0 +1,4 @@
+-- Laws of combine that belong to no one function.
+pub mod Powers
+pub mod Unique
+pub mod Phases

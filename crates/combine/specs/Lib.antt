@@ -1,0 +1,3 @@
+-- The root of combine's specs.
+pub mod Settled
+pub mod Acts
