@@ -1,6 +1,6 @@
 -- Gates and rows are one to one (#113): in every scan order, for 1 to 680 lines, with GD off or an even number of lines, each gate that is scanned has
 -- one row and each row one gate. The native scan of a geometry that start accepts is an instance, so that the list which `gate_of_row` fills is the table
--- of the inverse, in both row orders; and no order that 0x01 sets loses a line of such a glass.
+-- of the inverse, in both row orders; and no order that 0x01 sets, with GD off or an even height, loses a line of such a glass.
 -- Assumes nothing.
 use mathlib.Core.Path.{_≡_, refl, sym, ap, _∙_}
 use mathlib.Core.Bool.{Bool, true, false}
@@ -181,9 +181,9 @@ module _ (g : PanelGeometry) (asked : Scanned (g .«native_scan») (g .height)) 
   gates-table rows len =
       sym (stored-is g h rows) ∙ scatter-tab h (physicalRow g) (gateOfRow g) rows len gate-within row-of-gate-of-row gate-of-row-of-gate
 
-  -- every line of the glass scanned, in any order that 0x01 sets: each row of the RAM is shown by exactly one row of the glass
-  pub no-line-lost : (order : GateScan) → Scanned order h → (row : ℕ) → row < h → ShownOnce g order row
-  no-line-lost order every row l =
+  -- every line of the glass scanned, with GD of the order off or an even height: each row of the RAM is shown by exactly one row of the glass
+  pub no-line-lost : (order : GateScan) → (order .gd ≡ true → h % 2 ≡ 0) → (row : ℕ) → row < h → ShownOnce (gateOfRow g) h order row
+  no-line-lost order even row l =
       record {
         place = physicalRow g gate;
         within = row-within gate gate-lt;
@@ -197,7 +197,7 @@ module _ (g : PanelGeometry) (asked : Scanned (g .«native_scan») (g .height)) 
       }
     where
       pairs : OneToOne order h
-      pairs = gates-and-rows order h every
+      pairs = gates-and-rows order h (record { some = asked .some; most = asked .most; even = even })
 
       gate : ℕ
       gate = gateOf (order .sm) (order .gd) row h

@@ -37,11 +37,11 @@ pub record OneToOne (scan : GateScan) (lines : ℕ) : Type 0 where
   pub gate-again : (gate : ℕ) → gate < lines → gateOf (scan .sm) (scan .gd) (rowOf (scan .sm) (scan .gd) gate lines) lines ≡ gate
   pub row-again : (row : ℕ) → row < lines → rowOf (scan .sm) (scan .gd) (gateOf (scan .sm) (scan .gd) row lines) lines ≡ row
 
--- that a row of the RAM is shown by exactly one row of the glass, when every line of the glass is scanned in an order that 0x01 sets
-pub record ShownOnce (g : PanelGeometry) (scan : GateScan) (row : ℕ) : Type 0 where
+-- that a row of the RAM is shown by exactly one of so many rows of the glass, by the gate of each and the order in which they are scanned
+pub record ShownOnce (gate : ℕ → ℕ) (lines : ℕ) (scan : GateScan) (row : ℕ) : Type 0 where
   -- a row of the glass whose gate shows the RAM's row
   pub place : ℕ
-  pub within : place < g .height
-  pub shows : rowOfGate (gateOfRow g place) scan (g .height) ≡ Is row
+  pub within : place < lines
+  pub shows : rowOfGate (gate place) scan lines ≡ Is row
   -- and no other
-  pub alone : (y : ℕ) → y < g .height → rowOfGate (gateOfRow g y) scan (g .height) ≡ Is row → y ≡ place
+  pub alone : (y : ℕ) → y < lines → rowOfGate (gate y) scan lines ≡ Is row → y ≡ place
