@@ -36,13 +36,13 @@ pub(super) fn transfers(table: &Table) {
         ("Mode One", otp[0].setting, 1000),
         ("Mode Two", otp[2].setting, 1000),
         ("ten groups of 2 repeats", ten_groups(1), 1000),
-        ("ten groups of 256 repeats", long, 1),
+        ("ten groups of 256 repeats", long, 20),
     ];
     for (what, setting, count) in settings {
         walked(table, &format!("transfer, {what}, walked"), &setting, None, count);
         combined(table, &format!("transfer, {what}, combined"), &setting, count);
     }
-    walked(table, "transfer, ten groups of 256 repeats, cut in the middle", &long, Some(middle), 1);
+    walked(table, "transfer, ten groups of 256 repeats, cut in the middle", &long, Some(middle), 20);
 }
 
 fn walked(table: &Table, what: &str, setting: &[u8; 112], until: Option<u64>, count: usize) {

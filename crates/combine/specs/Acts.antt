@@ -25,7 +25,7 @@ unfoldable pub again : ℕ → (ℕ → ℕ) → ℕ → ℕ
 again zero f x = x
 again (suc n) f x = f (again n f x)
 
--- r acts as `from` does and then, n times, as t does: at every swing of 64 bits
+-- r acts as `from` does and then, n times, as t does: at every swing up to 2^63 − 1
 pub record Repeated (from t : Transfer) (n : ℕ) (r : Transfer) : Type 0 where
   pub acts : (S : ℕ) → S ≤ 9223372036854775807 → (f g : ℕ → ℕ) → ActsAs S from g → ActsAs S t f → ActsAs S r (λ x. again n f (g x))
 

@@ -16,7 +16,7 @@ use Rattle.waveform.specs.Walks.{wholeOf, cutOf}
 abbrev pub Alike : Transfer → Transfer → Type 0
 Alike t u = (z : ℤ) → applyT t z ≡ applyT u z
 
--- a transfer whose ends have met takes every number to one: what it adds no longer counts, and is 0
+-- a transfer whose ends have met takes every number to one: what it adds no longer counts, and is 0 (a display's has lo ≤ hi)
 unfoldable pub settled : Transfer → Transfer
 settled t = pick (leZ (t .hi) (t .lo)) (record { add = pos 0; lo = t .lo; hi = t .hi }) t
 

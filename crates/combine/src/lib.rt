@@ -46,8 +46,8 @@ fn then_phase(driving: Driving, group: Group, at: usize, transfer: Transfer) -> 
     walk::phases::push(driving, phase, phase.frames, transfer)
 }
 
-// `transfer`, then the four phases of a group, once; one of 0 frames is passed over. A loop, so that the compiler puts one phase in its
-// place and a state never leaves the registers.
+// `transfer`, then the four phases of a group, once; one of 0 frames is passed over. A loop, and below one call of it: a function
+// with one caller is inlined there, so that no group is copied for a phase and a transfer stays in registers.
 fn pass(driving: Driving, group: Group, transfer: Transfer) -> Transfer
     requires { ⌜ Drivable driving ⌝ }
     ensures { λ r. ⌜ r ≡ foldl (wholeStep driving) transfer (fourIn driving group) ⌝ }

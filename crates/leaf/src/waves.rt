@@ -106,7 +106,7 @@ fn until(numbers: &[u64]) -> Until {
     Until::Whole
 }
 
-// What a drive does under the question's waveform, walked or combined; no number where a period is 0, or no swing is combined.
+// What a drive does under the question's waveform, walked or combined; no number where a period is 0, or, combined, the swing is below 1.
 fn driven(
     text: &mut [u8; text::ROOM],
     at: usize,
