@@ -1,6 +1,6 @@
--- Gates and rows are one to one: in every scan order, for up to 680 lines, with GD off or an even number of lines, each gate that is scanned has
+-- Gates and rows are one to one (#113): in every scan order, for 1 to 680 lines, with GD off or an even number of lines, each gate that is scanned has
 -- one row and each row one gate. The native scan of a geometry that start accepts is an instance, so that the list which `gate_of_row` fills is the table
--- of the inverse, in both row orders.
+-- of the inverse, in both row orders; and no order that 0x01 sets, with GD off or an even height, loses a line of such a glass.
 -- Assumes nothing.
 use mathlib.Core.Path.{_≡_, refl, sym, ap, _∙_}
 use mathlib.Core.Bool.{Bool, true, false}
@@ -16,9 +16,9 @@ use Rattle.numbers.proofs.Scattered.{scatter-tab}
 use Rattle.config.specs.declared.GateScan.{GateScan}
 use Rattle.config.specs.declared.PanelGeometry.{PanelGeometry}
 use Rattle.gates.specs.declared.Row.the-variants.{Is}
-use Rattle.gates.specs.Gates.{evenGates, rowOf, rowOfGate, nativeRow, physicalRow, gatesStored}
+use Rattle.gates.specs.Gates.{evenGates, rowOf, rowOfGate, rowOr, nativeRow, physicalRow, gatesStored}
 use Rattle.gates.proofs.Stored.{stored-is}
-use Rattle.gates_laws.specs.OneToOne.{gateOf, gateOfRow, OneToOne}
+use Rattle.gates_laws.specs.OneToOne.{gateOf, gateOfRow, Scanned, OneToOne, ShownOnce}
 
 -- ---- a choice by its test: by parity, and by order
 pick-of : {A : Type 0} (P : A → Type 0) (t : Bool) (a b : A) → (t ≡ true → P a) → (t ≡ false → P b) → P (pick t a b)
@@ -43,7 +43,7 @@ gate-below : (sm gd : Bool) (r h : ℕ) → (gd ≡ true → h % 2 ≡ 0) → r 
 unfolding gateOf
 gate-below false false r h v l = l
 gate-below false true r h v l = let e = v refl in by-parity (λ (g : ℕ). g < h) r (r + 1) (r - 1) (λ p. omega arith) (λ p. omega arith)
-gate-below true false r h v l = by-order (λ (g : ℕ). g < h) r (evenGates h) (2 * r) (2 * (r - evenGates h) + 1) (λ p. omega arith) (λ p. omega arith)
+gate-below true false r h v l = by-order (λ (g : ℕ). g < h) r (evenGates h) _ _ (λ p. omega arith) (λ p. omega arith)
 gate-below true true r h v l = let e = v refl in by-order (λ (g : ℕ). g < h) r (evenGates h) (2 * r + 1) (2 * (r - evenGates h)) (λ p. omega arith) (λ p. omega arith)
 
 gate-row : (sm gd : Bool) (g h : ℕ) → (gd ≡ true → h % 2 ≡ 0) → g < h → gateOf sm gd (rowOf sm gd g h) h ≡ g
@@ -83,17 +83,21 @@ row-gate true true r h v l =
     (λ p. by-parity (λ (k : ℕ). k ≡ r) (2 * r + 1) (m + (2 * r + 1) / 2) ((2 * r + 1) / 2) (λ q. omega arith) (λ q. omega arith))
     (λ p. by-parity (λ (k : ℕ). k ≡ r) (2 * (r - m)) (m + 2 * (r - m) / 2) (2 * (r - m) / 2) (λ q. omega arith) (λ q. omega arith))
 
-module _ (scan : GateScan) (lines : ℕ) (small : lines ≤ 680) (even : scan .gd ≡ true → lines % 2 ≡ 0) where
+module _ (scan : GateScan) (lines : ℕ) (asked : Scanned scan lines) where
+  even : scan .gd ≡ true → lines % 2 ≡ 0
+  even gd = let e = asked .even gd in omega (arith, e)
+
   there : (gate : ℕ) → gate < lines → rowOfGate gate scan lines ≡ Is (rowOf (scan .sm) (scan .gd) gate lines)
   unfolding rowOfGate
   there gate l =
       let row = rowOf (scan .sm) (scan .gd) gate lines in
       let k = row-below (scan .sm) (scan .gd) gate lines even l in
-      rw (lt-ltb gate lines l, lt-ltb row lines k, lt-ltb row 680 (omega arith))
+      let most = asked .most in
+      rw (lt-ltb gate lines l, lt-ltb row lines k, lt-ltb row 680 (omega (arith, most)))
 
-  -- for 1 to 680 lines in every order, with GD off or an even number of lines
-  pub one-to-one : OneToOne scan lines
-  one-to-one =
+  -- for 1 to 680 lines in every order, with GD off or an even number of lines, gates and rows pair one to one
+  pub gates-and-rows : OneToOne scan lines
+  gates-and-rows =
       record {
         has-row = there;
         row-lt = λ gate l. row-below (scan .sm) (scan .gd) gate lines even l;
@@ -106,7 +110,7 @@ module _ (scan : GateScan) (lines : ℕ) (small : lines ≤ 680) (even : scan .g
       }
 
 -- ---- the glass
-module _ (g : PanelGeometry) (small : g .height ≤ 680) (even : g .«native_scan» .gd ≡ true → g .height % 2 ≡ 0) where
+module _ (g : PanelGeometry) (asked : Scanned (g .«native_scan») (g .height)) where
   abbrev h : ℕ
   h = g .height
 
@@ -114,7 +118,7 @@ module _ (g : PanelGeometry) (small : g .height ≤ 680) (even : g .«native_sca
   scan = g .«native_scan»
 
   paired : OneToOne scan h
-  paired = one-to-one scan h small even
+  paired = gates-and-rows scan h asked
 
   native-is : (gate : ℕ) → gate < h → nativeRow gate scan h ≡ rowOf (scan .sm) (scan .gd) gate h
   unfolding nativeRow
@@ -155,6 +159,14 @@ module _ (g : PanelGeometry) (small : g .height ≤ 680) (even : g .«native_sca
       by true = rw (twice (rowOf (scan .sm) (scan .gd) gate h) (paired .row-lt gate l)) (paired .gate-again gate l)
       by false = paired .gate-again gate l
 
+  pub row-within : (gate : ℕ) → gate < h → physicalRow g gate < h
+  unfolding physicalRow
+  row-within gate l = rw (native-is gate l) (by (g .«rows_reversed»))
+    where
+      by : (b : Bool) → pick b (h - 1 - rowOf (scan .sm) (scan .gd) gate h) (rowOf (scan .sm) (scan .gd) gate h) < h
+      by true = flipped (rowOf (scan .sm) (scan .gd) gate h) (paired .row-lt gate l)
+      by false = paired .row-lt gate l
+
   -- under the native scan the RAM's rows lie on the glass in sequence, from the top or from the bottom
   pub in-sequence : (y : ℕ) → y < h → rowOfGate (gateOfRow g y) scan h ≡ Is (pick (g .«rows_reversed») (h - 1 - y) y)
   unfolding gateOfRow
@@ -168,3 +180,27 @@ module _ (g : PanelGeometry) (small : g .height ≤ 680) (even : g .«native_sca
   pub gates-table : (rows : List ℕ) → length rows ≡ h → gatesStored g h rows ≡ tab h (gateOfRow g)
   gates-table rows len =
       sym (stored-is g h rows) ∙ scatter-tab h (physicalRow g) (gateOfRow g) rows len gate-within row-of-gate-of-row gate-of-row-of-gate
+
+  -- every line of the glass scanned, with GD of the order off or an even height: each row of the RAM is shown by exactly one row of the glass
+  pub no-line-lost : (order : GateScan) → (order .gd ≡ true → h % 2 ≡ 0) → (row : ℕ) → row < h → ShownOnce (gateOfRow g) h order row
+  no-line-lost order even row l =
+      record {
+        place = physicalRow g gate;
+        within = row-within gate gate-lt;
+        shows = ap (λ (k : ℕ). rowOfGate k order h) (gate-of-row-of-gate gate gate-lt) ∙ pairs .has-gate row l;
+        alone = λ y k e.
+            sym (row-of-gate-of-row y k)
+            ∙ ap (physicalRow g)
+            (sym (pairs .gate-again (gateOfRow g y) (gate-within y k))
+            ∙ ap (λ (r : ℕ). gateOf (order .sm) (order .gd) r h)
+            (ap (λ r. rowOr r 0) (sym (pairs .has-row (gateOfRow g y) (gate-within y k)) ∙ e)));
+      }
+    where
+      pairs : OneToOne order h
+      pairs = gates-and-rows order h (record { some = asked .some; most = asked .most; even = even })
+
+      gate : ℕ
+      gate = gateOf (order .sm) (order .gd) row h
+
+      gate-lt : gate < h
+      gate-lt = pairs .gate-lt row l

@@ -1,0 +1,3 @@
+-- The laws of an accepted start.
+pub mod First
+pub mod Accepted

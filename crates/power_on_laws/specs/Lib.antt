@@ -1,0 +1,2 @@
+-- The root of power_on_laws' specs.
+pub mod First
