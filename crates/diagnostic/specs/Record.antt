@@ -1,8 +1,7 @@
 -- A diagnostic's number and fields, and its record of 16 bytes (SCOPE, Log; SCOPE, Diagnostics).
 use Prim.Native.Nat.{ℕ, _*_, _/_, _%_, _^_}
 use mathlib.Core.List.{List, [], _∷_}
-use Rattle.config.specs.declared.DisplayMode.{DisplayMode}
-use Rattle.config.specs.declared.DisplayMode.the-variants.{One, Two}
+use Rattle.config.specs.Mode.{modeNumber}
 use Rattle.diagnostic.specs.declared.Stage.{Stage}
 use Rattle.diagnostic.specs.declared.Stage.the-variants.{AnalogOn, TemperatureLoad, LutLoad, Display, HvReadyDetection, VciDetection, VcomSense}
 use Rattle.diagnostic.specs.declared.DiagnosticKind.{DiagnosticKind}
@@ -38,11 +37,6 @@ stageNumber Display = 3
 stageNumber HvReadyDetection = 4
 stageNumber VciDetection = 5
 stageNumber VcomSense = 6
-
--- the modes: 0 One, 1 Two
-abbrev pub modeNumber : DisplayMode → ℕ
-modeNumber One = 0
-modeNumber Two = 1
 
 -- 21 to 39, the cases of DiagnosticKind in its order
 abbrev pub numberOf : DiagnosticKind → ℕ

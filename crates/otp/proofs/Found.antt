@@ -10,13 +10,14 @@ use lib.Signed.{ltZ, leZ}
 use Rattle.numbers.specs.Choice.{pick}
 use Rattle.numbers.proofs.Lin.{whole, not-lt}
 use Rattle.config.specs.declared.DisplayMode.{DisplayMode}
+use Rattle.config.specs.Mode.{modeNumber}
 use Rattle.config.specs.Temperature.{sixteenthsOf}
 use Rattle.config.proofs.Registers.{ranged, low-bits}
 use Rattle.otp.specs.declared.Entry.{Entry}
 use Rattle.otp.specs.declared.Entry.the-variants.{At, Nothing}
 use Rattle.otp.specs.Table.{entriesOf, modeAt, lowerAt, upperAt, badTable}
 use Rattle.otp.specs.Search.{lastOf, Last}
-use Rattle.otp.specs.Waveform.{modeByte, covers, foundEntry}
+use Rattle.otp.specs.Waveform.{covers, foundEntry}
 use Rattle.otp.proofs.Search.{last-is, none-is, last-same, last-never}
 
 module _ (otp : List ℕ) (mode : DisplayMode) (register : ℕ) where
@@ -53,7 +54,7 @@ module _ (otp : List ℕ) (mode : DisplayMode) (register : ℕ) where
   pub coldest-uncovered : register % 4096 ≡ 0x800 → (entry : ℕ) → covers otp mode register entry ≡ false
   unfolding covers
   coldest-uncovered h entry =
-      middle (eqb (modeAt otp entry) (modeByte mode)) (leZ (sixteenthsOf register) (sixteenthsOf (upperAt otp entry)))
+      middle (eqb (modeAt otp entry) (modeNumber mode)) (leZ (sixteenthsOf register) (sixteenthsOf (upperAt otp entry)))
       (ap (λ t. ltZ (sixteenthsOf (lowerAt otp entry)) t) (coldest-is h) ∙ not-lt (sixteenthsOf (lowerAt otp entry)) (negsuc 2047) (let r = ranged (lowerAt otp entry) in omega whole))
     where
       middle : (a b : Bool) {t : Bool} → t ≡ false → a && t && b ≡ false

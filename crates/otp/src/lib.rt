@@ -8,7 +8,7 @@ ghost use Rattle.config.specs.Answer.{firstOf, answerOf};
 ghost use Rattle.config.specs.Temperature.{sixteenthsOf};
 ghost use Rattle.otp.specs.Table.{entriesOf, badEntry, badTable, tableTest};
 ghost use Rattle.otp.specs.Search.{anyOf, lastOf};
-ghost use Rattle.otp.specs.Waveform.{modeByte, covers, foundEntry, partOf};
+ghost use Rattle.otp.specs.Waveform.{covers, foundEntry, partOf};
 use config::ConfigError;
 use config::DisplayMode;
 use config::Temperature;
@@ -75,15 +75,6 @@ pub enum Entry {
     Nothing,
 }
 
-fn mode_byte(mode: DisplayMode) -> u8
-    ensures { λ r. ⌜ r ≡ modeByte mode ⌝ }
-{
-    match mode {
-        DisplayMode::One => 0,
-        DisplayMode::Two => 1,
-    }
-}
-
 fn sixteenths_of(register: u16) -> i16
     ensures { λ r. ⌜ r ≡ sixteenthsOf register ⌝ }
 {
@@ -96,7 +87,7 @@ fn covers_register(otp: &[u8], mode: DisplayMode, register: u16, entry: usize) -
     ensures { λ r. ⌜ r ≡ covers (now (otp .entry)) mode register entry ⌝ }
 {
     let at = ENTRY_BYTES * entry;
-    let byte = mode_byte(mode);
+    let byte = config::mode_number(mode);
     let lower = sixteenths_of(pair(otp, at + 2));
     let upper = sixteenths_of(pair(otp, at + 4));
     let temperature = sixteenths_of(register);
