@@ -5,15 +5,8 @@ use Prim.Native.Nat.{ℕ, _+_, _/_, _%_}
 use lib.Dec.{eqb, ltb, leb}
 use Rattle.numbers.specs.Choice.{pick}
 use Rattle.numbers.specs.Rows.{Row, lookup}
-use Rattle.voltage.specs.declared.Millivolts.{Millivolts}
-use Rattle.voltage.specs.declared.Millivolts.the-variants.{Listed, Unlisted}
-use Rattle.voltage.specs.Codes.{sourceVoltage, vslVoltage, vcomVoltage, gateListed}
+use Rattle.voltage.specs.Codes.{isVoltage, sourceVoltage, vslVoltage, vcomVoltage, gateListed}
 use Rattle.device.specs.declared.Registers.{Registers}
-
--- the code stands for a voltage
-abbrev pub isVoltage : Millivolts → Bool
-isVoltage (Listed millivolts) = true
-isVoltage Unlisted = false
 
 -- 0x01: byte B has bits 9:8 of MUX alone, and MUX + 1 is 300 to 680 lines; byte C has SM and GD alone, bits 1 and 2
 abbrev pub driverListed : ℕ → ℕ → ℕ → Bool

@@ -4,9 +4,7 @@ use mathlib.Core.List.{List, [], _∷_, _++_}
 use Prim.Native.Nat.{ℕ, _+_, _*_, _/_, _%_}
 use lib.Dec.{eqb, ltb}
 use lib.ListN.{length, getD}
-use Rattle.voltage.specs.declared.Millivolts.{Millivolts}
-use Rattle.voltage.specs.declared.Millivolts.the-variants.{Listed, Unlisted}
-use Rattle.voltage.specs.Codes.{sourceVoltage, vslVoltage, vcomVoltage}
+use Rattle.voltage.specs.Codes.{isVoltage, sourceVoltage, vslVoltage, vcomVoltage}
 use Rattle.config.specs.declared.Ssd1677Config.{Ssd1677Config}
 use Rattle.config.specs.Lowest.{lowest}
 use Rattle.config.specs.Answer.{Test}
@@ -62,16 +60,11 @@ badTable otp = not (eqb (length otp % entryBytes) 0) || ltb mostEntries (entries
 abbrev pub tableTest : List ℕ → Test
 tableTest otp = record { number = 12; value = 0; refuses = badTable otp }
 
--- the datasheet does not list the code
-abbrev pub unlisted : Millivolts → Bool
-unlisted (Listed v) = false
-unlisted Unlisted = true
-
--- one of bytes 106 to 109 of the setting, VSH1, VSH2, VSL and VCOM, is unlisted for its voltage
+-- one of bytes 106 to 109 of the setting, VSH1, VSH2, VSL and VCOM, stands for no voltage
 unfoldable pub unlistedVoltage : List ℕ → ℕ → Bool
 unlistedVoltage otp entry =
-    unlisted (sourceVoltage (settingAt otp entry 106)) || unlisted (sourceVoltage (settingAt otp entry 107))
-    || unlisted (vslVoltage (settingAt otp entry 108)) || unlisted (vcomVoltage (settingAt otp entry 109))
+    not (isVoltage (sourceVoltage (settingAt otp entry 106))) || not (isVoltage (sourceVoltage (settingAt otp entry 107)))
+    || not (isVoltage (vslVoltage (settingAt otp entry 108))) || not (isVoltage (vcomVoltage (settingAt otp entry 109)))
 
 -- the first entry with an unlisted voltage, or the number of entries
 abbrev pub unlistedEntry : List ℕ → ℕ
