@@ -24,6 +24,7 @@ use Rattle.waveform.specs.declared.Drive.the-variants.{Lut}
 use Rattle.waveform.specs.declared.Until.{Until}
 use Rattle.waveform.specs.declared.Until.the-variants.{Whole, Cut}
 use Rattle.waveform.specs.Exact.{settingPhases}
+use Rattle.waveform.specs.Walks.{wholeTransfer, cutTransfer}
 use Rattle.waveform_laws.proofs.Exactly.{whole-exact, cut-exact}
 use Rattle.panel.specs.Pixels.{stateBy, statesBy, grays}
 use Rattle.panel.specs.Finish.{Ending, settingTransfer, transferBy}
@@ -38,7 +39,7 @@ undriven transfer lut state h = rw (le-ltb lut 4 h)
 -- ---- driven
 module _ (e : Ending) (S : ℕ) (some : 1 ≤ S) (room : S ≤ 9223372036854775807) (told : Told (e .until)) where
   pub drive-exactly : (drive : Drive) (x : ℕ) → x ≤ S → applyT (transferBy e (pos S) drive) (pos x) ≡ pos (drives S (exactDrives e drive) x)
-  unfolding transferBy
+  unfolding transferBy wholeTransfer cutTransfer
   drive-exactly drive x h = by (e .until) told
     where
       by : (until : Until) → Told until
