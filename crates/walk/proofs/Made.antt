@@ -64,9 +64,3 @@ ready-step d l t r h =
 -- one walk, then another
 pub then-on : {A : Type 0} (step : A → Phase → A) (w : A) (xs ys : List Phase) {one two : A} → one ≡ foldl step w xs → two ≡ foldl step one ys → two ≡ foldl step w (xs ++ ys)
 then-on {A} step w xs ys p q = q ∙ ap (λ (v : A). foldl step v ys) p ∙ sym (foldl-append step w xs ys)
-
--- four phases of a group
-pub four-made : (d : Driving) (g : Group) {p q r s : Phase} → p ≡ phaseIn d g 0 → q ≡ phaseIn d g 1 → r ≡ phaseIn d g 2 → s ≡ phaseIn d g 3
-    → ((driven p ++ driven q) ++ driven r) ++ driven s ≡ fourIn d g
-unfolding joined
-four-made d g h₀ h₁ h₂ h₃ = λ i. ((driven (h₀ i) ++ driven (h₁ i)) ++ driven (h₂ i)) ++ driven (h₃ i)

@@ -14,9 +14,9 @@ use waveform::Waveform;
 ghost use mathlib.Core.Path.{_≡_};
 ghost use mathlib.Core.List.{foldl};
 ghost use Prim.Native.Nat.{_/_, _<_};
-ghost use Rattle.waveform.specs.Phases.{Timed, driven};
+ghost use Rattle.waveform.specs.Phases.{Timed, driven, phasesIn};
 ghost use Rattle.waveform.specs.Walks.{Drivable, Walkable, groupIn, groupsIn, stepped, wholeStep, cutStep, cutShort, wholeOf, cutOf, transferOf};
-ghost use Rattle.walk.specs.Ready.{Ready, phasesIn};
+ghost use Rattle.walk.specs.Ready.{Ready};
 
 // ---- the whole display
 
@@ -172,7 +172,7 @@ fn cut_pass(
     progress: Progress,
 ) -> Progress
     requires { ⌜ Ready driving first × Ready driving second × Ready driving third × Ready driving fourth ⌝ }
-    ensures { λ r. ⌜ r ≡ foldl (cutStep driving until) progress (phasesIn first second third fourth) ⌝ }
+    ensures { λ r. ⌜ r ≡ foldl (cutStep driving until) progress (phasesIn (first .step .phase) (second .step .phase) (third .step .phase) (fourth .step .phase)) ⌝ }
 {
     if progress.stopped {
         return progress;

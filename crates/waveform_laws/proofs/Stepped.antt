@@ -13,7 +13,7 @@ use Rattle.waveform.specs.declared.Driving.{Driving}
 use Rattle.waveform.specs.declared.Group.{Group}
 use Rattle.waveform.specs.declared.Phase.{Phase}
 use Rattle.waveform.specs.declared.Step.{Step}
-use Rattle.waveform.specs.Phases.{driven, joined}
+use Rattle.waveform.specs.Phases.{driven, phasesIn, joined}
 use Rattle.waveform.specs.Walks.{phaseIn, fourIn, saturatedDrive, stepOf, stepped, pushed, wholeStep}
 use Rattle.waveform_laws.proofs.Joined.{fold-none, fold-more}
 
@@ -46,20 +46,25 @@ pub stepped-some : (d : Driving) (s : Step) (t : Transfer) → (s .phase .frames
 unfolding stepped
 stepped-some d s t h = simp (ne-eqb (s .phase .frames) 0 h)
 
--- the phases of four steps
-abbrev pub passed : Step → Step → Step → Step → List Phase
-passed a b c e = ((driven (a .phase) ++ driven (b .phase)) ++ driven (c .phase)) ++ driven (e .phase)
+-- the phase of a step
+pub phase-is : (d : Driving) {s : Step} {p : Phase} → s ≡ stepOf d p → s .phase ≡ p
+unfolding stepOf
+phase-is d h = ap (λ (s : Step). s .phase) h
+
+-- the four phases of a group
+pub four-is : (d : Driving) (g : Group) {p q r s : Phase} → p ≡ phaseIn d g 0 → q ≡ phaseIn d g 1 → r ≡ phaseIn d g 2 → s ≡ phaseIn d g 3 → phasesIn p q r s ≡ fourIn d g
+unfolding joined
+four-is d g h₀ h₁ h₂ h₃ = λ i. phasesIn (h₀ i) (h₁ i) (h₂ i) (h₃ i)
 
 module _ (d : Driving) (g : Group) {a b c e : Step} (h₀ : a ≡ stepOf d (phaseIn d g 0)) (h₁ : b ≡ stepOf d (phaseIn d g 1)) (h₂ : c ≡ stepOf d (phaseIn d g 2)) (h₃ : e ≡ stepOf d (phaseIn d g 3)) where
-  pub four-is : passed a b c e ≡ fourIn d g
-  unfolding joined stepOf
-  four-is = λ i. ((driven (h₀ i .phase) ++ driven (h₁ i .phase)) ++ driven (h₂ i .phase)) ++ driven (h₃ i .phase)
+  pub steps-are : phasesIn (a .phase) (b .phase) (c .phase) (e .phase) ≡ fourIn d g
+  steps-are = four-is d g (phase-is d h₀) (phase-is d h₁) (phase-is d h₂) (phase-is d h₃)
 
-  pub pass-is : (t : Transfer) → stepped d e (stepped d c (stepped d b (stepped d a t))) ≡ foldl (wholeStep d) t (passed a b c e)
+  pub pass-is : (t : Transfer) → stepped d e (stepped d c (stepped d b (stepped d a t))) ≡ foldl (wholeStep d) t (phasesIn (a .phase) (b .phase) (c .phase) (e .phase))
   pass-is t =
       let f : ℕ → List Phase = λ k. driven (phaseIn d g k) in
       let one = fold-more (wholeStep d) t f 0 (fold-none (wholeStep d) t f) (ap (λ (s : Step). stepped d s t) h₀ ∙ step-is d (phaseIn d g 0) t) in
       let two = fold-more (wholeStep d) t f 1 one (ap (λ (s : Step). stepped d s (stepped d a t)) h₁ ∙ step-is d (phaseIn d g 1) (stepped d a t)) in
       let three = fold-more (wholeStep d) t f 2 two (ap (λ (s : Step). stepped d s (stepped d b (stepped d a t))) h₂ ∙ step-is d (phaseIn d g 2) (stepped d b (stepped d a t))) in
       fold-more (wholeStep d) t f 3 three (ap (λ (s : Step). stepped d s (stepped d c (stepped d b (stepped d a t)))) h₃ ∙ step-is d (phaseIn d g 3) (stepped d c (stepped d b (stepped d a t))))
-      ∙ sym (ap (foldl (wholeStep d) t) four-is)
+      ∙ sym (ap (foldl (wholeStep d) t) steps-are)
