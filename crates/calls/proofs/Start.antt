@@ -1,11 +1,11 @@
 -- An accepted start leaves a sound state and sound buffers; the state that a refused one hands back, every call refuses with 13.
 -- Assumes nothing.
-use Prim.Native.Nat.{ℕ, zero, suc, zero-le, _≤_}
+use Prim.Native.Nat.{ℕ, zero-le, _≤_}
 use mathlib.Core.Path.{_≡_, refl, sym, ap, subst, _∙_}
 use mathlib.Core.Bool.{true, false}
 use mathlib.Core.List.{List, [], _∷_}
 use lib.IntN.{pos}
-use lib.ListN.{length, length-set}
+use lib.ListN.{length}
 use borrow.Author.Tests.{not-false}
 use Rattle.numbers.specs.Saturation.{satZ, least, most}
 use Rattle.numbers.proofs.Hold.{at-most}
@@ -15,7 +15,7 @@ use Rattle.config.specs.declared.PanelGeometry.{PanelGeometry}
 use Rattle.config.specs.declared.Ssd1677Config.{Ssd1677Config}
 use Rattle.config.specs.Answer.{isAccepted, firstOf}
 use Rattle.otp.specs.Table.{startTests}
-use Rattle.gates.specs.Gates.{physicalRow, gatesStored}
+use Rattle.gates.proofs.Stored.{gates-length}
 use Rattle.panel.specs.Start.{panelAtPowerOn, powerOn}
 use Rattle.panel_laws.proofs.Start.{some-swing}
 use Rattle.device.specs.declared.Current.the-variants.{Idle}
@@ -51,11 +51,6 @@ fine-swing n h =
 idle : currentFine Idle ≡ true
 unfolding currentFine
 idle = refl
-
-gates-length : (g : PanelGeometry) (n : ℕ) (rows : List ℕ) → length (gatesStored g n rows) ≡ length rows
-unfolding gatesStored
-gates-length g zero rows = refl
-gates-length g (suc n) rows = length-set (gatesStored g n rows) (physicalRow g n) n ∙ gates-length g n rows
 
 module _ (c : Ssd1677Config) (otp : List ℕ) (b : Buffers) where
   module _ (accepts : isAccepted (firstOf (allTests c otp (lengthsIn b))) ≡ true) where
