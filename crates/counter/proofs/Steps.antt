@@ -10,9 +10,7 @@ use Rattle.numbers.specs.Choice.{pick, bitOf}
 use Rattle.counter.specs.declared.Window.{Window}
 use Rattle.counter.specs.declared.Counter.{Counter}
 use Rattle.counter.specs.declared.Entry.{Entry}
-use Rattle.counter.specs.declared.Next.{Next}
-use Rattle.counter.specs.declared.Next.the-variants.{To, Past}
-use Rattle.counter.specs.Counter.{stepOf, isPast, byteStep, rowStep, rowAfter, pixelAfter, xFirst, yFirst, advancedOf}
+use Rattle.counter.specs.Counter.{Next, To, Past, stepOf, isPast, byteStep, rowStep, rowAfter, pixelAfter, xFirst, yFirst, advancedOf}
 
 never : {n : ℕ} → To n ≡ Past → ⊥
 never e = let z : _≡_ {A = ℕ} 0 1 = cc in omega arith

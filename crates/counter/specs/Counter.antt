@@ -6,8 +6,6 @@ use Rattle.numbers.specs.Choice.{pick, bitOf}
 use Rattle.counter.specs.declared.Window.{Window}
 use Rattle.counter.specs.declared.Counter.{Counter}
 use Rattle.counter.specs.declared.Entry.{Entry}
-use Rattle.counter.specs.declared.Next.{Next}
-use Rattle.counter.specs.declared.Next.the-variants.{To, Past}
 
 -- the window after reset: the whole RAM, 000h–3BFh by 000h–2A7h (ram.rs, `Window::RESET`)
 abbrev pub resetWindow : Window
@@ -16,6 +14,11 @@ resetWindow = record { «x_start» = 0; «x_end» = 959; «y_start» = 0; «y_en
 -- the data-entry mode after reset: 3, both increment and x moves first (datasheet; SCOPE, RAM)
 abbrev pub resetEntry : Entry
 resetEntry = record { 0 = 3 }
+
+-- where one step along an axis leads: to a place, or past the window's end
+pub data Next : Type 0 where
+  To : ℕ → Next
+  Past : Next
 
 -- a step along an axis towards the window's end: at or past the end there is none, otherwise it is one more or one less (§8.2–8.5)
 unfoldable pub stepOf : Bool → ℕ → ℕ → Next

@@ -4,8 +4,7 @@ use crate::Entry;
 use crate::Window;
 ghost use mathlib.Core.Path.{_≡_};
 ghost use mathlib.Core.Bool.{false};
-ghost use Rattle.counter.specs.Counter.{stepOf, isPast, byteStep, rowStep, rowAfter, pixelAfter};
-ghost use Rattle.counter.specs.declared.Next.the-variants.{To};
+ghost use Rattle.counter.specs.Counter.{To, stepOf, isPast, byteStep, rowStep, rowAfter, pixelAfter};
 
 // Whether one step along an axis is past the window's end.
 fn is_past(at: u16, end: u16, increments: bool) -> bool

@@ -3,8 +3,7 @@ use mathlib.Core.Path.{ap, _∙_}
 use mathlib.Core.Bool.{Bool}
 use Prim.Native.Nat.{_/_}
 use native.Mathlib.Omega.{arith}
-use Rattle.counter.specs.declared.Next.{Next}
-use Rattle.counter.specs.Counter.{stepOf, isPast, pixelAfter}
+use Rattle.counter.specs.Counter.{Next, stepOf, isPast, pixelAfter}
 use Rattle.counter.proofs.Steps.{step-below}
 use borrow.Author.Needs.{needs}
 use Rattle.counter.proofs.moves.next_x.Statement.{statement}

@@ -1,8 +1,7 @@
 -- `next_y` meets its contract.
 use mathlib.Core.Path.{ap, _∙_}
 use mathlib.Core.Bool.{Bool}
-use Rattle.counter.specs.declared.Next.{Next}
-use Rattle.counter.specs.Counter.{stepOf, isPast, rowAfter}
+use Rattle.counter.specs.Counter.{Next, stepOf, isPast, rowAfter}
 use borrow.Author.Needs.{needs}
 use Rattle.counter.proofs.moves.next_y.Statement.{statement}
 use Rattle.counter.proofs.moves.next_y.Tie as tie
