@@ -1,5 +1,5 @@
 -- Whether the datasheet lists a parameter byte, by command and index (Table 7-1, as mod.rs has it).
-use mathlib.Core.Bool.{Bool, true, false, not, _&&_, _||_}
+use mathlib.Core.Bool.{Bool, true, not, _&&_, _||_}
 use mathlib.Core.List.{List, [], _∷_}
 use Prim.Native.Nat.{ℕ, _+_, _/_, _%_}
 use lib.Dec.{eqb, ltb, leb}

@@ -1,5 +1,5 @@
 -- The table lent in place of the OTP: its entries, and what 12 and 6 refuse of them (SCOPE, OTP table; SCOPE, Refusals).
-use mathlib.Core.Bool.{Bool, true, false, _||_, not}
+use mathlib.Core.Bool.{Bool, _||_, not}
 use mathlib.Core.List.{List, [], _∷_, _++_}
 use Prim.Native.Nat.{ℕ, _+_, _*_, _/_, _%_}
 use lib.Dec.{eqb, ltb}
