@@ -118,7 +118,7 @@ leaves-stepped w =
       red-long = refl;
     }
 
-written-length : (p : List ℕ) (c : Counter) (byte : ℕ) → length (writtenAt p c byte) ≡ length p
+pub written-length : (p : List ℕ) (c : Counter) (byte : ℕ) → length (writtenAt p c byte) ≡ length p
 unfolding writtenAt
 written-length p c byte = by (indexOf c)
   where
