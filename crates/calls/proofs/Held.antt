@@ -76,8 +76,8 @@ module _ (luts : List ℕ) where
 held-read : (blackWhite red : List ℕ) (k : WithLog) (p : Power) → Held (k .device) → Held (readTaken blackWhite red k p .left .device)
 held-read blackWhite red k p h run =
     let l = read-leaves blackWhite red k p in
-    let u = h (ap (λ (x : Display). x .running) (sym (l .same-display)) ∙ run) in
-    under-way-kept (k .device) (readTaken blackWhite red k p .left .device) (l .same-display) (l .same-now) (l .same-power) (l .same-until)
+    let u = h (ap (λ (x : Display). x .running) (sym (l .rests .same-display)) ∙ run) in
+    under-way-kept (k .device) (readTaken blackWhite red k p .left .device) (l .rests .same-display) (l .rests .same-now) (l .same-power) (l .same-until)
     (current-read (λ (c : Current). inert c ≡ true) (λ a range nothing e. e) blackWhite red k p (u .inert-command)) u
 
 -- ---- every call

@@ -151,8 +151,8 @@ module _ (otp : List ℕ) (w : World) (s : Sound otp w) where
         let r = withRam (moved .device) (w .blackWhite) (w .red) (w .log) in
         let c = moved .device .bus .current in
         let l = data-leaves byte r c small in
-        let kept = l .sound (record { bounded = moved-bounded; room = moved-count; long = sound-long otp w s .log }) in
-        later-sound (taken otp w (write-data time byte)) (l .same-config) (ap (λ x. x .swing) (l .same-panel)) (kept .bounded) (kept .room)
+        let kept = l .rests .sound (record { bounded = moved-bounded; room = moved-count; long = sound-long otp w s .log }) in
+        later-sound (taken otp w (write-data time byte)) (l .rests .same-config) (ap (λ x. x .swing) (l .rests .same-panel)) (kept .bounded) (kept .room)
         (current-kept (λ (x : Current). currentFine x ≡ true) ignored goes-on byte r c refl moved-current) refl refl refl (kept .long)
         (l .black-white-long) (l .red-long) refl
 
@@ -162,8 +162,8 @@ module _ (otp : List ℕ) (w : World) (s : Sound otp w) where
         let k = withLog (moved .device) (w .log) in
         let p = moved .device .bus .power in
         let l = read-leaves (w .blackWhite) (w .red) k p in
-        let kept = l .sound (record { bounded = moved-bounded; room = moved-count; long = sound-long otp w s .log }) in
-        later-sound (taken otp w (read-data time)) (l .same-config) (ap (λ x. x .swing) (l .same-panel)) (kept .bounded) (kept .room)
+        let kept = l .rests .sound (record { bounded = moved-bounded; room = moved-count; long = sound-long otp w s .log }) in
+        later-sound (taken otp w (read-data time)) (l .rests .same-config) (ap (λ x. x .swing) (l .rests .same-panel)) (kept .bounded) (kept .room)
         (current-read (λ (x : Current). currentFine x ≡ true) reads-on (w .blackWhite) (w .red) k p moved-current) refl refl refl (kept .long)
         refl refl refl
 

@@ -38,41 +38,18 @@ fine-parts d e =
     (swingFine (d .panel .swing) ∷ periodsFine (d .config .timing .«frame_period») ∷ registersFine (d .regs) ∷ countFine (d .journal .count)
     ∷ currentFine (d .bus .current) ∷ [])
     e in
-    let r = fine-registers (d .regs) (at 3) in
     record {
       panel = at 0;
       swing = at 1;
       periods = at 2;
-      bounded =
-          record {
-            mux-ten = r .mux;
-            entry-three = r .entry;
-            window-ten = record { x-start-ten = r .x-start; x-end-ten = r .x-end; y-start-ten = r .y-start; y-end-ten = r .y-end };
-            counter-ten = record { x-ten = r .x; y-ten = r .y };
-            temperature-twelve = r .temperature;
-          };
+      bounded = fine-registers (d .regs) (at 3);
       count = leb-true (d .journal .count) 1024 (at 4);
       current = at 5;
     }
 
 pub fine-passes : (d : Ssd1677) → Fine d → stateFine d ≡ true
 fine-passes d f =
-    let b = f .bounded in
-    state-passes d (f .panel) (f .swing) (f .periods)
-    (registers-pass (d .regs)
-    (record {
-      mux = b .mux-ten;
-      x-start = b .window-ten .x-start-ten;
-      x-end = b .window-ten .x-end-ten;
-      y-start = b .window-ten .y-start-ten;
-      y-end = b .window-ten .y-end-ten;
-      x = b .counter-ten .x-ten;
-      y = b .counter-ten .y-ten;
-      entry = b .entry-three;
-      temperature = b .temperature-twelve;
-    }))
-    (le-leb (d .journal .count) 1024 (f .count))
-    (f .current)
+    state-passes d (f .panel) (f .swing) (f .periods) (registers-pass (d .regs) (f .bounded)) (le-leb (d .journal .count) 1024 (f .count)) (f .current)
 
 -- another state of the same panel, timing and swing
 pub fine-kept : (d e : Ssd1677) → Fine d → e .config .panel ≡ d .config .panel → e .config .timing ≡ d .config .timing

@@ -3,10 +3,9 @@
 use Prim.Native.Nat.{ℕ, zero-le, _≤_}
 use mathlib.Core.Path.{_≡_, refl, sym, ap, subst, _∙_}
 use mathlib.Core.Bool.{true, false}
-use mathlib.Core.List.{List, [], _∷_}
+use mathlib.Core.List.{List}
 use lib.IntN.{pos}
 use lib.ListN.{length}
-use borrow.Author.Tests.{not-false}
 use Rattle.numbers.specs.Saturation.{satZ, least, most}
 use Rattle.numbers.proofs.Hold.{at-most}
 use Rattle.numbers.proofs.Lin.{is-le, le-out, whole}
@@ -15,7 +14,6 @@ use Rattle.config.specs.declared.PanelGeometry.{PanelGeometry}
 use Rattle.config.specs.declared.Ssd1677Config.{Ssd1677Config}
 use Rattle.config.specs.Answer.{isAccepted, firstOf}
 use Rattle.otp.specs.Table.{startTests}
-use Rattle.gates.proofs.Stored.{gates-length}
 use Rattle.panel.specs.Start.{panelAtPowerOn, powerOn}
 use Rattle.panel_laws.proofs.Start.{some-swing}
 use Rattle.device.specs.declared.Current.the-variants.{Idle}
@@ -25,14 +23,14 @@ use Rattle.guard.specs.declared.Refusal.{Refusal}
 use Rattle.guard.specs.declared.Refusal.the-variants.{State}
 use Rattle.guard_lengths.specs.declared.Lengths.{Lengths}
 use Rattle.guard_kinds.specs.Kinds.{currentFine}
-use Rattle.guard_lengths.specs.Lengths.{lengthsFit}
 use Rattle.guard.specs.Refusals.{guarded, guardedWithTable}
 use Rattle.guard_state.specs.State.{swingFine, stateFine}
-use Rattle.guard_laws.proofs.Accepted.{none-refuses, FineLengths, fine-lengths}
-use Rattle.guard_laws.proofs.Started.{both, started-panel, started-swing, started-periods, started-table}
+use Rattle.guard_laws.proofs.Accepted.{FineLengths}
+use Rattle.guard_laws.proofs.Started.{started-panel, started-swing, started-periods, started-table}
 use Rattle.query.specs.Outcome.{outcome, unless, stateGuarded}
 use Rattle.query.specs.Queries.{WithCount, ambientSet, diagnosticsTaken}
-use Rattle.power_on.specs.Start.{Buffers, lengthsIn, bufferTest, allTests, poweredOn, cleared, filled, Powered, poweredUp, unstarted, started}
+use Rattle.power_on.specs.Start.{Buffers, lengthsIn, allTests, poweredOn, cleared, filled, Powered, poweredUp, unstarted, started}
+use Rattle.power_on.proofs.Accepted.{parameters, lengths, passed, left-is}
 use Rattle.power_on.proofs.Refused.{unstarted-refused}
 use Rattle.wait.specs.Wait.{clockMoved}
 use Rattle.res.specs.Line.{lineMoved}
@@ -55,15 +53,10 @@ idle = refl
 module _ (c : Ssd1677Config) (otp : List ℕ) (b : Buffers) where
   module _ (accepts : isAccepted (firstOf (allTests c otp (lengthsIn b))) ≡ true) where
     tests : isAccepted (firstOf (startTests c otp)) ≡ true
-    tests = both (startTests c otp) (bufferTest (c .panel) (lengthsIn b) ∷ []) accepts .0
+    tests = parameters c otp (lengthsIn b) accepts
 
-    fit : lengthsFit (c .panel) (lengthsIn b) ≡ true
-    fit =
-        not-false (lengthsFit (c .panel) (lengthsIn b))
-        (none-refuses (bufferTest (c .panel) (lengthsIn b)) [] (both (startTests c otp) (bufferTest (c .panel) (lengthsIn b) ∷ []) accepts .1) .0)
-
-    lengths : FineLengths (c .panel) (lengthsIn b)
-    lengths = fine-lengths (c .panel) (lengthsIn b) fit
+    long : FineLengths (c .panel) (lengthsIn b)
+    long = lengths c otp (lengthsIn b) accepts
 
     powered-fine : Fine (poweredUp c b .device)
     unfolding poweredUp poweredOn panelAtPowerOn
@@ -81,13 +74,13 @@ module _ (c : Ssd1677Config) (otp : List ℕ) (b : Buffers) where
     unfolding poweredUp filled powerOn cleared
     powered-long =
         record {
-          states = length-tab (length (b .states)) _ ∙ lengths .states;
-          luts = length-tab (length (b .luts)) _ ∙ lengths .luts;
-          pixels = length-tab (length (b .pixels)) _ ∙ lengths .pixels;
-          log = length-tab (length (b .log)) _ ∙ lengths .log (length (b .log)) refl;
-          black-white = length-tab (length (b .blackWhite)) _ ∙ lengths .black-white (length (b .blackWhite)) refl;
-          red = length-tab (length (b .red)) _ ∙ lengths .red (length (b .red)) refl;
-          gates = gates-length (c .panel) (c .panel .height) (b .gates) ∙ lengths .gates (length (b .gates)) refl;
+          states = length-tab (length (b .states)) _ ∙ long .states;
+          luts = length-tab (length (b .luts)) _ ∙ long .luts;
+          pixels = length-tab (length (b .pixels)) _ ∙ long .pixels;
+          log = length-tab (length (b .log)) _ ∙ long .log (length (b .log)) refl;
+          black-white = length-tab (length (b .blackWhite)) _ ∙ long .black-white (length (b .blackWhite)) refl;
+          red = length-tab (length (b .red)) _ ∙ long .red (length (b .red)) refl;
+          gates = length-tab (c .panel .height) _;
         }
 
     same-panel : poweredUp c b .device .config .panel ≡ c .panel
@@ -99,16 +92,8 @@ module _ (c : Ssd1677Config) (otp : List ℕ) (b : Buffers) where
         is-sound otp (worldOf (poweredUp c b)) (started-table c otp tests) powered-fine
         (subst (λ (p : PanelGeometry). Long p (worldOf (poweredUp c b))) (sym same-panel) powered-long)
 
-  accepted-left : isAccepted (started c otp b .answer) ≡ true → started c otp b .left ≡ poweredUp c b
-  unfolding started
-  accepted-left h = rw h
-
-  accepted-tests : isAccepted (started c otp b .answer) ≡ true → isAccepted (firstOf (allTests c otp (lengthsIn b))) ≡ true
-  unfolding started
-  accepted-tests h = h
-
   pub started-sound : isAccepted (started c otp b .answer) ≡ true → Sound otp (worldOf (started c otp b .left))
-  started-sound h = subst (λ (p : Powered). Sound otp (worldOf p)) (sym (accepted-left h)) (powered-sound (accepted-tests h))
+  started-sound h = subst (λ (p : Powered). Sound otp (worldOf p)) (sym (left-is c otp b h)) (powered-sound (passed c otp b h))
 
   pub refused-start : isAccepted (started c otp b .answer) ≡ false → stateFine (started c otp b .left .device) ≡ false
   unfolding started

@@ -69,4 +69,4 @@ held-data byte w small h = by (w .device .display .running) refl
     by true e = let u = h e in λ run. data-under-way w u byte (w .device .bus .current) (u .inert-command)
     by false e =
         held-still (dataTaken byte w (w .device .bus .current) .device)
-        (ap (λ (x : Display). x .running) (data-leaves byte w (w .device .bus .current) small .same-display) ∙ e)
+        (ap (λ (x : Display). x .running) (data-leaves byte w (w .device .bus .current) small .rests .same-display) ∙ e)

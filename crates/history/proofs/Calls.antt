@@ -1,7 +1,7 @@
 -- What an answer tells of a call, by the contract of its entry point: one that is accepted leaves what its definition says; one that is
 -- refused leaves every part that it was handed, so that a run beside it stays as it was. Assumes nothing.
 use Prim.Native.Nat.{ℕ, suc}
-use mathlib.Core.Path.{_≡_, ap, _∙_}
+use mathlib.Core.Path.{_≡_, sym, ap, _∙_}
 use mathlib.Core.List.{List}
 use native.Mathlib.Omega.{arith}
 use lib.ListN.{length}
@@ -21,7 +21,7 @@ use Rattle.high.specs.Data.{WithPlanes, dataIn, dataWritten}
 use Rattle.driven.specs.Read.{WithRead, withRead, readIn, dataRead}
 use Rattle.calls.specs.World.{World, Call, advance, set-reset, write-command, write-data, read-data, set-ambient, take-diagnostics, putDevice, putGlass, putGlassLog, putBuffers, putPlanes, glassOf, glassLogOf, buffersOf, planesOf, lentOf, back, called, taken}
 use Rattle.calls.specs.Sound.{lengthsIn}
-use Rattle.history.specs.Runs.{Lent, another, its-own, Beside}
+use Rattle.history.specs.Runs.{Beside}
 
 -- ---- by the number alone
 nought : (n : ℕ) → 0 ≡ suc n → ⊥
@@ -90,21 +90,8 @@ refused-same otp w v number take-diagnostics n e =
     (stateGuarded (w .device)) number v n e
 
 -- ---- a run beside a refused call
-part : {A : Type 0} {own handed back next : A} → back ≡ handed → Lent own handed back next → next ≡ own
-part e (another is) = is
-part e (its-own was is) = is ∙ e ∙ was
-
 pub beside-same : (own handed back next : World) → back ≡ handed → Beside own handed back next → next ≡ own
-beside-same own handed back next e b =
-    let device = part (ap (λ (w : World). w .device) e) (b .device) in
-    let states = part (ap (λ (w : World). w .states) e) (b .states) in
-    let luts = part (ap (λ (w : World). w .luts) e) (b .luts) in
-    let pixels = part (ap (λ (w : World). w .pixels) e) (b .pixels) in
-    let blackWhite = part (ap (λ (w : World). w .blackWhite) e) (b .blackWhite) in
-    let red = part (ap (λ (w : World). w .red) e) (b .red) in
-    let gates = part (ap (λ (w : World). w .gates) e) (b .gates) in
-    let log = part (ap (λ (w : World). w .log) e) (b .log) in
-    λ i. record { device = device i; states = states i; luts = luts i; pixels = pixels i; blackWhite = blackWhite i; red = red i; gates = gates i; log = log i }
+beside-same own handed back next e b = b .after ∙ ap (b .put) e ∙ sym (b .before)
 
 -- a refused call changes none of the run's state and buffers, whatever it was handed
 pub refused-changes-nothing : (otp : List ℕ) (own handed back next : World) (number : ℕ) (call : Call) → (number ≡ 0 → ⊥)

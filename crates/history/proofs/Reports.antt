@@ -24,7 +24,7 @@ use Rattle.history.proofs.Tells.{journal, journals, grown, Bundle, Tell
 use Rattle.history.proofs.TellsCalls.{inGlass, inGlassLog, inBuffers, inPlanes, tells-advanced, tells-reset, tells-read-in, tells-data-in, tells-command}
 use Rattle.history.proofs.Core.{core-taken}
 use Rattle.history.proofs.Calls.{accepted-taken, refused-changes-nothing}
-use Rattle.power_on_laws.proofs.Accepted.{left-is}
+use Rattle.power_on.proofs.Accepted.{left-is}
 
 -- a journal within the log's room and its own word
 pub record Fits (j : Journal) : Type 0 where

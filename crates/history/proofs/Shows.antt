@@ -20,7 +20,7 @@ use Rattle.config.specs.declared.Ssd1677Config.{Ssd1677Config}
 use Rattle.panel.specs.declared.Display.{Display}
 use Rattle.panel.specs.Finish as finish
 use Rattle.panel.specs.Pixels.{statesBy}
-use Rattle.panel_laws.proofs.Exactly.{byLut, Told, exactAfter, exact-le, state-exactly, states-length, pixel-shows}
+use Rattle.panel_laws.proofs.Exactly.{byLut, CutBelowLargest, exactAfter, exact-le, state-exactly, states-length, pixel-shows}
 use Rattle.device.specs.declared.Ssd1677.{Ssd1677}
 use Rattle.clock.specs.Advance.{WithGlass, isOver, clocked, quieted, published, endingOf, glassOf, ended, advanced}
 use Rattle.history.specs.Reckon.{Part, all, upTo, Worked, swingOf, drivesBy, numberAfter, numberOver}
@@ -68,7 +68,7 @@ abbrev untilOf : Part → Until
 untilOf all = Whole
 untilOf (upTo cut) = Cut cut
 
-module _ (luts : List ℕ) (g : WithGlass) (at : ℕ) (part : Part) (number : Marks) (told : Told (untilOf part)) (h : Shows (seenGlass g) number) where
+module _ (luts : List ℕ) (g : WithGlass) (at : ℕ) (part : Part) (number : Marks) (below : CutBelowLargest (untilOf part)) (h : Shows (seenGlass g) number) where
   abbrev S : ℕ
   S = swingOf (g .device .config)
 
@@ -95,12 +95,12 @@ module _ (luts : List ℕ) (g : WithGlass) (at : ℕ) (part : Part) (number : Ma
   unfolding numberAfter
   state-is i l =
       ap (λ (s : ℤ). getD (statesBy (byLut e s) luts (g .states)) i (pos 0)) (h .swing)
-      ∙ state-exactly e S (h .some) room told luts (g .states) i (number .of i) l (h .states i l) (h .within i l)
+      ∙ state-exactly e S (h .some) room below luts (g .states) i (number .of i) l (h .states i l) (h .within i l)
       ∙ ap pos (after-is part (getD luts i 0) (number .of i))
 
   number-le : (i : ℕ) → i < length (g .states) → numberAfter (g .device .config) i (number .of i) w ≤ S
   unfolding numberAfter
-  number-le i l = omega (arith, after-is part (getD luts i 0) (number .of i), exact-le e S (h .some) room told (getD luts i 0) (number .of i) (h .within i l))
+  number-le i l = omega (arith, after-is part (getD luts i 0) (number .of i), exact-le e S (h .some) room below (getD luts i 0) (number .of i) (h .within i l))
 
   long : (i : ℕ) → i < length next → i < length (g .states)
   long i l = omega (arith, states-length (byLut e (g .device .panel .swing)) luts (g .states))

@@ -99,7 +99,7 @@ module _ (k : Lent) (time command : ℕ) (w : WithBuffers) (l : Lengths) (r : Re
       record {
         startable =
             record {
-              mux-small = let n = f .registers .mux in omega arith;
+              mux-small = let n = f .registers .mux-ten in omega arith;
               sources = f .panel .sources;
               luts-long = g .luts ∙ mul-comm (w .device .config .panel .width) (w .device .config .panel .height);
               gates-long = g .gates (length (k .gates)) refl;

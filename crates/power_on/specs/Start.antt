@@ -12,7 +12,7 @@ use Rattle.config.specs.declared.PanelGeometry.{PanelGeometry}
 use Rattle.config.specs.declared.Ssd1677Config.{Ssd1677Config}
 use Rattle.config.specs.Answer.{Answer, refused, isAccepted, Test, firstOf, answerOf}
 use Rattle.otp.specs.Table.{startTests}
-use Rattle.gates.specs.Gates.{gatesStored}
+use Rattle.gates_laws.specs.OneToOne.{gateOfRow}
 use Rattle.panel.specs.declared.Display.{Display}
 use Rattle.panel.specs.declared.Panel.{Panel}
 use Rattle.panel.specs.Start.{panelAtPowerOn, powerOn}
@@ -109,13 +109,13 @@ clean b r l = record { blackWhite = b; red = r; log = l }
 unfoldable pub cleared : ℕ → ℕ → ℕ → Clean
 cleared b r l = clean (tab b (λ _. 0)) (tab r (λ _. 0)) (tab l (λ _. 0))
 
--- buffers at power-on: planes and log 0x00, chosen LUTs 255, the rest as `Panel::new` (SCOPE, Buffers)
+-- buffers at power-on: planes and log 0x00, chosen LUTs 255, the gate of each row of the glass, the rest as `Panel::new` (SCOPE, Buffers)
 unfoldable pub filled : Ssd1677Config → Buffers → Buffers
 filled c b =
     let glass = powerOn (c .panel) (c .optics) (length (b .states)) (length (b .luts)) (length (b .pixels)) in
     let empty = cleared (length (b .blackWhite)) (length (b .red)) (length (b .log)) in
     buffers (glass .states) (glass .luts) (glass .pixels) (empty .blackWhite) (empty .red)
-    (gatesStored (c .panel) (c .panel .height) (b .gates))
+    (tab (c .panel .height) (gateOfRow (c .panel)))
     (empty .log)
 
 -- a state and all that it was lent

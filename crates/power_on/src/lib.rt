@@ -3,6 +3,7 @@ ghost use mathlib.Core.Path.{_≡_};
 ghost use Prim.Native.Nat.{_≤_};
 ghost use lib.ListN.{length};
 ghost use Rattle.config.specs.Answer.{isAccepted, firstOf};
+ghost use Rattle.gates_laws.specs.OneToOne.{Scanned};
 ghost use Rattle.power_on.specs.Start.{allTests, startAnswerOf, noDisplay, chipWith, unstarted, clean, cleared, buffers, powered, poweredUp, start, started};
 use config::ConfigError;
 use config::Ssd1677Config;
@@ -148,7 +149,7 @@ fn power_up(
     gates: &mut [u16],
     log: &mut [u8],
 ) -> Ssd1677
-    requires { ⌜ 1 ≤ config .optics .«full_swing» ⌝ }
+    requires { ⌜ (1 ≤ config .optics .«full_swing») × Scanned (config .panel .«native_scan») (config .panel .height) × (length (now gates) ≡ config .panel .height) ⌝ }
     ensures { λ r. ⌜ powered r (buffers (now (states .exit)) (now (luts .exit)) (now (pixels .exit)) (now («black_white» .exit)) (now (red .exit)) (now (gates .exit)) (now (log .exit))) ≡ poweredUp config (buffers (now (states .entry)) (now (luts .entry)) (now (pixels .entry)) (now («black_white» .entry)) (now (red .entry)) (now (gates .entry)) (now (log .entry))) ⌝ }
 {
     let panel = panel_start::new(config.panel, config.optics, states, luts, pixels);

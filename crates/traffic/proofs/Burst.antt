@@ -6,33 +6,33 @@ use Prim.Native.Nat.{ℕ, zero, suc, _+_, _-_, _≤_, max}
 use native.Mathlib.Omega.{arith}
 use lib.Dec.{eqb}
 use lib.IntN.{ℤ}
-use lib.ListN.{length, getD, length-set}
+use lib.ListN.{length, getD}
 use borrow.Author.Tests.{eqb-true}
 use Rattle.numbers.specs.Choice.{pick}
 use Rattle.numbers.specs.Rows.{lookup}
 use Rattle.numbers.proofs.Cases.{left, right}
 use Rattle.counter.specs.declared.Counter.{Counter}
 use Rattle.counter.specs.Counter.{advancedOf}
-use Rattle.ram.specs.declared.Place.{Place}
-use Rattle.ram.specs.declared.Place.the-variants.{At, Outside}
-use Rattle.ram.specs.Plane.{indexOf, putAt, planeOf, wroteAt, writtenAt}
+use Rattle.ram.specs.Plane.{planeOf, wroteAt, writtenAt}
 use Rattle.ram_laws.proofs.Tens.{TenBitCounter, TenBitWindow, advanced-ten}
 use Rattle.device.specs.declared.Active.{Active}
 use Rattle.device.specs.declared.Current.{Current}
 use Rattle.device.specs.declared.Current.the-variants as current
 use Rattle.device.specs.declared.Ssd1677.{Ssd1677}
 use Rattle.device.specs.Parts.{withNow, withCurrent, withPointed}
+use Rattle.registers.proofs.Bounds.{Bounded}
 use Rattle.clock.specs.Advance.{isQuiet}
 use Rattle.acts.specs.Ram.{withRam}
 use Rattle.data.specs.Most.{isStream}
 use Rattle.data.specs.Data.{counted, planeFor, dataTaken}
 use Rattle.data.proofs.Cases.{puts, is-stream}
+use Rattle.data_laws.proofs.Kept.{written-length}
 use Rattle.guard_lengths.specs.declared.Lengths.{Lengths}
 use Rattle.guard_lengths.specs.Lengths.{lengthsFit, planesLogLent}
 use Rattle.guard_kinds.specs.Kinds.{currentFine}
 use Rattle.guard_state.specs.State.{panelFine, swingFine, periodsFine, registersFine, countFine, stateFine}
 use Rattle.guard_laws.proofs.Joined.{each}
-use Rattle.guard_laws.proofs.Accepted.{FineRegisters, fine-registers, accepted-state, accepted-lengths}
+use Rattle.guard_laws.proofs.Accepted.{fine-registers, accepted-state, accepted-lengths}
 use Rattle.guard_laws.proofs.Kept.{registers-pass, state-passes}
 use Rattle.guard.specs.declared.Refusal.{Refusal}
 use Rattle.guard.specs.declared.Refusal.the-variants.{Accepted}
@@ -73,20 +73,14 @@ module _ (d : Ssd1677) (a : Active) (is : d .bus .current ≡ current.Active a) 
       ∷ currentFine (d .bus .current) ∷ [])
       fine
 
-  registers : FineRegisters (d .regs)
+  registers : Bounded (d .regs)
   registers = fine-registers (d .regs) (passed 3)
 
   abbrev window-ten : TenBitWindow (d .regs .window)
-  window-ten =
-      record {
-        x-start-ten = registers .x-start;
-        x-end-ten = registers .x-end;
-        y-start-ten = registers .y-start;
-        y-end-ten = registers .y-end;
-      }
+  window-ten = registers .window-ten
 
   pub counter-ten : TenBitCounter (d .regs .counter)
-  counter-ten = record { x-ten = registers .x; y-ten = registers .y }
+  counter-ten = registers .counter-ten
 
   still-current : (n : ℕ) → currentFine (current.Active (receivedAs a n)) ≡ true
   unfolding currentFine
@@ -97,29 +91,17 @@ module _ (d : Ssd1677) (a : Active) (is : d .bus .current ≡ current.Active a) 
       state-passes (reachedBy d a s) (passed 0) (passed 1) (passed 2)
       (registers-pass (reachedBy d a s .regs)
       (record {
-        mux = registers .mux;
-        x-start = registers .x-start;
-        x-end = registers .x-end;
-        y-start = registers .y-start;
-        y-end = registers .y-end;
-        x = t .x-ten;
-        y = t .y-ten;
-        entry = registers .entry;
-        temperature = registers .temperature;
+        mux-ten = registers .mux-ten;
+        entry-three = registers .entry-three;
+        window-ten = registers .window-ten;
+        counter-ten = t;
+        temperature-twelve = registers .temperature-twelve;
       }))
       (passed 4) (still-current (s .received))
 
 accepted : (d : Ssd1677) (l : Lengths) → stateFine d ≡ true → lengthsFit (d .config .panel) l ≡ true → guarded d l ≡ Accepted
 unfolding guarded
 accepted d l e f = rw (e, f)
-
-written-length : (p : List ℕ) (c : Counter) (byte : ℕ) → length (writtenAt p c byte) ≡ length p
-unfolding writtenAt
-written-length p c byte = by (indexOf c)
-  where
-    by : (q : Place) → length (putAt p q byte) ≡ length p
-    by (At i) = length-set p i byte
-    by Outside = refl
 
 -- ---- a byte of a burst is a call
 
