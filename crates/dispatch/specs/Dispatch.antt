@@ -3,14 +3,12 @@ use mathlib.Core.List.{List}
 use Prim.Native.Nat.{ℕ}
 use lib.IntN.{ℤ}
 use Rattle.device.specs.declared.Ssd1677.{Ssd1677}
-use Rattle.clock.specs.Advance.{WithGlass, withGlass}
-use Rattle.reset.specs.Reset.{WithGlassLog, withGlassLog}
-use Rattle.activation.specs.Activation.{WithBuffers, withBuffers, lent}
+use Rattle.world.specs.World.{WithGlass, withGlass, WithGlassLog, withGlassLog, WithBuffers, withBuffers, lent, WithPlanes, withPlanes}
 use Rattle.query.specs.Outcome.{Outcome, outcome}
 use Rattle.wait.specs.Wait.{clockMoved}
 use Rattle.res.specs.Line.{lineMoved}
 use Rattle.low.specs.Command.{commandWritten}
-use Rattle.high.specs.Data.{WithPlanes, withPlanes, dataWritten}
+use Rattle.high.specs.Data.{dataWritten}
 use Rattle.driven.specs.Read.{WithRead, dataRead}
 use Rattle.driven.specs.declared.ReadAnswer.{ReadAnswer}
 use Rattle.query.specs.declared.Answer.{Answer}

@@ -13,13 +13,10 @@ use Rattle.guard.specs.Refusals.{numberOf}
 use Rattle.query.specs.Outcome.{Outcome, outcome}
 use Rattle.query.specs.Queries.{WithCount}
 use Rattle.device.specs.declared.Ssd1677.{Ssd1677}
-use Rattle.clock.specs.Advance.{WithGlass}
-use Rattle.reset.specs.Reset.{WithGlassLog}
-use Rattle.activation.specs.Activation.{WithBuffers}
-use Rattle.high.specs.Data.{WithPlanes}
+use Rattle.world.specs.World.{World, WithGlass, WithGlassLog, WithBuffers, WithPlanes, deviceInWorld, glassInWorld, glassLogInWorld, buffersInWorld, planesInWorld}
 use Rattle.driven.specs.Read.{WithRead}
 use Rattle.power_on.specs.Start.{start, powered, buffers, startAnswerOf, started}
-use Rattle.calls.specs.World.{World, Call, advance, set-reset, write-command, write-data, read-data, set-ambient, take-diagnostics, putDevice, putGlass, putGlassLog, putBuffers, putPlanes, back, called}
+use Rattle.calls.specs.World.{Call, advance, set-reset, write-command, write-data, read-data, set-ambient, take-diagnostics, back, called}
 use Rattle.history.specs.Runs.{Beside, Runs, accepted, refused}
 use Rattle.wait.proofs.advance.Reads as advance-reads
 use Rattle.res.proofs.set_reset.Reads as reset-reads
@@ -38,14 +35,14 @@ pub held-advance : (κs : Lfts 3) (a : _) (r : _) (s : _) → advance-reads.Lear
     → outcome (numberOf (r .refusal)) (world (r .state) (now (s .1 .0)) (now (a .1 .1 .0)) (now (s .1 .1 .1 .0)) b e g l)
     ≡ called otp (world (a .0) (now (a .1 .0)) (now (a .1 .1 .0)) (now (a .1 .1 .1 .0)) b e g l) (advance (a .1 .1 .1 .1 .0))
 held-advance κs a r s q otp b e g l =
-    ap (λ (o : Outcome WithGlass). back (putGlass (world (a .0) (now (a .1 .0)) (now (a .1 .1 .0)) (now (a .1 .1 .1 .0)) b e g l)) o) q
+    ap (λ (o : Outcome WithGlass). back (glassInWorld .put (world (a .0) (now (a .1 .0)) (now (a .1 .1 .0)) (now (a .1 .1 .1 .0)) b e g l)) o) q
 
 pub held-reset : (κs : Lfts 4) (a : _) (r : _) (s : _) → reset-reads.Learnt κs a r s → (otp b e g : List ℕ)
     → outcome (numberOf (r .refusal)) (world (r .state) (now (s .1 .0)) (now (a .1 .1 .0)) (now (s .1 .1 .1 .0)) b e g (now (s .1 .1 .1 .1 .0)))
     ≡ called otp (world (a .0) (now (a .1 .0)) (now (a .1 .1 .0)) (now (a .1 .1 .1 .0)) b e g (now (a .1 .1 .1 .1 .0)))
     (set-reset (a .1 .1 .1 .1 .1 .0) (a .1 .1 .1 .1 .1 .1 .0))
 held-reset κs a r s q otp b e g =
-    ap (λ (o : Outcome WithGlassLog). back (putGlassLog (world (a .0) (now (a .1 .0)) (now (a .1 .1 .0)) (now (a .1 .1 .1 .0)) b e g (now (a .1 .1 .1 .1 .0)))) o) q
+    ap (λ (o : Outcome WithGlassLog). back (glassLogInWorld .put (world (a .0) (now (a .1 .0)) (now (a .1 .1 .0)) (now (a .1 .1 .1 .0)) b e g (now (a .1 .1 .1 .1 .0)))) o) q
 
 -- in the order of the arguments: state, states, LUTs, pixels, black-white, red, gates, log, table, time, command
 pub held-command : (κs : Lfts 8) (a : _) (r : _) (s : _) → command-reads.Learnt κs a r s
@@ -60,7 +57,7 @@ held-command κs a r s q =
     ap
     (λ (o : Outcome WithBuffers).
     back
-    (putBuffers
+    (buffersInWorld .put
     (world (a .0) (now (a .1 .0)) (now (a .1 .1 .0)) (now (a .1 .1 .1 .0)) (now (a .1 .1 .1 .1 .0)) (now (a .1 .1 .1 .1 .1 .0))
     (now (a .1 .1 .1 .1 .1 .1 .0)) (now (a .1 .1 .1 .1 .1 .1 .1 .0))))
     o)
@@ -79,7 +76,7 @@ held-data κs a r s q otp g =
     ap
     (λ (o : Outcome WithPlanes).
     back
-    (putPlanes
+    (planesInWorld .put
     (world (a .0) (now (a .1 .0)) (now (a .1 .1 .0)) (now (a .1 .1 .1 .0)) (now (a .1 .1 .1 .1 .0)) (now (a .1 .1 .1 .1 .1 .0)) g
     (now (a .1 .1 .1 .1 .1 .1 .0))))
     o)
@@ -99,7 +96,7 @@ held-read κs a r s q otp g =
     (λ (o : Outcome WithRead).
     back
     (λ (x : WithRead).
-    putGlassLog
+    glassLogInWorld .put
     (world (a .0) (now (a .1 .0)) (now (a .1 .1 .0)) (now (a .1 .1 .1 .0)) (now (a .1 .1 .1 .1 .0)) (now (a .1 .1 .1 .1 .1 .0)) g
     (now (a .1 .1 .1 .1 .1 .1 .0)))
     (x .left))
@@ -107,12 +104,12 @@ held-read κs a r s q otp g =
     q
 
 pub held-ambient : (κs : Lfts 0) (a : _) (r : _) (s : _) → ambient-reads.Learnt κs a r s → (otp : List ℕ) (w : World)
-    → outcome (numberOf (r .refusal)) (putDevice w (r .state)) ≡ called otp (putDevice w (a .0)) (set-ambient (a .1 .0))
-held-ambient κs a r s q otp w = ap (λ (o : Outcome Ssd1677). back (putDevice w) o) q
+    → outcome (numberOf (r .refusal)) (deviceInWorld .put w (r .state)) ≡ called otp (deviceInWorld .put w (a .0)) (set-ambient (a .1 .0))
+held-ambient κs a r s q otp w = ap (λ (o : Outcome Ssd1677). back (deviceInWorld .put w) o) q
 
 pub held-diagnostics : (κs : Lfts 0) (a : _) (r : _) (s : _) → diagnostics-reads.Learnt κs a r s → (otp : List ℕ) (w : World)
-    → outcome (numberOf (r .refusal)) (putDevice w (r .state)) ≡ called otp (putDevice w (a .0)) take-diagnostics
-held-diagnostics κs a r s q otp w = ap (λ (o : Outcome WithCount). back (λ (t : WithCount). putDevice w (t .device)) o) q
+    → outcome (numberOf (r .refusal)) (deviceInWorld .put w (r .state)) ≡ called otp (deviceInWorld .put w (a .0)) take-diagnostics
+held-diagnostics κs a r s q otp w = ap (λ (o : Outcome WithCount). back (λ (t : WithCount). deviceInWorld .put w (t .device)) o) q
 
 -- configuration, states, LUTs, pixels, black-white, red, gates, log, table
 pub held-start : (κs : Lfts 8) (a : _) (r : _) (s : _) → new-reads.Learnt κs a r s

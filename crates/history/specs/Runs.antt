@@ -4,7 +4,8 @@ use Prim.Native.Nat.{ℕ, _≤_}
 use mathlib.Core.Path.{_≡_}
 use mathlib.Core.List.{List, [], _∷_}
 use Rattle.query.specs.Outcome.{Outcome, outcome}
-use Rattle.calls.specs.World.{World, Call, called}
+use Rattle.world.specs.World.{World}
+use Rattle.calls.specs.World.{Call, called}
 
 -- one part of a run beside a call that was handed a part and hands one back: the call was handed another and the run's stays, or it was
 -- handed the run's own, and the run goes on with what came back

@@ -19,7 +19,7 @@ use Rattle.device.specs.declared.Kind.{Kind}
 use Rattle.device.specs.declared.Kind.the-variants.{Write, Read, Unsupported, Reserved}
 use Rattle.device.specs.declared.Power.{Power}
 use Rattle.device.specs.declared.Power.the-variants.{Running, Asleep, InReset}
-use Rattle.chip.specs.Close.{WithLog, withLog}
+use Rattle.world.specs.World.{WithLog}
 use Rattle.chip.specs.Report.{logged}
 use Rattle.acts_laws.proofs.Kept.{Sound, logged-kept}
 use Rattle.data.specs.Data.{made}

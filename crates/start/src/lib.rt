@@ -2,7 +2,7 @@
 ghost use mathlib.Core.Path.{_≡_};
 ghost use Prim.Native.Nat.{_%_};
 ghost use lib.ListN.{length};
-ghost use Rattle.chip.specs.Close.{withLog};
+ghost use Rattle.world.specs.World.{withLog};
 ghost use Rattle.start.specs.Start.{softReset, isPowered, unpowered, vcomSensed, pointed};
 use device::Ssd1677;
 use device::part;

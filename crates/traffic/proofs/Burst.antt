@@ -22,8 +22,8 @@ use Rattle.device.specs.declared.Current.{Current}
 use Rattle.device.specs.declared.Current.the-variants as current
 use Rattle.device.specs.declared.Ssd1677.{Ssd1677}
 use Rattle.device.specs.Parts.{withNow, withCurrent, withPointed}
+use Rattle.world.specs.World.{withRam, WithPlanes, withPlanes}
 use Rattle.clock.specs.Advance.{isQuiet}
-use Rattle.acts.specs.Ram.{withRam}
 use Rattle.data.specs.Most.{isStream}
 use Rattle.data.specs.Data.{counted, planeFor, dataTaken}
 use Rattle.data.proofs.Cases.{puts, is-stream}
@@ -42,7 +42,7 @@ use Rattle.entry_laws.proofs.Passed.{only-accepted}
 use Rattle.event.specs.declared.Event.{Event}
 use Rattle.event.specs.declared.Event.the-variants.{Data}
 use Rattle.event.specs.Events.{eventOf}
-use Rattle.high.specs.Data.{WithPlanes, withPlanes, dataWritten}
+use Rattle.high.specs.Data.{dataWritten}
 use Rattle.high.proofs.Cases.{data-rests}
 use Rattle.dispatch.specs.Dispatch.{World, world, putPlanes, dispatched}
 use Rattle.burst.specs.declared.Reached.{Reached}

@@ -16,7 +16,8 @@ use Rattle.event.specs.declared.Event.the-variants.{Command, Data, Read, Reset,
 use Rattle.dispatch.specs.Dispatch as dispatch
 use Rattle.dispatch.specs.Dispatch.{Told, dispatched}
 use Rattle.traffic.specs.Traffic.{Fed, fed, feeding, made}
-use Rattle.calls.specs.World.{World, Call, advance, set-reset, write-command, write-data, read-data, set-ambient, take-diagnostics, worldOf, back, called, taken, leftBy, AllTyped}
+use Rattle.world.specs.World.{World}
+use Rattle.calls.specs.World.{Call, advance, set-reset, write-command, write-data, read-data, set-ambient, take-diagnostics, worldOf, back, called, taken, leftBy, AllTyped}
 use Rattle.calls.specs.Sound.{Sound}
 use Rattle.calls.proofs.Accepted.{accepted-takes}
 use Rattle.calls.proofs.Kept.{sound-kept}

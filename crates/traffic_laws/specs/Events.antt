@@ -4,7 +4,8 @@ use mathlib.Core.List.{List, [], _∷_}
 use Rattle.event.specs.declared.Event.{Event}
 use Rattle.event.specs.declared.Event.the-variants.{Command, Data, Read, Reset, Advance}
 use Rattle.dispatch.specs.Dispatch as dispatch
-use Rattle.calls.specs.World.{World, Call, advance, set-reset, write-command, write-data, read-data}
+use Rattle.world.specs.World.{World}
+use Rattle.calls.specs.World.{Call, advance, set-reset, write-command, write-data, read-data}
 
 -- the call of an event
 abbrev pub callOf : Event → Call
