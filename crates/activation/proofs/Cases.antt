@@ -24,14 +24,15 @@ use Rattle.device.specs.declared.Ssd1677.{Ssd1677}
 use Rattle.device.specs.declared.Registers.{Registers}
 use Rattle.device.specs.declared.Bus.{Bus}
 use Rattle.device.specs.Parts.{withActivated, withLoaded}
+use Rattle.world.specs.World.{WithGlass, withGlass, WithBuffers, Lent}
 use Rattle.moment.specs.Moments.{afterNs, busyFor}
-use Rattle.clock.specs.Advance.{WithGlass, withGlass, advanced}
+use Rattle.clock.specs.Advance.{advanced}
 use Rattle.stages.specs.declared.Control.{Control}
 use Rattle.stages.specs.declared.Run.{Run}
 use Rattle.stages.specs.Run.{controlOf, Step, step, noted, waited}
 use Rattle.stages.specs.Stages.{loaded}
 use Rattle.activation.specs.Display.{kindOf, scanOf, warned, displayOf, Displayed, displayed, unchanged, begun, shown}
-use Rattle.activation.specs.Activation.{analogOff, clockOff, runOf, settled, WithLuts, withLuts, Lent, staged, WithBuffers, joined, activated}
+use Rattle.activation.specs.Activation.{analogOff, clockOff, runOf, settled, WithLuts, withLuts, staged, joined, activated}
 
 pub scans : (r : Registers) (a b : PlaneOption) → a ≡ optionOf (getD (r .«update_control_1») 0 0 / 16) → b ≡ optionOf (getD (r .«update_control_1») 0 0)
     → record { lines = r .mux + 1; order = r .«gate_scan»; red = a; «black_white» = b } ≡ scanOf r

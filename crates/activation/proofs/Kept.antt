@@ -15,13 +15,14 @@ use Rattle.diagnostic.specs.declared.DiagnosticKind.the-variants.{WithoutClock,
 use Rattle.diagnostic.specs.declared.Stage.the-variants as stage
 use Rattle.scan.specs.Luts.{lutOf}
 use Rattle.device.specs.declared.Ssd1677.{Ssd1677}
+use Rattle.world.specs.World.{WithGlass, withGlass, WithBuffers, Lent}
 use Rattle.moment.specs.Moments.{afterNs}
-use Rattle.clock.specs.Advance.{Ready, WithGlass, withGlass, endingOf, glassOf, isOver, ended, clocked, advanced}
+use Rattle.clock.specs.Advance.{Ready, endingOf, glassOf, isOver, ended, clocked, advanced}
 use Rattle.clock.specs.Advance as clock
 use Rattle.stages.specs.Run.{Step, noted}
 use Rattle.stages_laws.proofs.Kept.{either}
 use Rattle.activation.specs.Display.{Displayed, scanOf, displayOf, unchanged, begun, shown}
-use Rattle.activation.specs.Activation.{settled, WithLuts, withLuts, Lent, staged, WithBuffers, stagedIn, activated}
+use Rattle.activation.specs.Activation.{settled, WithLuts, withLuts, staged, stagedIn, activated}
 
 -- the stages leave the configuration and the glass as they were
 pub ready-after : (k : Lent) (s z : WithLuts) (states : List ℤ) (pixels : List ℕ) → z ≡ staged k s → length (z .luts) ≡ length (s .luts)

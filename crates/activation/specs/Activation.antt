@@ -7,8 +7,9 @@ use Rattle.numbers.specs.Choice.{pick}
 use Rattle.panel.specs.declared.Display.{Display}
 use Rattle.device.specs.declared.Ssd1677.{Ssd1677}
 use Rattle.device.specs.Parts.{withActivated, withLoaded}
+use Rattle.world.specs.World.{WithGlass, withGlass, WithBuffers, withBuffers, Lent}
 use Rattle.moment.specs.Moments.{busyFor}
-use Rattle.clock.specs.Advance.{Ready, WithGlass, withGlass, advanced}
+use Rattle.clock.specs.Advance.{Ready, advanced}
 use Rattle.stages.specs.declared.Control.{Control}
 use Rattle.stages.specs.declared.Run.{Run}
 use Rattle.stages.specs.Run.{controlOf, Step, step, withClock, withAnalog, waited}
@@ -51,17 +52,6 @@ pub record WithLuts : Type 0 where
 abbrev pub withLuts : Ssd1677 → List ℕ → List ℕ → WithLuts
 withLuts d u l = record { device = d; luts = u; log = l }
 
--- what is lent to an activation and stays as it is
-pub record Lent : Type 0 where
-  pub blackWhite : List ℕ
-  pub red : List ℕ
-  pub gates : List ℕ
-  pub otp : List ℕ
-
--- the four as one
-abbrev pub lent : List ℕ → List ℕ → List ℕ → List ℕ → Lent
-lent b r g o = record { blackWhite = b; red = r; gates = g; otp = o }
-
 module _ (k : Lent) (s : WithLuts) where
   -- the stages up to the LUT
   abbrev pub before : Control → Step
@@ -83,18 +73,6 @@ module _ (k : Lent) (s : WithLuts) where
   -- all the stages that 0x22 enables
   unfoldable pub staged : WithLuts
   staged = after (controlOf (s .device .regs .«update_control_2»)) (during (controlOf (s .device .regs .«update_control_2»)))
-
--- the state with all the lent buffers that an activation may change
-pub record WithBuffers : Type 0 where
-  pub device : Ssd1677
-  pub states : List ℤ
-  pub luts : List ℕ
-  pub pixels : List ℕ
-  pub log : List ℕ
-
--- the five as one
-abbrev pub withBuffers : Ssd1677 → List ℤ → List ℕ → List ℕ → List ℕ → WithBuffers
-withBuffers d s u p l = record { device = d; states = s; luts = u; pixels = p; log = l }
 
 -- what the callers of an activation have once 13, 11 and 12 have refused all else
 pub record Activatable (d : Ssd1677) (states : List ℤ) (luts pixels blackWhite red gates log : List ℕ) : Type 0 where

@@ -15,14 +15,14 @@ use Rattle.waveform.specs.Duration.{durationOf}
 use Rattle.device.specs.declared.Registers.{Registers}
 use Rattle.device.specs.declared.Ssd1677.{Ssd1677}
 use Rattle.device.specs.Parts.{withLoaded}
-use Rattle.clock.specs.Advance.{WithGlass, withGlass}
+use Rattle.world.specs.World.{WithGlass, withGlass, WithBuffers, Lent}
 use Rattle.moment.proofs.Current.{current-busy}
 use Rattle.clock.proofs.Arrived.{config-advanced, swing-advanced, regs-advanced, journal-advanced, current-advanced, states-advanced}
 use Rattle.stages.specs.declared.Run.{Run}
 use Rattle.stages.specs.Run.{controlOf, Step, step, noted, waited, withClock, withAnalog}
 use Rattle.stages_laws.proofs.Kept.{either, Holds, HoldsOf, noted-holds, waited-holds, loaded-holds}
 use Rattle.activation.specs.Display.{warned, Displayed, unchanged, begun, shown}
-use Rattle.activation.specs.Activation.{analogOff, clockOff, runOf, settled, withLuts, Lent, before, during, staged, WithBuffers, stagedIn, activated}
+use Rattle.activation.specs.Activation.{analogOff, clockOff, runOf, settled, withLuts, before, during, staged, stagedIn, activated}
 use Rattle.activation.proofs.Kept.{luts-staged}
 
 module _ (k : Lent) (w : WithBuffers) where

@@ -1,8 +1,9 @@
 // A command that the chip hears, by Table 7-1 (mod.rs, `write_command` and `start_command`).
 ghost use mathlib.Core.Path.{_≡_};
 ghost use Rattle.command.specs.Table.{kindOf};
-ghost use Rattle.activation.specs.Activation.{Activatable, withBuffers, lent};
-ghost use Rattle.begin.specs.Begin.{onDevice, made, run, byKind};
+ghost use Rattle.world.specs.World.{withBuffers, lent, on, deviceInBuffers};
+ghost use Rattle.activation.specs.Activation.{Activatable};
+ghost use Rattle.begin.specs.Begin.{made, run, byKind};
 use command::Known;
 use device::Active;
 use device::Current;
@@ -84,7 +85,7 @@ fn accept(
     kind: Kind,
 ) -> Ssd1677
     requires { ⌜ Activatable state (now states) (now luts) (now pixels) (now «black_white») (now red) (now gates) (now log) ⌝ }
-    ensures { λ r. ⌜ withBuffers r (now (states .exit)) (now (luts .exit)) (now (pixels .exit)) (now (log .exit)) ≡ run (lent (now («black_white» .entry)) (now (red .entry)) (now (gates .entry)) (now (otp .entry))) command (onDevice (made command kind) (withBuffers state (now (states .entry)) (now (luts .entry)) (now (pixels .entry)) (now (log .entry)))) ⌝ }
+    ensures { λ r. ⌜ withBuffers r (now (states .exit)) (now (luts .exit)) (now (pixels .exit)) (now (log .exit)) ≡ run (lent (now («black_white» .entry)) (now (red .entry)) (now (gates .entry)) (now (otp .entry))) command (on deviceInBuffers (made command kind) (withBuffers state (now (states .entry)) (now (luts .entry)) (now (pixels .entry)) (now (log .entry)))) ⌝ }
 {
     let current = make_current(state, command, kind);
     start_command(

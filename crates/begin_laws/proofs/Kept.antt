@@ -17,6 +17,7 @@ use Rattle.device.specs.declared.Kind.the-variants.{Write, Read, Unsupported, R
 use Rattle.device.specs.declared.Power.{Power}
 use Rattle.device.specs.declared.Power.the-variants.{Running, Asleep, InReset}
 use Rattle.device.specs.declared.Ssd1677.{Ssd1677}
+use Rattle.world.specs.World.{WithLog, withLog, WithBuffers, Lent, on, deviceInBuffers, logInBuffers}
 use Rattle.command.specs.declared.Known.{Known}
 use Rattle.command.specs.declared.Known.the-variants.{Of, Unknown}
 use Rattle.command.specs.Table.{kindOf}
@@ -24,30 +25,29 @@ use Rattle.registers.proofs.Bounds.{Bounded, reset-bounded}
 use Rattle.guard_kinds.specs.Kinds.{currentFine}
 use Rattle.guard_kinds.proofs.SameKind.{active-fine}
 use Rattle.clock.specs.Advance.{Ready}
-use Rattle.chip.specs.Close.{WithLog, withLog}
 use Rattle.chip.specs.Report.{logged}
 use Rattle.moment.proofs.Current.{current-busy}
 use Rattle.reset.specs.Reset.{restored}
 use Rattle.start.specs.Start.{withBusyFor, softReset, isPowered, unpowered, sensingTime, vcomSensed, pointed}
 use Rattle.stages_laws.proofs.Kept.{either}
-use Rattle.activation.specs.Activation.{WithBuffers, Lent, activated}
+use Rattle.activation.specs.Activation.{activated}
 use Rattle.activation.proofs.Kept.{ready-activated}
 use Rattle.activation_laws.proofs.Parts.{config-activated, swing-activated, states-activated, luts-activated, current-activated, regs-activated, activated-holds}
-use Rattle.begin.specs.Begin.{onDevice, putLog, onLog, made, run, byKind, isHeldOff, begun}
+use Rattle.begin.specs.Begin.{made, run, byKind, isHeldOff, begun}
 
 -- BUSY high for a span
 abbrev busyThen : ℕ → WithBuffers → WithBuffers
-busyThen ns w = onDevice (λ (d : Ssd1677). withBusyFor d ns) w
+busyThen ns w = on deviceInBuffers (λ (d : Ssd1677). withBusyFor d ns) w
 
 module _ (P : WithBuffers → Type 0)
-    (reports : (kind : DiagnosticKind) (w : WithBuffers) → P w → P (onLog (logged kind) w))
-    (makes : (command : ℕ) (kind : Kind) (w : WithBuffers) → kindOf command ≡ Of kind → P w → P (onDevice (made command kind) w))
-    (restores : (w : WithBuffers) → P w → P (onDevice restored w))
+    (reports : (kind : DiagnosticKind) (w : WithBuffers) → P w → P (on logInBuffers (logged kind) w))
+    (makes : (command : ℕ) (kind : Kind) (w : WithBuffers) → kindOf command ≡ Of kind → P w → P (on deviceInBuffers (made command kind) w))
+    (restores : (w : WithBuffers) → P w → P (on deviceInBuffers restored w))
     (waits : (ns : ℕ) (w : WithBuffers) → P w → P (busyThen ns w))
     (activates : (k : Lent) (w : WithBuffers) → P w → P (activated k w)) where
-  reset-keeps : (w : WithBuffers) → P w → P (onDevice softReset w)
+  reset-keeps : (w : WithBuffers) → P w → P (on deviceInBuffers softReset w)
   unfolding softReset
-  reset-keeps w h = waits (restored (w .device) .config .timing .«soft_reset») (onDevice restored w) (restores w h)
+  reset-keeps w h = waits (restored (w .device) .config .timing .«soft_reset») (on deviceInBuffers restored w) (restores w h)
 
   module _ (w : WithBuffers) (h : P w) where
     -- the state and the log, and what is kept of them
@@ -55,7 +55,7 @@ module _ (P : WithBuffers → Type 0)
     entry = withLog (w .device) (w .log)
 
     abbrev Put : WithLog → Type 0
-    Put x = P (putLog w x)
+    Put x = P (logInBuffers .put w x)
 
     unpowered-keeps : Put (unpowered VcomSense entry)
     unfolding unpowered
@@ -88,8 +88,8 @@ module _ (P : WithBuffers → Type 0)
         (either P (eqb command 0x24 || eqb command 0x26 || eqb command 0x27) _ _ (pointed-keeps command) h)))
 
   module _ (k : Lent) (command : ℕ) (w : WithBuffers) (h : P w) where
-    accepted-keeps : (kind : Kind) → kindOf command ≡ Of kind → P (run k command (onDevice (made command kind) w))
-    accepted-keeps kind e = run-keeps (onDevice (made command kind) w) (makes command kind w e h) k command
+    accepted-keeps : (kind : Kind) → kindOf command ≡ Of kind → P (run k command (on deviceInBuffers (made command kind) w))
+    accepted-keeps kind e = run-keeps (on deviceInBuffers (made command kind) w) (makes command kind w e h) k command
 
     kind-keeps : (known : Known) → kindOf command ≡ known → P (byKind k command w known)
     unfolding byKind

@@ -19,13 +19,13 @@ use Rattle.device.specs.declared.Deadline.the-variants.{At}
 use Rattle.device.specs.declared.Power.the-variants.{Running}
 use Rattle.device.specs.declared.Ssd1677.{Ssd1677}
 use Rattle.device.specs.Parts.{withUntil, withLoaded, withActivated}
+use Rattle.world.specs.World.{withGlass, WithBuffers, Lent}
 use Rattle.moment.specs.Moments.{afterNs, busyFor}
-use Rattle.clock.specs.Advance.{withGlass}
 use Rattle.stages.specs.declared.Run.{Run}
 use Rattle.stages.specs.Run.{controlOf, Step, noted, waited, withClock, withAnalog}
 use Rattle.stages_laws.proofs.Kept.{either}
 use Rattle.activation.specs.Display.{warned, displayOf, Displayed, unchanged, begun, shown}
-use Rattle.activation.specs.Activation.{analogOff, clockOff, settled, withLuts, Lent, before, during, staged, WithBuffers, stagedIn, activated}
+use Rattle.activation.specs.Activation.{analogOff, clockOff, settled, withLuts, before, during, staged, stagedIn, activated}
 use Rattle.calls.specs.Sound.{inert, UnderWay, Held}
 use Rattle.calls.proofs.Clock.{Due, held-advanced}
 

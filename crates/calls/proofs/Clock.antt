@@ -14,8 +14,9 @@ use Rattle.device.specs.declared.Deadline.{Deadline}
 use Rattle.device.specs.declared.Deadline.the-variants.{At}
 use Rattle.device.specs.declared.Ssd1677.{Ssd1677}
 use Rattle.device.specs.Parts.{withNow, withBus}
+use Rattle.world.specs.World.{WithGlass}
 use Rattle.moment.specs.Moments.{lowered}
-use Rattle.clock.specs.Advance.{WithGlass, endingOf, glassOf, published, isOver, ended, quieted, clocked, advanced}
+use Rattle.clock.specs.Advance.{endingOf, glassOf, published, isOver, ended, quieted, clocked, advanced}
 use Rattle.calls.specs.Sound.{inert, UnderWay, Held}
 
 never : false ≡ true → ⊥

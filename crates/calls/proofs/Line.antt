@@ -16,12 +16,13 @@ use Rattle.device.specs.declared.Current.{Current}
 use Rattle.device.specs.declared.Current.the-variants.{Idle, Ignoring, Active}
 use Rattle.device.specs.declared.Power.{Power}
 use Rattle.device.specs.declared.Power.the-variants.{Running, Asleep, InReset}
+use Rattle.world.specs.World.{WithLog, withLog, WithGlassLog, on, deviceInGlassLog, logInGlassLog, glassInGlassLog}
 use Rattle.registers.proofs.Bounds.{Bounded, reset-bounded}
 use Rattle.guard_kinds.specs.Kinds.{currentFine}
-use Rattle.chip.specs.Close.{expectedOf, missing, WithLog, withLog, entriesOf, closed}
+use Rattle.chip.specs.Close.{expectedOf, missing, entriesOf, closed}
 use Rattle.chip.specs.Report.{logged}
 use Rattle.moment.proofs.Current.{current-busy}
-use Rattle.reset.specs.Reset.{restored, WithGlassLog, onDevice, onLog, onGlass, isDriving, cutShort, dropped, cut, inReset, asserted, released, byLine}
+use Rattle.reset.specs.Reset.{restored, isDriving, cutShort, dropped, cut, inReset, asserted, released, byLine}
 
 -- ---- 26 if parameters lack
 module _ (time : ℕ) (e : Entries) where
@@ -96,7 +97,7 @@ leaves-then u v w p q =
       log-long = λ h. q .log-long (p .log-long h);
     }
 
-leaves-closed : (w : WithGlassLog) → LineLeaves w (onLog closed w)
+leaves-closed : (w : WithGlassLog) → LineLeaves w (on logInGlassLog closed w)
 unfolding closed
 leaves-closed w =
     let k = withLog (w .device) (w .log) in
@@ -109,7 +110,7 @@ leaves-closed w =
       log-long = missing-length (w .device .now) (entriesOf k) (w .device .bus .current);
     }
 
-leaves-logged : (w : WithGlassLog) → LineLeaves w (onLog (logged ResetDuringDisplay) w)
+leaves-logged : (w : WithGlassLog) → LineLeaves w (on logInGlassLog (logged ResetDuringDisplay) w)
 unfolding logged
 leaves-logged w =
     let k = withLog (w .device) (w .log) in
@@ -122,7 +123,7 @@ leaves-logged w =
       log-long = reported-length (entriesOf k) (w .device .now) ResetDuringDisplay;
     }
 
-leaves-shortened : (luts : List ℕ) (w : WithGlassLog) → LineLeaves w (onGlass (cutShort luts) w)
+leaves-shortened : (luts : List ℕ) (w : WithGlassLog) → LineLeaves w (on glassInGlassLog (cutShort luts) w)
 unfolding cutShort finished published
 leaves-shortened luts w =
     record {
@@ -134,7 +135,7 @@ leaves-shortened luts w =
       log-long = λ h. h;
     }
 
-leaves-dropped : (w : WithGlassLog) → LineLeaves w (onDevice dropped w)
+leaves-dropped : (w : WithGlassLog) → LineLeaves w (on deviceInGlassLog dropped w)
 leaves-dropped w =
     record { same-config = refl; same-swing = refl; bounded = λ h. h; count = λ h. h; states-long = refl; log-long = λ h. h }
 
@@ -142,13 +143,13 @@ leaves-cut : (luts : List ℕ) (w : WithGlassLog) → LineLeaves w (cut luts w)
 unfolding cut
 leaves-cut luts w = by (isDriving (w .device))
   where
-    by : (b : Bool) → LineLeaves w (pick b (onGlass (cutShort luts) (onLog (logged ResetDuringDisplay) w)) (onDevice dropped w))
+    by : (b : Bool) → LineLeaves w (pick b (on glassInGlassLog (cutShort luts) (on logInGlassLog (logged ResetDuringDisplay) w)) (on deviceInGlassLog dropped w))
     by true =
-        let v = onLog (logged ResetDuringDisplay) w in
-        leaves-then w v (onGlass (cutShort luts) v) (leaves-logged w) (leaves-shortened luts v)
+        let v = on logInGlassLog (logged ResetDuringDisplay) w in
+        leaves-then w v (on glassInGlassLog (cutShort luts) v) (leaves-logged w) (leaves-shortened luts v)
     by false = leaves-dropped w
 
-leaves-restored : (w : WithGlassLog) → LineLeaves w (onDevice inReset (onDevice restored w))
+leaves-restored : (w : WithGlassLog) → LineLeaves w (on deviceInGlassLog inReset (on deviceInGlassLog restored w))
 unfolding inReset restored
 leaves-restored w =
     record {
@@ -163,12 +164,12 @@ leaves-restored w =
 leaves-asserted : (luts : List ℕ) (w : WithGlassLog) → LineLeaves w (asserted luts w)
 unfolding asserted
 leaves-asserted luts w =
-    let u = onLog closed w in
+    let u = on logInGlassLog closed w in
     let v = cut luts u in
-    leaves-then w u (onDevice inReset (onDevice restored v)) (leaves-closed w)
-    (leaves-then u v (onDevice inReset (onDevice restored v)) (leaves-cut luts u) (leaves-restored v))
+    leaves-then w u (on deviceInGlassLog inReset (on deviceInGlassLog restored v)) (leaves-closed w)
+    (leaves-then u v (on deviceInGlassLog inReset (on deviceInGlassLog restored v)) (leaves-cut luts u) (leaves-restored v))
 
-leaves-released : (w : WithGlassLog) → LineLeaves w (onDevice released w)
+leaves-released : (w : WithGlassLog) → LineLeaves w (on deviceInGlassLog released w)
 unfolding released
 leaves-released w =
     record { same-config = refl; same-swing = refl; bounded = λ h. h; count = λ h. h; states-long = refl; log-long = λ h. h }

@@ -9,6 +9,7 @@ use Rattle.config.specs.declared.PanelGeometry.{PanelGeometry}
 use Rattle.config.specs.declared.Ssd1677Timing.{Ssd1677Timing}
 use Rattle.otp.specs.Table.{badTable}
 use Rattle.device.specs.declared.Ssd1677.{Ssd1677}
+use Rattle.world.specs.World.{World}
 use Rattle.registers.proofs.Bounds.{Bounded}
 use Rattle.guard_lengths.specs.declared.Lent.{Lent}
 use Rattle.guard_lengths.specs.declared.Lent.the-variants.{Of}
@@ -18,7 +19,6 @@ use Rattle.guard_state.specs.State.{panelFine, swingFine, periodsFine, register
 use Rattle.guard_laws.proofs.Joined.{each}
 use Rattle.guard_laws.proofs.Accepted.{fine-registers, fine-lengths}
 use Rattle.guard_laws.proofs.Kept.{registers-pass, state-passes}
-use Rattle.calls.specs.World.{World}
 use Rattle.calls.specs.Sound.{lengthsIn, Sound}
 
 -- what 13 asks

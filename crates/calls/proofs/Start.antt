@@ -18,6 +18,7 @@ use Rattle.panel.specs.Start.{panelAtPowerOn, powerOn}
 use Rattle.panel_laws.proofs.Start.{some-swing}
 use Rattle.device.specs.declared.Current.the-variants.{Idle}
 use Rattle.device.specs.declared.Ssd1677.{Ssd1677}
+use Rattle.world.specs.World.{World, deviceInWorld, glassInWorld, glassLogInWorld, buffersInWorld, planesInWorld}
 use Rattle.registers.proofs.Bounds.{reset-bounded}
 use Rattle.guard.specs.declared.Refusal.{Refusal}
 use Rattle.guard.specs.declared.Refusal.the-variants.{State}
@@ -37,7 +38,7 @@ use Rattle.res.specs.Line.{lineMoved}
 use Rattle.low.specs.Command.{commandWritten}
 use Rattle.high.specs.Data.{dataWritten}
 use Rattle.driven.specs.Read.{WithRead, dataRead}
-use Rattle.calls.specs.World.{World, worldOf, Call, advance, set-reset, write-command, write-data, read-data, set-ambient, take-diagnostics, putDevice, putGlass, putGlassLog, putBuffers, putPlanes, back, called}
+use Rattle.calls.specs.World.{worldOf, Call, advance, set-reset, write-command, write-data, read-data, set-ambient, take-diagnostics, back, called}
 use Rattle.calls.specs.Sound.{Sound}
 use Rattle.calls.proofs.Parts.{Fine, Long, is-sound}
 
@@ -118,15 +119,15 @@ three-refuse d l otp e = rw e
 -- and leaves the world as given
 pub unfine-refused : (otp : List ℕ) (w : World) → stateFine (w .device) ≡ false → (call : Call) → called otp w call ≡ outcome 13 w
 unfolding clockMoved lineMoved commandWritten dataWritten dataRead ambientSet diagnosticsTaken
-unfine-refused otp w e (advance time) = ap (back (putGlass w)) (refused-13 _ _ _ (two-refuse (w .device) _ e))
-unfine-refused otp w e (set-reset time low) = ap (back (putGlassLog w)) (refused-13 _ _ _ (two-refuse (w .device) _ e))
-unfine-refused otp w e (write-command time command) = ap (back (putBuffers w)) (refused-13 _ _ _ (three-refuse (w .device) _ otp e))
-unfine-refused otp w e (write-data time byte) = ap (back (putPlanes w)) (refused-13 _ _ _ (two-refuse (w .device) _ e))
+unfine-refused otp w e (advance time) = ap (back (glassInWorld .put w)) (refused-13 _ _ _ (two-refuse (w .device) _ e))
+unfine-refused otp w e (set-reset time low) = ap (back (glassLogInWorld .put w)) (refused-13 _ _ _ (two-refuse (w .device) _ e))
+unfine-refused otp w e (write-command time command) = ap (back (buffersInWorld .put w)) (refused-13 _ _ _ (three-refuse (w .device) _ otp e))
+unfine-refused otp w e (write-data time byte) = ap (back (planesInWorld .put w)) (refused-13 _ _ _ (two-refuse (w .device) _ e))
 unfine-refused otp w e (read-data time) =
-    ap (back (λ (r : WithRead). putGlassLog w (r .left))) (refused-13 _ _ _ (two-refuse (w .device) _ e))
-unfine-refused otp w e (set-ambient register) = ap (back (putDevice w)) (refused-13 _ _ _ (alone-refuses (w .device) e))
+    ap (back (λ (r : WithRead). glassLogInWorld .put w (r .left))) (refused-13 _ _ _ (two-refuse (w .device) _ e))
+unfine-refused otp w e (set-ambient register) = ap (back (deviceInWorld .put w)) (refused-13 _ _ _ (alone-refuses (w .device) e))
 unfine-refused otp w e take-diagnostics =
-    ap (back (λ (t : WithCount). putDevice w (t .device))) (refused-13 _ _ _ (alone-refuses (w .device) e))
+    ap (back (λ (t : WithCount). deviceInWorld .put w (t .device))) (refused-13 _ _ _ (alone-refuses (w .device) e))
 
 -- what a refused start hands back, 13 refuses also where it is only asked (is_busy, busy_pin, next_deadline, config, panel_image,
 -- dropped_diagnostics)

@@ -15,8 +15,8 @@ use Rattle.device.specs.declared.Kind.the-variants.{Write, Read, Unsupported, R
 use Rattle.device.specs.declared.Params.the-variants.{Exactly, Between, Stream}
 use Rattle.device.specs.declared.Power.{Power}
 use Rattle.device.specs.declared.Power.the-variants.{Running, Asleep, InReset}
+use Rattle.world.specs.World.{WithRam, on, deviceInRam, logInRam}
 use Rattle.chip.specs.Report.{logged}
-use Rattle.acts.specs.Ram.{WithRam, onDevice, onLog}
 use Rattle.data.specs.Data.{made, going, surplus, upTo, byKind, unasked, dataTaken}
 use Rattle.data_laws.proofs.Kept.{data-leaves}
 use Rattle.calls.specs.Sound.{takesNone, inert, UnderWay, Held}
@@ -32,7 +32,7 @@ module _ (w : WithRam) (u : UnderWay (w .device)) where
     unfolding surplus logged
     surplus-under-way = by (a .«extra_reported»)
       where
-        by : (b : Bool) → UnderWay (going a true (a .«range_reported») (pick b w (onLog (logged (ExtraData (a .command))) w)) .device)
+        by : (b : Bool) → UnderWay (going a true (a .«range_reported») (pick b w (on logInRam (logged (ExtraData (a .command))) w)) .device)
         by true = under-way-kept (w .device) _ refl refl refl refl none u
         by false = under-way-kept (w .device) _ refl refl refl refl none u
 
@@ -50,7 +50,7 @@ module _ (w : WithRam) (u : UnderWay (w .device)) where
     kind-under-way byte Unsupported h = surplus-under-way
     kind-under-way byte Reserved h = surplus-under-way
 
-  unasked-under-way : (byte : ℕ) (p : Power) → UnderWay (onDevice (made current.Ignoring) (unasked byte w p) .device)
+  unasked-under-way : (byte : ℕ) (p : Power) → UnderWay (on deviceInRam (made current.Ignoring) (unasked byte w p) .device)
   unfolding unasked logged
   unasked-under-way byte Running = under-way-kept (w .device) _ refl refl refl refl refl u
   unasked-under-way byte Asleep = under-way-kept (w .device) _ refl refl refl refl refl u

@@ -14,10 +14,10 @@ use Rattle.device.specs.declared.Kind.the-variants.{Write, Read, Unsupported, R
 use Rattle.device.specs.declared.Params.the-variants.{Exactly, Between, Stream}
 use Rattle.device.specs.declared.Power.the-variants.{Running}
 use Rattle.device.specs.declared.Ssd1677.{Ssd1677}
+use Rattle.world.specs.World.{World}
 use Rattle.guard_lengths.specs.declared.Lengths.{Lengths}
 use Rattle.guard_lengths.specs.Lengths.{lengthsFit, allLent}
 use Rattle.guard_state.specs.State.{stateFine}
-use Rattle.calls.specs.World.{World}
 
 -- the lengths of all that is lent
 abbrev pub lengthsIn : World → Lengths

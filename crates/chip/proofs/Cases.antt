@@ -12,7 +12,8 @@ use Rattle.device.specs.declared.Active as the
 use Rattle.device.specs.declared.Current.{Current}
 use Rattle.device.specs.declared.Current.the-variants.{Ignoring, Active}
 use Rattle.device.specs.Parts.{withBus, withCurrent, withJournal}
-use Rattle.chip.specs.Close.{WithLog, withLog, entriesOf, expectedOf, missing, fresh, closed}
+use Rattle.world.specs.World.{WithLog, withLog}
+use Rattle.chip.specs.Close.{entriesOf, expectedOf, missing, fresh, closed}
 use Rattle.chip.specs.Report.{logged}
 
 module _ (time : ℕ) (e : Entries) (current : Current) (a : the.Active) (want : ℕ) (is : current ≡ Active a) (wants : want ≡ expectedOf (a .kind)) where

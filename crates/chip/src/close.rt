@@ -2,7 +2,8 @@
 ghost use mathlib.Core.Path.{_≡_};
 ghost use lib.ListN.{length};
 ghost use Rattle.diagnostic.specs.Log.{entries};
-ghost use Rattle.chip.specs.Close.{expectedOf, missing, fresh, withLog, closed};
+ghost use Rattle.world.specs.World.{withLog};
+ghost use Rattle.chip.specs.Close.{expectedOf, missing, fresh, closed};
 use device::Current;
 use device::Kind;
 use device::Params;

@@ -10,7 +10,8 @@ use Rattle.panel.specs.Finish.{finished}
 use Rattle.panel.specs.Finish as glass
 use Rattle.panel_laws.proofs.Exactly.{states-length}
 use Rattle.moment.proofs.Current.{current-lowered}
-use Rattle.clock.specs.Advance.{WithGlass, endingOf, glassOf, published, isOver, ended, clocked, advanced}
+use Rattle.world.specs.World.{WithGlass}
+use Rattle.clock.specs.Advance.{endingOf, glassOf, published, isOver, ended, clocked, advanced}
 
 -- what the end of a display leaves, whether it has come or not
 ended-leaves : {A : Type 0} (f : WithGlass → A) (luts : List ℕ) (g : WithGlass)

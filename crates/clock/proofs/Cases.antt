@@ -13,8 +13,9 @@ use Rattle.device.specs.declared.Deadline.{Deadline}
 use Rattle.device.specs.declared.Deadline.the-variants.{Never, At}
 use Rattle.device.specs.Parts.{withNow, withBus}
 use Rattle.device.specs.Parts as part
+use Rattle.world.specs.World.{WithGlass, withGlass}
 use Rattle.moment.specs.Moments.{hasCome, lowered}
-use Rattle.clock.specs.Advance.{WithGlass, withGlass, stopped, endingOf, glassOf, isOver, isQuiet, ended, quieted, clocked, advanced}
+use Rattle.clock.specs.Advance.{stopped, endingOf, glassOf, isOver, isQuiet, ended, quieted, clocked, advanced}
 
 module _ (luts : List ℕ) (g : WithGlass) where
   pub ends : (after : Glass) (off : Display) (r : Ssd1677) → isOver (g .device) ≡ true

@@ -12,21 +12,12 @@ use Rattle.waveform.specs.declared.Until.{Until}
 use Rattle.device.specs.declared.Ssd1677.{Ssd1677}
 use Rattle.device.specs.Parts.{withNow, withBus}
 use Rattle.device.specs.Parts as part
+use Rattle.world.specs.World.{WithGlass, withGlass}
 use Rattle.moment.specs.Moments.{hasCome, lowered}
 
 -- what finishing a display asks of the state and its buffers; 13 and 11 refuse all else
 abbrev pub Ready : Ssd1677 → List ℤ → List ℕ → List ℕ → Type 0
 Ready d states luts pixels = Finishable (d .config .timing .«frame_period») (d .panel .swing) states luts pixels
-
--- the state with the lent states and pixels
-pub record WithGlass : Type 0 where
-  pub device : Ssd1677
-  pub states : List ℤ
-  pub pixels : List ℕ
-
--- the three as one
-abbrev pub withGlass : Ssd1677 → List ℤ → List ℕ → WithGlass
-withGlass d s p = record { device = d; states = s; pixels = p }
 
 -- a display that no longer runs
 abbrev pub stopped : Display → Display

@@ -2,7 +2,8 @@
 ghost use mathlib.Core.Path.{_≡_};
 ghost use Prim.Native.Nat.{max};
 ghost use Rattle.device.specs.Parts.{withNow};
-ghost use Rattle.clock.specs.Advance.{Ready, withGlass, stopped, ended, isQuiet, advanced};
+ghost use Rattle.world.specs.World.{withGlass};
+ghost use Rattle.clock.specs.Advance.{Ready, stopped, ended, isQuiet, advanced};
 use device::Ssd1677;
 use device::part;
 use panel::Display;

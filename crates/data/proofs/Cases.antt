@@ -26,9 +26,8 @@ use Rattle.device.specs.declared.Power.{Power}
 use Rattle.device.specs.declared.Power.the-variants.{Running, Asleep, InReset}
 use Rattle.device.specs.declared.Ssd1677.{Ssd1677}
 use Rattle.device.specs.Parts.{withBus, withCurrent, withPointed}
-use Rattle.chip.specs.Close.{WithLog, withLog}
+use Rattle.world.specs.World.{WithLog, withLog, WithRam, withRam, on, deviceInRam}
 use Rattle.chip.specs.Report.{logged}
-use Rattle.acts.specs.Ram.{WithRam, withRam, onDevice}
 use Rattle.parameter.specs.Parameter.{parameterTaken}
 use Rattle.data.specs.declared.Streamed.{Streamed}
 use Rattle.data.specs.Most.{isStream, mostOf}
@@ -80,7 +79,7 @@ module _ (a : Active) (w : WithRam) where
 
   pub steps-outside : (v : WithRam) (r : Ssd1677) → v ≡ outOfRange a w
       → r ≡ made (current.Active (counted a (a .«extra_reported») true)) (stepped (v .device))
-      → withRam r (v .blackWhite) (v .red) (v .log) ≡ going a (a .«extra_reported») true (onDevice stepped (outOfRange a w))
+      → withRam r (v .blackWhite) (v .red) (v .log) ≡ going a (a .«extra_reported») true (on deviceInRam stepped (outOfRange a w))
   steps-outside v r e f = rw (f, e)
 
 pub steps : (d r : Ssd1677) (c : Counter) (a b : Active) (bus : Bus) → c ≡ advancedOf (d .regs .counter) (d .regs .window) (d .regs .entry) → b ≡ a
@@ -110,7 +109,7 @@ module _ (byte : ℕ) (a : Active) (w : WithRam) (wrote : Bool) (b d : List ℕ)
     where
       by : (t : Bool) → b ≡ pick t (writtenAt (w .blackWhite) (w .device .regs .counter) byte) (w .blackWhite)
           → d ≡ pick t (w .red) (writtenAt (w .red) (w .device .regs .counter) byte)
-          → withRam r b d (w .log) ≡ going a (a .«extra_reported») (a .«range_reported») (onDevice stepped (put (pick t BlackWhite Red) byte w))
+          → withRam r b d (w .log) ≡ going a (a .«extra_reported») (a .«range_reported») (on deviceInRam stepped (put (pick t BlackWhite Red) byte w))
       by true p q = rw (e₄, e₃, e₂, e₁, p, q)
       by false p q = rw (e₄, e₃, e₂, e₁, p, q)
 
@@ -125,7 +124,7 @@ module _ (byte : ℕ) (a : Active) (w : WithRam) (wrote : Bool) (b d : List ℕ)
 
 -- past the RAM
 pub outside : (byte : ℕ) (a : Active) (w z : WithRam) → isInside (planeFor (a .command)) w ≡ false
-    → z ≡ going a (a .«extra_reported») true (onDevice stepped (outOfRange a w)) → z ≡ ramWritten byte a w
+    → z ≡ going a (a .«extra_reported») true (on deviceInRam stepped (outOfRange a w)) → z ≡ ramWritten byte a w
 unfolding ramWritten
 outside byte a w z h e = passed _ _ _ _ h e
 

@@ -20,8 +20,8 @@ use Rattle.device.specs.declared.Power.{Power}
 use Rattle.device.specs.declared.Power.the-variants.{Running, Asleep, InReset}
 use Rattle.device.specs.declared.Ssd1677.{Ssd1677}
 use Rattle.device.specs.Parts.{withBus, withCurrent, withCounter, withRegs}
+use Rattle.world.specs.World.{WithRam, withRam, on, deviceInRam, logInRam}
 use Rattle.chip.specs.Report.{logged}
-use Rattle.acts.specs.Ram.{WithRam, withRam, onDevice, onLog}
 use Rattle.parameter.specs.Parameter.{parameterTaken}
 
 -- the command with one byte more, the count stopping at 65,535 (mod.rs), and what it has reported
@@ -43,12 +43,12 @@ made c d = withBus d (withCurrent (d .bus) c)
 
 -- a command that a byte more has come to
 abbrev pub going : Active → Bool → Bool → WithRam → WithRam
-going a extra range w = onDevice (made (current.Active (counted a extra range))) w
+going a extra range w = on deviceInRam (made (current.Active (counted a extra range))) w
 
 -- 25 for more bytes than the command takes, once a command
 unfoldable pub surplus : Active → WithRam → WithRam
 surplus a w =
-    going a true (a .«range_reported») (pick (a .«extra_reported») w (onLog (logged (ExtraData (a .command))) w))
+    going a true (a .«range_reported») (pick (a .«extra_reported») w (on logInRam (logged (ExtraData (a .command))) w))
 
 -- a byte of a command that takes so many at most
 unfoldable pub upTo : ℕ → ℕ → Active → WithRam → WithRam
@@ -78,14 +78,14 @@ stepped d = withRegs d (withCounter (d .regs) (advancedOf (d .regs .counter) (d 
 unfoldable pub outOfRange : Active → WithRam → WithRam
 outOfRange a w =
     pick (a .«range_reported») w
-    (onLog (logged (RamOutOfRange (a .command) (w .device .regs .counter .x) (w .device .regs .counter .y))) w)
+    (on logInRam (logged (RamOutOfRange (a .command) (w .device .regs .counter .x) (w .device .regs .counter .y))) w)
 
 -- a byte of 0x24 or 0x26: put at the counter, or 31; the counter steps in either case
 unfoldable pub ramWritten : ℕ → Active → WithRam → WithRam
 ramWritten byte a w =
     pick (isInside (planeFor (a .command)) w)
-    (going a (a .«extra_reported») (a .«range_reported») (onDevice stepped (put (planeFor (a .command)) byte w)))
-    (going a (a .«extra_reported») true (onDevice stepped (outOfRange a w)))
+    (going a (a .«extra_reported») (a .«range_reported») (on deviceInRam stepped (put (planeFor (a .command)) byte w)))
+    (going a (a .«extra_reported») true (on deviceInRam stepped (outOfRange a w)))
 
 -- by what the active command is
 unfoldable pub byKind : ℕ → Active → WithRam → Kind → WithRam
@@ -98,12 +98,12 @@ byKind byte a w Reserved = surplus a w
 
 -- 24 for a byte with no command before it, of a chip that runs
 unfoldable pub unasked : ℕ → WithRam → Power → WithRam
-unasked byte w Running = onLog (logged (DataWithoutCommand byte)) w
+unasked byte w Running = on logInRam (logged (DataWithoutCommand byte)) w
 unasked byte w Asleep = w
 unasked byte w InReset = w
 
 -- by the command that the byte belongs to; 24 comes once, since later bytes are ignored
 unfoldable pub dataTaken : ℕ → WithRam → Current → WithRam
-dataTaken byte w current.Idle = onDevice (made current.Ignoring) (unasked byte w (w .device .bus .power))
+dataTaken byte w current.Idle = on deviceInRam (made current.Ignoring) (unasked byte w (w .device .bus .power))
 dataTaken byte w current.Ignoring = w
 dataTaken byte w (current.Active a) = byKind byte a w (a .kind)

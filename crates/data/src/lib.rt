@@ -9,11 +9,10 @@ ghost use Rattle.device.specs.declared.Current.the-variants as current;
 ghost use Rattle.numbers.specs.Choice.{pick};
 ghost use Rattle.ram.specs.Plane.{planeOf, wroteAt, writtenAt};
 ghost use Rattle.diagnostic.specs.declared.DiagnosticKind.the-variants.{ExtraData};
-ghost use Rattle.chip.specs.Close.{withLog};
 ghost use Rattle.chip.specs.Report.{logged};
-ghost use Rattle.acts.specs.Ram.{withRam, onDevice};
 ghost use Rattle.data.specs.Most.{isStream, mostOf};
 ghost use Rattle.device.specs.Parts.{withPointed};
+ghost use Rattle.world.specs.World.{withLog, withRam, on, deviceInRam};
 ghost use Rattle.data.specs.Stream.{leftAs, isStreamed, streamed};
 ghost use Rattle.data.specs.Data.{counted, made, going, surplus, upTo, stepped, outOfRange, planeFor, unasked, dataTaken};
 use device::Active;
@@ -179,7 +178,7 @@ fn report_range(state: Ssd1677, log: &mut [u8], active: Active) -> Ssd1677
 // Past the RAM the counter steps all the same.
 fn step_outside(state: Ssd1677, log: &mut [u8], active: Active) -> Ssd1677
     requires { ⌜ length (now log) ≡ 16384 ⌝ }
-    ensures { λ r. ⌜ ((b d : List ℕ) → withRam r b d (now (log .exit)) ≡ going active (active .«extra_reported») true (onDevice stepped (outOfRange active (withRam state b d (now (log .entry)))))) ⌝ }
+    ensures { λ r. ⌜ ((b d : List ℕ) → withRam r b d (now (log .exit)) ≡ going active (active .«extra_reported») true (on deviceInRam stepped (outOfRange active (withRam state b d (now (log .entry)))))) ⌝ }
 {
     let noted = report_range(state, log, active);
     step(noted, active, true)

@@ -25,9 +25,8 @@ use Rattle.device.specs.declared.Params.the-variants.{Exactly, Between, Stream}
 use Rattle.device.specs.declared.Power.{Power}
 use Rattle.device.specs.declared.Power.the-variants.{Running, Asleep, InReset}
 use Rattle.device.specs.declared.Ssd1677.{Ssd1677}
-use Rattle.chip.specs.Close.{WithLog, withLog}
+use Rattle.world.specs.World.{WithLog, withLog, WithRam, on, deviceInRam, logInRam}
 use Rattle.chip.specs.Report.{logged}
-use Rattle.acts.specs.Ram.{WithRam, withRam, onDevice, onLog}
 use Rattle.parameter.specs.Parameter.{parameterTaken}
 use Rattle.acts_laws.proofs.Kept.{Sound, KeptRam, on-log, logged-kept}
 use Rattle.parameter.proofs.Kept.{parameter-kept}
@@ -125,10 +124,10 @@ of-kept w v p =
       red-long = p .red-long;
     }
 
-leaves-made : (c : Current) (w : WithRam) → DataLeaves w (onDevice (made c) w)
+leaves-made : (c : Current) (w : WithRam) → DataLeaves w (on deviceInRam (made c) w)
 leaves-made c w = record { rests = rests-made c (logOf w); black-white-long = refl; red-long = refl }
 
-leaves-stepped : (w : WithRam) → DataLeaves w (onDevice stepped w)
+leaves-stepped : (w : WithRam) → DataLeaves w (on deviceInRam stepped w)
 leaves-stepped w = record { rests = rests-stepped (logOf w); black-white-long = refl; red-long = refl }
 
 pub written-length : (p : List ℕ) (c : Counter) (byte : ℕ) → length (writtenAt p c byte) ≡ length p
@@ -145,15 +144,15 @@ leaves-put BlackWhite byte w =
 leaves-put Red byte w =
     record { rests = rests-all (logOf w); black-white-long = refl; red-long = written-length (w .red) (w .device .regs .counter) byte }
 
-leaves-logged : (b : Bool) (kind : DiagnosticKind) (w : WithRam) → DataLeaves w (pick b w (onLog (logged kind) w))
+leaves-logged : (b : Bool) (kind : DiagnosticKind) (w : WithRam) → DataLeaves w (pick b w (on logInRam (logged kind) w))
 leaves-logged true kind w = leaves-all w
-leaves-logged false kind w = of-kept w (onLog (logged kind) w) (on-log (logged kind) w (logged-kept kind (withLog (w .device) (w .log))))
+leaves-logged false kind w = of-kept w (on logInRam (logged kind) w) (on-log (logged kind) w (logged-kept kind (withLog (w .device) (w .log))))
 
 module _ (a : Active) (w : WithRam) where
   leaves-surplus : DataLeaves w (surplus a w)
   unfolding surplus
   leaves-surplus =
-      let v = pick (a .«extra_reported») w (onLog (logged (ExtraData (a .command))) w) in
+      let v = pick (a .«extra_reported») w (on logInRam (logged (ExtraData (a .command))) w) in
       leaves-then w v (going a true (a .«range_reported») v)
       (leaves-logged (a .«extra_reported») (ExtraData (a .command)) w)
       (leaves-made (current.Active (counted a true (a .«range_reported»))) v)
@@ -176,11 +175,11 @@ module _ (a : Active) (w : WithRam) where
   leaves-out = leaves-logged (a .«range_reported») (RamOutOfRange (a .command) (w .device .regs .counter .x) (w .device .regs .counter .y)) w
 
   -- a step of the counter, and a byte more
-  leaves-on : (range : Bool) (v : WithRam) → DataLeaves w v → DataLeaves w (going a (a .«extra_reported») range (onDevice stepped v))
+  leaves-on : (range : Bool) (v : WithRam) → DataLeaves w v → DataLeaves w (going a (a .«extra_reported») range (on deviceInRam stepped v))
   leaves-on range v p =
-      leaves-then w (onDevice stepped v) (going a (a .«extra_reported») range (onDevice stepped v))
-      (leaves-then w v (onDevice stepped v) p (leaves-stepped v))
-      (leaves-made (current.Active (counted a (a .«extra_reported») range)) (onDevice stepped v))
+      leaves-then w (on deviceInRam stepped v) (going a (a .«extra_reported») range (on deviceInRam stepped v))
+      (leaves-then w v (on deviceInRam stepped v) p (leaves-stepped v))
+      (leaves-made (current.Active (counted a (a .«extra_reported») range)) (on deviceInRam stepped v))
 
   leaves-ram : (byte : ℕ) → DataLeaves w (ramWritten byte a w)
   unfolding ramWritten
@@ -189,8 +188,8 @@ module _ (a : Active) (w : WithRam) where
       by : (b : Bool)
           → DataLeaves w
           (pick b
-          (going a (a .«extra_reported») (a .«range_reported») (onDevice stepped (put (planeFor (a .command)) byte w)))
-          (going a (a .«extra_reported») true (onDevice stepped (outOfRange a w))))
+          (going a (a .«extra_reported») (a .«range_reported») (on deviceInRam stepped (put (planeFor (a .command)) byte w)))
+          (going a (a .«extra_reported») true (on deviceInRam stepped (outOfRange a w))))
       by true = leaves-on (a .«range_reported») (put (planeFor (a .command)) byte w) (leaves-put (planeFor (a .command)) byte w)
       by false = leaves-on true (outOfRange a w) leaves-out
 
@@ -213,21 +212,21 @@ pub data-leaves : (byte : ℕ) (w : WithRam) (c : Current) → byte ≤ 255 → 
 unfolding dataTaken
 data-leaves byte w current.Idle small =
     let v = unasked byte w (w .device .bus .power) in
-    leaves-then w v (onDevice (made current.Ignoring) v) (leaves-unasked byte w (w .device .bus .power)) (leaves-made current.Ignoring v)
+    leaves-then w v (on deviceInRam (made current.Ignoring) v) (leaves-unasked byte w (w .device .bus .power)) (leaves-made current.Ignoring v)
 data-leaves byte w current.Ignoring small = leaves-all w
 data-leaves byte w (current.Active a) small = leaves-kind a w byte small (a .kind)
 
 -- what is so of an ignored command, and goes by the command and its kind alone, stays so of the current one
 module _ (P : Current → Type 0) (ignored : P current.Ignoring)
-    (on : (a : Active) (extra range : Bool) → P (current.Active a) → P (current.Active (counted a extra range))) where
+    (counts : (a : Active) (extra range : Bool) → P (current.Active a) → P (current.Active (counted a extra range))) where
   current-up-to : (most byte : ℕ) (a : Active) (w : WithRam) → P (current.Active a) → P (upTo most byte a w .device .bus .current)
   unfolding upTo surplus
   current-up-to most byte a w h = by (ltb (a .received) most)
     where
       by : (b : Bool)
           → P (pick b (going a (a .«extra_reported») (a .«range_reported») (parameterTaken (a .command) (a .received) byte w)) (surplus a w) .device .bus .current)
-      by true = on a (a .«extra_reported») (a .«range_reported») h
-      by false = on a true (a .«range_reported») h
+      by true = counts a (a .«extra_reported») (a .«range_reported») h
+      by false = counts a true (a .«range_reported») h
 
   current-ram : (byte : ℕ) (a : Active) (w : WithRam) → P (current.Active a) → P (ramWritten byte a w .device .bus .current)
   unfolding ramWritten
@@ -236,19 +235,19 @@ module _ (P : Current → Type 0) (ignored : P current.Ignoring)
       by : (b : Bool)
           → P
           (pick b
-          (going a (a .«extra_reported») (a .«range_reported») (onDevice stepped (put (planeFor (a .command)) byte w)))
-          (going a (a .«extra_reported») true (onDevice stepped (outOfRange a w))) .device .bus .current)
-      by true = on a (a .«extra_reported») (a .«range_reported») h
-      by false = on a (a .«extra_reported») true h
+          (going a (a .«extra_reported») (a .«range_reported») (on deviceInRam stepped (put (planeFor (a .command)) byte w)))
+          (going a (a .«extra_reported») true (on deviceInRam stepped (outOfRange a w))) .device .bus .current)
+      by true = counts a (a .«extra_reported») (a .«range_reported») h
+      by false = counts a (a .«extra_reported») true h
 
   current-kind : (byte : ℕ) (a : Active) (w : WithRam) (k : Kind) → P (current.Active a) → P (byKind byte a w k .device .bus .current)
   unfolding byKind surplus
   current-kind byte a w (Write (Exactly count)) h = current-up-to count byte a w h
   current-kind byte a w (Write (Between least most)) h = current-up-to most byte a w h
   current-kind byte a w (Write Stream) h = current-ram byte a w h
-  current-kind byte a w Read h = on a true (a .«range_reported») h
-  current-kind byte a w Unsupported h = on a true (a .«range_reported») h
-  current-kind byte a w Reserved h = on a true (a .«range_reported») h
+  current-kind byte a w Read h = counts a true (a .«range_reported») h
+  current-kind byte a w Unsupported h = counts a true (a .«range_reported») h
+  current-kind byte a w Reserved h = counts a true (a .«range_reported») h
 
   pub current-kept : (byte : ℕ) (w : WithRam) (c : Current) → w .device .bus .current ≡ c → P c → P (dataTaken byte w c .device .bus .current)
   unfolding dataTaken

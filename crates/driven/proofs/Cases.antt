@@ -5,9 +5,8 @@ use mathlib.Core.Bool.{Bool, true, false}
 use mathlib.Core.List.{List}
 use lib.ListN.{length}
 use Rattle.ram.specs.declared.Byte.the-variants.{Nothing}
-use Rattle.clock.specs.Advance.{Ready, WithGlass, withGlass, advanced}
-use Rattle.chip.specs.Close.{withLog}
-use Rattle.reset.specs.Reset.{WithGlassLog, withGlassLog}
+use Rattle.world.specs.World.{withLog, WithGlass, withGlass, WithGlassLog, withGlassLog}
+use Rattle.clock.specs.Advance.{Ready, advanced}
 use Rattle.reading.specs.Reading.{WithByte, readTaken}
 use Rattle.guard_lengths.specs.declared.Lengths.{Lengths}
 use Rattle.guard_lengths.specs.declared.Lent.the-variants.{Nothing as none, Of}

@@ -1,6 +1,6 @@
 // A byte with D/C# high that the chip drives (mod.rs, `read_data`).
 ghost use mathlib.Core.Path.{_≡_};
-ghost use Rattle.reset.specs.Reset.{withGlassLog};
+ghost use Rattle.world.specs.World.{withGlassLog};
 ghost use Rattle.guard.specs.Refusals.{numberOf};
 ghost use Rattle.query.specs.Outcome.{outcome};
 ghost use Rattle.driven.specs.Read.{withRead, dataRead};

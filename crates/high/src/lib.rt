@@ -2,7 +2,8 @@
 ghost use mathlib.Core.Path.{_≡_};
 ghost use Rattle.guard.specs.Refusals.{numberOf};
 ghost use Rattle.query.specs.Outcome.{outcome};
-ghost use Rattle.high.specs.Data.{withPlanes, dataWritten};
+ghost use Rattle.world.specs.World.{withPlanes};
+ghost use Rattle.high.specs.Data.{dataWritten};
 use device::Ssd1677;
 use device::part;
 use query::Answer;

@@ -9,38 +9,35 @@ use denote.Ref.{now}
 use Rattle.config.specs.declared.Ssd1677Config.{Ssd1677Config}
 use Rattle.config.specs.Answer.{isAccepted}
 use Rattle.device.specs.declared.Ssd1677.{Ssd1677}
+use Rattle.world.specs.World.{World, world, WithGlass, WithGlassLog, WithBuffers, WithPlanes, deviceInWorld, glassInWorld, glassLogInWorld, buffersInWorld, planesInWorld}
 use Rattle.guard.specs.declared.Refusal.{Refusal}
 use Rattle.guard.specs.declared.Refusal.the-variants.{Accepted, Buffer, Table, State}
 use Rattle.guard.specs.Refusals.{numberOf}
 use Rattle.query.specs.Outcome.{Outcome, outcome}
 use Rattle.query.specs.Queries.{WithCount}
-use Rattle.clock.specs.Advance.{WithGlass}
-use Rattle.reset.specs.Reset.{WithGlassLog}
-use Rattle.activation.specs.Activation.{WithBuffers}
-use Rattle.high.specs.Data.{WithPlanes}
 use Rattle.driven.specs.Read.{WithRead}
 use Rattle.power_on.specs.declared.StartError.{StartError}
 use Rattle.power_on.specs.Start.{Buffers, Powered, Start, start, startAnswerOf, started}
-use Rattle.calls.specs.World.{World, Call, worldOf, putDevice, putGlass, putGlassLog, putBuffers, putPlanes, back, called}
+use Rattle.calls.specs.World.{Call, worldOf, back, called}
 use Rattle.history.specs.Reckon.{coreOf, reckon, begun}
 use Rattle.history.specs.Runs as runs
 use Rattle.history.specs.Runs.{Runs}
 use Rattle.history.specs.History.{Agrees}
-use Rattle.history.specs.Contracts.{world, New, new, Answers, Made, done, accepted, refused}
+use Rattle.history.specs.Contracts.{New, new, Answers, Made, done, accepted, refused}
 use Rattle.history.specs.Contracts as contracts
 use Rattle.history.proofs.History.{history}
 
 -- ---- by call
 pub answers-called : {otp : List ℕ} {w v : World} {call : Call} {reason : Refusal} → Answers otp w call reason v → outcome (numberOf reason) v ≡ called otp w call
 answers-called (contracts.advance κs a r s q otp b e g l) =
-    ap (λ (o : Outcome WithGlass). back (putGlass (world (a .0) (now (a .1 .0)) (now (a .1 .1 .0)) (now (a .1 .1 .1 .0)) b e g l)) o) q
+    ap (λ (o : Outcome WithGlass). back (glassInWorld .put (world (a .0) (now (a .1 .0)) (now (a .1 .1 .0)) (now (a .1 .1 .1 .0)) b e g l)) o) q
 answers-called (contracts.set-reset κs a r s q otp b e g) =
-    ap (λ (o : Outcome WithGlassLog). back (putGlassLog (world (a .0) (now (a .1 .0)) (now (a .1 .1 .0)) (now (a .1 .1 .1 .0)) b e g (now (a .1 .1 .1 .1 .0)))) o) q
+    ap (λ (o : Outcome WithGlassLog). back (glassLogInWorld .put (world (a .0) (now (a .1 .0)) (now (a .1 .1 .0)) (now (a .1 .1 .1 .0)) b e g (now (a .1 .1 .1 .1 .0)))) o) q
 answers-called (contracts.write-command κs a r s q) =
     ap
     (λ (o : Outcome WithBuffers).
     back
-    (putBuffers
+    (buffersInWorld .put
     (world (a .0) (now (a .1 .0)) (now (a .1 .1 .0)) (now (a .1 .1 .1 .0)) (now (a .1 .1 .1 .1 .0)) (now (a .1 .1 .1 .1 .1 .0))
     (now (a .1 .1 .1 .1 .1 .1 .0)) (now (a .1 .1 .1 .1 .1 .1 .1 .0))))
     o)
@@ -49,7 +46,7 @@ answers-called (contracts.write-data κs a r s q otp g) =
     ap
     (λ (o : Outcome WithPlanes).
     back
-    (putPlanes
+    (planesInWorld .put
     (world (a .0) (now (a .1 .0)) (now (a .1 .1 .0)) (now (a .1 .1 .1 .0)) (now (a .1 .1 .1 .1 .0)) (now (a .1 .1 .1 .1 .1 .0)) g
     (now (a .1 .1 .1 .1 .1 .1 .0))))
     o)
@@ -59,14 +56,14 @@ answers-called (contracts.read-data κs a r s q otp g) =
     (λ (o : Outcome WithRead).
     back
     (λ (x : WithRead).
-    putGlassLog
+    glassLogInWorld .put
     (world (a .0) (now (a .1 .0)) (now (a .1 .1 .0)) (now (a .1 .1 .1 .0)) (now (a .1 .1 .1 .1 .0)) (now (a .1 .1 .1 .1 .1 .0)) g
     (now (a .1 .1 .1 .1 .1 .1 .0)))
     (x .left))
     o)
     q
-answers-called (contracts.set-ambient κs a r s q otp w) = ap (λ (o : Outcome Ssd1677). back (putDevice w) o) q
-answers-called (contracts.take-diagnostics κs a r s q otp w) = ap (λ (o : Outcome WithCount). back (λ (t : WithCount). putDevice w (t .device)) o) q
+answers-called (contracts.set-ambient κs a r s q otp w) = ap (λ (o : Outcome Ssd1677). back (deviceInWorld .put w) o) q
+answers-called (contracts.take-diagnostics κs a r s q otp w) = ap (λ (o : Outcome WithCount). back (λ (t : WithCount). deviceInWorld .put w (t .device)) o) q
 
 pub not-nought : (r : Refusal) → (r ≡ Accepted → ⊥) → numberOf r ≡ 0 → ⊥
 not-nought Accepted n e = n refl

@@ -10,7 +10,8 @@ use Rattle.numbers.specs.Saturation.{largest}
 use Rattle.config.specs.declared.Ssd1677Config.{Ssd1677Config}
 use Rattle.config.specs.Answer.{isAccepted}
 use Rattle.power_on.specs.Start.{Buffers, started}
-use Rattle.calls.specs.World.{World, Call, worldOf, taken}
+use Rattle.world.specs.World.{World}
+use Rattle.calls.specs.World.{Call, worldOf, taken}
 use Rattle.history.specs.Reckon.{coreOf, shownBy, Worked, worked, Reckoning, reckonCall, reckon, begun}
 use Rattle.history.specs.Runs.{Runs, done, accepted, refused}
 use Rattle.history.specs.History.{Agrees, worksIn}

@@ -18,11 +18,12 @@ use Rattle.device.specs.declared.Deadline.the-variants.{Never, At}
 use Rattle.device.specs.declared.Power.{Power}
 use Rattle.device.specs.declared.Power.the-variants.{Running, Asleep, InReset}
 use Rattle.device.specs.declared.Ssd1677.{Ssd1677}
+use Rattle.world.specs.World.{WithGlass, withGlass, WithGlassLog, on, deviceInGlassLog, logInGlassLog, glassInGlassLog}
 use Rattle.moment.specs.Moments.{nsBetween, lowered}
-use Rattle.clock.specs.Advance.{WithGlass, withGlass, isOver, clocked, quieted, published, endingOf, glassOf, ended, advanced}
+use Rattle.clock.specs.Advance.{isOver, clocked, quieted, published, endingOf, glassOf, ended, advanced}
 use Rattle.chip.specs.Close.{closed}
 use Rattle.chip.specs.Report.{logged}
-use Rattle.reset.specs.Reset.{WithGlassLog, onDevice, onLog, onGlass, restored, isDriving, cutShort, dropped, cut, inReset, asserted, released, byLine}
+use Rattle.reset.specs.Reset.{restored, isDriving, cutShort, dropped, cut, inReset, asserted, released, byLine}
 use Rattle.history.specs.Reckon.{upTo, Worked, falls, numberOver}
 use Rattle.history.proofs.Blind.{seenGlassLog}
 use Rattle.history.proofs.Shows.{Marks, Shows, over, refresh, finish-shows}
@@ -108,10 +109,10 @@ asserted-shows luts w number before h = by (isDriving (w .device)) refl
     d = w .device
 
     v : WithGlassLog
-    v = onLog (logged ResetDuringDisplay) (onLog closed w)
+    v = on logInGlassLog (logged ResetDuringDisplay) (on logInGlassLog closed w)
 
     fallen : Bool → WithGlassLog
-    fallen b = onDevice inReset (onDevice restored (pick b (onGlass (cutShort luts) v) (onDevice dropped (onLog closed w))))
+    fallen b = on deviceInGlassLog inReset (on deviceInGlassLog restored (pick b (on glassInGlassLog (cutShort luts) v) (on deviceInGlassLog dropped (on logInGlassLog closed w))))
 
     by : (b : Bool) → isDriving d ≡ b
         → Shows (seenGlassLog (fallen b)) (over (d .config) (pick b (refresh luts (d .display) (upTo (d .now - d .display .started)) ∷ []) []) number)

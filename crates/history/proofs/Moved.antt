@@ -13,9 +13,10 @@ use Rattle.device.specs.declared.Bus.{Bus}
 use Rattle.device.specs.declared.Deadline.{Deadline}
 use Rattle.device.specs.declared.Deadline.the-variants.{Never, At}
 use Rattle.device.specs.declared.Ssd1677.{Ssd1677}
+use Rattle.world.specs.World.{WithGlass}
 use Rattle.busy.specs.Busy.{pending}
 use Rattle.moment.specs.Moments.{lowered}
-use Rattle.clock.specs.Advance.{WithGlass, isOver, clocked, quieted, published, endingOf, ended, advanced}
+use Rattle.clock.specs.Advance.{isOver, clocked, quieted, published, endingOf, ended, advanced}
 use Rattle.clock.specs.Advance as chip
 use Rattle.history.specs.Reckon.{upTo, Worked}
 use Rattle.history.proofs.Shows.{refresh}

@@ -15,15 +15,14 @@ use Rattle.device.specs.declared.Params.the-variants.{Exactly}
 use Rattle.device.specs.declared.Power.{Power}
 use Rattle.device.specs.declared.Power.the-variants.{Running, Asleep, InReset}
 use Rattle.device.specs.declared.Ssd1677.{Ssd1677}
+use Rattle.world.specs.World.{World, withGlass, WithBuffers, Lent, lentOf, on, deviceInBuffers}
 use Rattle.command.specs.Table.{rows, kindOf}
 use Rattle.busy.specs.Busy.{pending}
 use Rattle.moment.specs.Moments.{afterNs}
-use Rattle.clock.specs.Advance.{withGlass}
 use Rattle.stages.specs.Run.{controlOf, Step, noted}
 use Rattle.activation.specs.Display.{Displayed, displayOf, begun, shown, unchanged}
-use Rattle.activation.specs.Activation.{WithLuts, withLuts, Lent, WithBuffers, settled, before, during, staged, stagedIn, activated}
+use Rattle.activation.specs.Activation.{WithLuts, withLuts, settled, before, during, staged, stagedIn, activated}
 use Rattle.begin.specs.Begin as begin
-use Rattle.calls.specs.World.{World, lentOf}
 use Rattle.history.specs.Reckon.{Core, coreOf, deviceOf, bare, all, Worked, numberOver}
 use Rattle.history.proofs.Blind.{seenBuffers}
 use Rattle.history.proofs.Stages.{unbused}
@@ -127,5 +126,5 @@ module _ (k : Lent) (number : Marks) where
           (over (w .device .config) (pick (not b) (onceIn k (w .device) (w .luts)) []) number)
       by true = subst (λ s. Shows s number) (sym (still-told k 0x20 (WhileBusy 0x20) w)) h
       by false =
-          activated-shows (begin.onDevice (begin.made 0x20 (Write (Exactly 0))) w)
+          activated-shows (on deviceInBuffers (begin.made 0x20 (Write (Exactly 0))) w)
           h

@@ -18,7 +18,8 @@ use Rattle.waveform.specs.Exact.{settingPhases}
 use Rattle.config.specs.declared.Ssd1677Config.{Ssd1677Config}
 use Rattle.config.specs.Answer.{isAccepted}
 use Rattle.power_on.specs.Start.{Buffers, started}
-use Rattle.calls.specs.World.{World, Call, worldOf}
+use Rattle.world.specs.World.{World}
+use Rattle.calls.specs.World.{Call, worldOf}
 use Rattle.calls.proofs.Kept.{states-kept}
 use Rattle.history.specs.Reckon.{Worked, worked, swingOf, drivesBy, numberAfter, numberOver, coreOf, Reckoning, reckonCall, reckon, begun}
 use Rattle.history.specs.Runs.{Runs, done, accepted, refused}

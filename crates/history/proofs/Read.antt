@@ -16,7 +16,7 @@ use Rattle.device.specs.declared.Kind.{Kind}
 use Rattle.device.specs.declared.Kind.the-variants.{Write, Read, Unsupported, Reserved}
 use Rattle.device.specs.declared.Power.{Power}
 use Rattle.device.specs.declared.Power.the-variants.{Running, Asleep, InReset}
-use Rattle.chip.specs.Close.{WithLog}
+use Rattle.world.specs.World.{WithLog}
 use Rattle.chip.specs.Report.{logged}
 use Rattle.reading.specs.Reading.{WithByte, withByte, going, nothingRead, registerRead, chosen, outOfRange, moved, ramFound, ramRead, byteRead, byKind, byCurrent, readTaken}
 use Rattle.history.proofs.Blind.{plainLog, seenLog, quiet-then, quiet-pick}

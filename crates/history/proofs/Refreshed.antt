@@ -19,21 +19,21 @@ use Rattle.device.specs.declared.Power.{Power}
 use Rattle.device.specs.declared.Power.the-variants.{Running, Asleep, InReset}
 use Rattle.device.specs.declared.Ssd1677.{Ssd1677}
 use Rattle.device.specs.Parts.{withDisplay}
+use Rattle.world.specs.World.{World, WithGlass, withGlass, WithGlassLog, WithBuffers, Lent, lentOf, on, deviceInGlassLog, logInGlassLog, glassInGlassLog, deviceInBuffers, logInBuffers}
 use Rattle.command.specs.declared.Known.{Known}
 use Rattle.command.specs.declared.Known.the-variants.{Of, Unknown}
 use Rattle.command.specs.Table.{rows, kindOf}
 use Rattle.busy.specs.Busy.{pending}
-use Rattle.clock.specs.Advance.{WithGlass, withGlass, stopped, isOver, clocked, quieted, published, endingOf, glassOf, ended, advanced}
+use Rattle.clock.specs.Advance.{stopped, isOver, clocked, quieted, published, endingOf, glassOf, ended, advanced}
 use Rattle.chip.specs.Close.{closed}
 use Rattle.chip.specs.Report.{logged}
 use Rattle.reset.specs.Reset as reset
 use Rattle.start.specs.Start.{softReset, vcomSensed, pointed}
 use Rattle.stages.specs.Run.{controlOf, Step, noted}
 use Rattle.activation.specs.Display.{Displayed, displayOf, begun, shown, unchanged}
-use Rattle.activation.specs.Activation.{WithLuts, withLuts, Lent, WithBuffers, settled, before, during, staged, stagedIn, activated}
+use Rattle.activation.specs.Activation.{WithLuts, withLuts, settled, before, during, staged, stagedIn, activated}
 use Rattle.begin.specs.Begin as begin
 use Rattle.power_on.specs.Start.{noDisplay}
-use Rattle.calls.specs.World.{World, lentOf}
 use Rattle.history.specs.Reckon.{Core, coreOf, deviceOf, bare, Refresh, Refreshing, none, one, shownBy, falls, begins, unreached, instead, all, upTo, reached, cutShort}
 use Rattle.history.proofs.Stages.{unbused}
 use Rattle.history.proofs.Display.{during-plain}
@@ -125,24 +125,24 @@ instead-ends t none o = none-twice t o
 instead-ends t (one r) o = refl
 
 -- ---- the reset line
-asserted-is : (luts : List ℕ) (w : reset.WithGlassLog) → shownBy (reset.asserted luts w .device .display) luts ≡ none
+asserted-is : (luts : List ℕ) (w : WithGlassLog) → shownBy (reset.asserted luts w .device .display) luts ≡ none
 unfolding reset.asserted reset.inReset reset.restored reset.cut reset.cutShort closed logged
 asserted-is luts w = by (reset.isDriving (w .device))
   where
-    v : reset.WithGlassLog
-    v = reset.onLog closed w
+    v : WithGlassLog
+    v = on logInGlassLog closed w
 
     by : (b : Bool)
         → shownBy
-        (reset.onDevice reset.inReset
-        (reset.onDevice reset.restored
-        (pick b (reset.onGlass (reset.cutShort luts) (reset.onLog (logged ResetDuringDisplay) v)) (reset.onDevice reset.dropped v))) .device .display)
+        (on deviceInGlassLog reset.inReset
+        (on deviceInGlassLog reset.restored
+        (pick b (on glassInGlassLog (reset.cutShort luts) (on logInGlassLog (logged ResetDuringDisplay) v)) (on deviceInGlassLog reset.dropped v))) .device .display)
         luts
         ≡ none
     by true = refl
     by false = refl
 
-pub line-is : (luts : List ℕ) (low : Bool) (w : reset.WithGlassLog) (power : Power)
+pub line-is : (luts : List ℕ) (low : Bool) (w : WithGlassLog) (power : Power)
     → shownBy (reset.byLine luts low w power .device .display) luts ≡ pick (falls low power) none (shownBy (w .device .display) luts)
 unfolding reset.byLine reset.released
 line-is luts true w InReset = refl
@@ -247,7 +247,7 @@ activation-is k w Running = by (pending (w .device .bus .«busy_until») (w .dev
     by : (b : Bool) → shownBy (next b .device .display) (next b .luts)
         ≡ onward (not b) (w .device .now) (beginsIn k (w .device) (w .luts)) (shownBy (w .device .display) (w .luts))
     by true = refl
-    by false = activated-is k (begin.onDevice (begin.made 0x20 (Write (Exactly 0))) w)
+    by false = activated-is k (on deviceInBuffers (begin.made 0x20 (Write (Exactly 0))) w)
 
 -- ---- another command chooses no LUTs
 module _ (k : Lent) (command : ℕ) (e : eqb command 0x20 ≡ false) where
@@ -256,7 +256,7 @@ module _ (k : Lent) (command : ℕ) (e : eqb command 0x20 ≡ false) where
   luts-run w = rw e (by (eqb command 0x12) (eqb command 0x28) (eqb command 0x24 || eqb command 0x26 || eqb command 0x27))
     where
       by : (a c d : Bool)
-          → pick a (begin.onDevice softReset w) (pick false (activated k w) (pick c (begin.onLog vcomSensed w) (pick d (begin.onLog (pointed command) w) w))) .luts
+          → pick a (on deviceInBuffers softReset w) (pick false (activated k w) (pick c (on logInBuffers vcomSensed w) (pick d (on logInBuffers (pointed command) w) w))) .luts
           ≡ w .luts
       by true c d = refl
       by false true d = refl
@@ -268,8 +268,8 @@ module _ (k : Lent) (command : ℕ) (e : eqb command 0x20 ≡ false) where
   luts-kind w Unknown = refl
   luts-kind w (Of Reserved) = refl
   luts-kind w (Of Unsupported) = refl
-  luts-kind w (Of (Write params)) = luts-run (begin.onDevice (begin.made command (Write params)) w)
-  luts-kind w (Of Read) = luts-run (begin.onDevice (begin.made command Read) w)
+  luts-kind w (Of (Write params)) = luts-run (on deviceInBuffers (begin.made command (Write params)) w)
+  luts-kind w (Of Read) = luts-run (on deviceInBuffers (begin.made command Read) w)
 
   pub luts-begun : (w : WithBuffers) (power : Power) → begin.begun k command w power .luts ≡ w .luts
   unfolding begin.begun

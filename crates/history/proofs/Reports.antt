@@ -15,8 +15,8 @@ use Rattle.res.specs.Line.{lineTaken}
 use Rattle.low.specs.Command.{commandTaken}
 use Rattle.high.specs.Data.{dataIn}
 use Rattle.driven.specs.Read.{readIn}
-use Rattle.reset.specs.Reset.{WithGlassLog}
-use Rattle.calls.specs.World.{World, Call, advance, set-reset, write-command, write-data, read-data, set-ambient, take-diagnostics, glassOf, glassLogOf, buffersOf, planesOf, lentOf, worldOf, taken}
+use Rattle.world.specs.World.{World, WithGlassLog, lentOf, glassInWorld, glassLogInWorld, buffersInWorld, planesInWorld}
+use Rattle.calls.specs.World.{Call, advance, set-reset, write-command, write-data, read-data, set-ambient, take-diagnostics, worldOf, taken}
 use Rattle.history.specs.Reckon.{Core, coreOf, stepped}
 use Rattle.history.specs.Runs.{Runs, done, accepted, refused}
 use Rattle.history.specs.Reports.{bareWith, reportsOf, flagAfter, Tally, reported, told, tallyCall, tally, noReport, reportsIn, takes, Untaken, Tallies}
@@ -67,25 +67,25 @@ module _ (otp : List ℕ) (w : World) (fits : Fits (w .device .journal)) where
 
   met-advance : (time : ℕ) → MetBy otp w (advance time)
   met-advance time =
-      meets inGlass inGlass 0 (advanced (w .luts) time) (omega arith) (tells-advanced (w .luts) time) (glassOf w) (glassOf bared) refl refl fits
+      meets inGlass inGlass 0 (advanced (w .luts) time) (omega arith) (tells-advanced (w .luts) time) (glassInWorld .get w) (glassInWorld .get bared) refl refl fits
 
   met-reset : (time : ℕ) (low : Bool) → MetBy otp w (set-reset time low)
   met-reset time low =
-      meets inGlassLog inGlassLog 2 (lineTaken (w .luts) time low) (omega arith) (tells-reset (w .luts) time low) (glassLogOf w) (glassLogOf bared) refl refl fits
+      meets inGlassLog inGlassLog 2 (lineTaken (w .luts) time low) (omega arith) (tells-reset (w .luts) time low) (glassLogInWorld .get w) (glassLogInWorld .get bared) refl refl fits
 
   met-command : (time command : ℕ) → MetBy otp w (write-command time command)
   met-command time command =
-      meets inBuffers inBuffers 17 (commandTaken (lentOf otp w) time command) (omega arith) (tells-command (lentOf otp w) command time) (buffersOf w)
-      (buffersOf bared) refl refl fits
+      meets inBuffers inBuffers 17 (commandTaken (lentOf otp w) time command) (omega arith) (tells-command (lentOf otp w) command time) (buffersInWorld .get w)
+      (buffersInWorld .get bared) refl refl fits
 
   met-data : (time byte : ℕ) → MetBy otp w (write-data time byte)
   met-data time byte =
-      meets inPlanes inPlanes 4 (dataIn (w .luts) time byte) (omega arith) (tells-data-in (w .luts) time byte) (planesOf w) (planesOf bared) refl refl fits
+      meets inPlanes inPlanes 4 (dataIn (w .luts) time byte) (omega arith) (tells-data-in (w .luts) time byte) (planesInWorld .get w) (planesInWorld .get bared) refl refl fits
 
   met-read : (time : ℕ) → MetBy otp w (read-data time)
   met-read time =
       meets inGlassLog inGlassLog 1 (λ (x : WithGlassLog). readIn (w .luts) (w .blackWhite) (w .red) time x .left) (omega arith)
-      (tells-read-in (w .luts) (w .blackWhite) (w .red) time) (glassLogOf w) (glassLogOf bared) refl refl fits
+      (tells-read-in (w .luts) (w .blackWhite) (w .red) time) (glassLogInWorld .get w) (glassLogInWorld .get bared) refl refl fits
 
   met-ambient : (register : ℕ) → MetBy otp w (set-ambient register)
   met-ambient register = record { few = omega arith; is = grown-none (w .device .journal) fits }

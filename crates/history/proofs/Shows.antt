@@ -22,7 +22,8 @@ use Rattle.panel.specs.Finish as finish
 use Rattle.panel.specs.Pixels.{statesBy}
 use Rattle.panel_laws.proofs.Exactly.{byLut, CutBelowLargest, exactAfter, exact-le, state-exactly, states-length, pixel-shows}
 use Rattle.device.specs.declared.Ssd1677.{Ssd1677}
-use Rattle.clock.specs.Advance.{WithGlass, isOver, clocked, quieted, published, endingOf, glassOf, ended, advanced}
+use Rattle.world.specs.World.{WithGlass}
+use Rattle.clock.specs.Advance.{isOver, clocked, quieted, published, endingOf, glassOf, ended, advanced}
 use Rattle.history.specs.Reckon.{Part, all, upTo, Worked, swingOf, drivesBy, numberAfter, numberOver}
 use Rattle.history.proofs.Blind.{Seen, seenGlass}
 

@@ -10,9 +10,10 @@ use Rattle.diagnostic.specs.declared.Stage.the-variants.{VcomSense, HvReadyDete
 use Rattle.diagnostic.specs.declared.DiagnosticKind.{DiagnosticKind}
 use Rattle.diagnostic.specs.declared.DiagnosticKind.the-variants.{CounterOutsideWindow, WithoutClock, WithoutAnalog}
 use Rattle.device.specs.Parts.{withRegs}
+use Rattle.world.specs.World.{WithLog, withLog}
 use Rattle.registers.specs.Store.{stored}
 use Rattle.listed.specs.Listed.{listed}
-use Rattle.chip.specs.Close.{WithLog, withLog, closed}
+use Rattle.chip.specs.Close.{closed}
 use Rattle.chip.specs.Report.{logged}
 use Rattle.start.specs.Start.{withBusyFor, isPowered, unpowered, sensingTime, vcomSensed, pointed}
 use Rattle.acts.specs.Reserved.{reserved, checked}

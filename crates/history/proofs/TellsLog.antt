@@ -23,9 +23,10 @@ use Rattle.device.specs.declared.Kind.the-variants.{Write, Read, Unsupported, R
 use Rattle.device.specs.declared.Power.{Power}
 use Rattle.device.specs.declared.Power.the-variants.{Running, Asleep, InReset}
 use Rattle.device.specs.Parts.{withRegs}
+use Rattle.world.specs.World.{WithLog, withLog}
 use Rattle.registers.specs.Store.{stored}
 use Rattle.listed.specs.Listed.{listed}
-use Rattle.chip.specs.Close.{WithLog, withLog, expectedOf, missing, entriesOf, fresh, ignoring, closed}
+use Rattle.chip.specs.Close.{expectedOf, missing, entriesOf, fresh, ignoring, closed}
 use Rattle.chip.specs.Report.{logged}
 use Rattle.start.specs.Start.{withBusyFor, isPowered, unpowered, sensingTime, vcomSensed, pointed}
 use Rattle.acts.specs.Reserved.{reserved, checked}

@@ -9,12 +9,13 @@ use Rattle.diagnostic.specs.declared.DiagnosticKind.{DiagnosticKind}
 use Rattle.diagnostic.specs.declared.DiagnosticKind.the-variants.{WithoutClock, WithoutAnalog, RamPingPong}
 use Rattle.diagnostic.specs.declared.Stage.the-variants as stage
 use Rattle.device.specs.declared.Ssd1677.{Ssd1677}
+use Rattle.world.specs.World.{Lent}
 use Rattle.stages.specs.declared.Control.{Control}
 use Rattle.stages.specs.declared.Run.{Run}
 use Rattle.stages.specs.Run.{controlOf, Step, step, withClock, withAnalog, noted, waited}
 use Rattle.stages.specs.Stages.{loaded}
 use Rattle.activation.specs.Display.{Displayed, unchanged, warned, begun, shown}
-use Rattle.activation.specs.Activation.{WithLuts, Lent, runOf, analogOff, clockOff, settled, during, after, staged}
+use Rattle.activation.specs.Activation.{WithLuts, runOf, analogOff, clockOff, settled, during, after, staged}
 use Rattle.history.proofs.Blind.{plain}
 use Rattle.history.proofs.Stages.{plainStep, plainDisplayed, plainLuts}
 use Rattle.history.proofs.Display.{blind-begun, staged-plain}

@@ -3,16 +3,15 @@
 use Prim.Native.Nat.{ℕ}
 use mathlib.Core.Path.{_≡_}
 use mathlib.Core.List.{List, [], _∷_}
-use lib.IntN.{ℤ}
 use denote.Ref.{now}
 use contract.Lifetimes.{Lfts}
 use Rattle.config.specs.declared.Ssd1677Config.{Ssd1677Config}
-use Rattle.device.specs.declared.Ssd1677.{Ssd1677}
+use Rattle.world.specs.World.{World, world, deviceInWorld}
 use Rattle.guard.specs.declared.Refusal.{Refusal}
 use Rattle.guard.specs.declared.Refusal.the-variants.{Accepted}
 use Rattle.power_on.specs.declared.StartError.{StartError}
 use Rattle.power_on.specs.Start.{Buffers, buffers, Powered, powered}
-use Rattle.calls.specs.World.{World, Call, putDevice}
+use Rattle.calls.specs.World.{Call}
 use Rattle.power_on.proofs.new.Reads as new-reads
 use Rattle.wait.proofs.advance.Reads as advance-reads
 use Rattle.res.proofs.set_reset.Reads as reset-reads
@@ -22,10 +21,6 @@ use Rattle.driven.proofs.read_data.Reads as read-reads
 use Rattle.query.proofs.set_ambient.Reads as ambient-reads
 use Rattle.query.proofs.take_diagnostics.Reads as diagnostics-reads
 use Rattle.history.specs.Runs.{Beside}
-
--- the state and seven buffers
-abbrev pub world : Ssd1677 → List ℤ → List ℕ → List ℕ → List ℕ → List ℕ → List ℕ → List ℕ → World
-world d s u p b r g l = record { device = d; states = s; luts = u; pixels = p; blackWhite = b; red = r; gates = g; log = l }
 
 -- `new`, handed a configuration, a table and buffers, and what it answered and left. Its arguments: configuration, states, LUTs, pixels, black-white,
 -- red, gates, log, table
@@ -84,10 +79,10 @@ pub data Answers : List ℕ → World → Call → Refusal → World → Type 0 
       (now (s .1 .1 .1 .1 .1 .1 .0)))
   -- state, register
   set-ambient : (κs : Lfts 0) (a : _) (r : _) (s : _) → ambient-reads.Learnt κs a r s → (otp : List ℕ) (w : World)
-      → Answers otp (putDevice w (a .0)) (Call.set-ambient (a .1 .0)) (r .refusal) (putDevice w (r .state))
+      → Answers otp (deviceInWorld .put w (a .0)) (Call.set-ambient (a .1 .0)) (r .refusal) (deviceInWorld .put w (r .state))
   -- state; the count is the caller's
   take-diagnostics : (κs : Lfts 0) (a : _) (r : _) (s : _) → diagnostics-reads.Learnt κs a r s → (otp : List ℕ) (w : World)
-      → Answers otp (putDevice w (a .0)) Call.take-diagnostics (r .refusal) (putDevice w (r .state))
+      → Answers otp (deviceInWorld .put w (a .0)) Call.take-diagnostics (r .refusal) (deviceInWorld .put w (r .state))
 
 -- calls made one after the other, by those that were accepted: as `Runs`, with the contracts' facts in place of the calls' definitions
 pub data Made (otp : List ℕ) : World → List Call → World → Type 0 where

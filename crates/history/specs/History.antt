@@ -5,7 +5,8 @@ use mathlib.Core.List.{List, [], _∷_}
 use lib.IntN.{pos}
 use lib.ListN.{length, getD}
 use Rattle.glass.specs.Greys.{grayZ}
-use Rattle.calls.specs.World.{World, Call}
+use Rattle.world.specs.World.{World}
+use Rattle.calls.specs.World.{Call}
 use Rattle.history.specs.Reckon.{coreOf, shownBy, Worked, worked, swingOf, Reckoning, reckonCall}
 
 -- a world beside the reckoning: each lent state is its pixel's whole number, which lies from 0 to S, and each pixel shows the grey of it

@@ -21,10 +21,11 @@ use Rattle.device.specs.declared.Power.{Power}
 use Rattle.device.specs.declared.Power.the-variants.{Running, Asleep, InReset}
 use Rattle.device.specs.declared.Ssd1677.{Ssd1677}
 use Rattle.device.specs.Parts.{withDisplay}
+use Rattle.world.specs.World.{World, lentOf}
 use Rattle.busy.specs.Busy.{pending}
 use Rattle.activation.specs.Activation.{withLuts, staged}
 use Rattle.power_on.specs.Start.{noDisplay}
-use Rattle.calls.specs.World.{World, Call, advance, set-reset, write-command, write-data, read-data, set-ambient, take-diagnostics, lentOf, taken}
+use Rattle.calls.specs.World.{Call, advance, set-reset, write-command, write-data, read-data, set-ambient, take-diagnostics, taken}
 
 -- ---- what it keeps, but for the whole numbers
 -- clock, registers, planes, reset line, sleep, command, busy work, refresh under way, and what decides these

@@ -5,12 +5,13 @@ use mathlib.Core.Bool.{Bool, true, false}
 use mathlib.Core.List.{List, [], _∷_}
 use Rattle.numbers.specs.Saturation.{largest}
 use Rattle.device.specs.Parts.{withJournal}
-use Rattle.calls.specs.World.{World, Call, advance, set-reset, write-command, write-data, read-data, set-ambient, take-diagnostics, putDevice, taken}
+use Rattle.world.specs.World.{World, deviceInWorld}
+use Rattle.calls.specs.World.{Call, advance, set-reset, write-command, write-data, read-data, set-ambient, take-diagnostics, taken}
 use Rattle.history.specs.Reckon.{Core, deviceOf, bare, stepped}
 
 -- a world that has a core, nothing in its log, and whether the command has reported a reserved value, which it does once (30)
 abbrev pub bareWith : Core → Bool → World
-bareWith c flag = putDevice (bare c) (withJournal (deviceOf c) (record { count = 0; dropped = 0; «reserved_reported» = flag }))
+bareWith c flag = deviceInWorld .put (bare c) (withJournal (deviceOf c) (record { count = 0; dropped = 0; «reserved_reported» = flag }))
 
 -- how many reports a call makes: the records that it writes to an empty log, whose room is far more
 abbrev pub reportsOf : List ℕ → Core → Bool → Call → ℕ

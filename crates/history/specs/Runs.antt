@@ -4,7 +4,8 @@ use Prim.Native.Nat.{ℕ, _≤_}
 use mathlib.Core.Path.{_≡_}
 use mathlib.Core.List.{List, [], _∷_}
 use Rattle.query.specs.Outcome.{Outcome, outcome}
-use Rattle.calls.specs.World.{World, Call, called}
+use Rattle.world.specs.World.{World}
+use Rattle.calls.specs.World.{Call, called}
 
 -- a caller beside a refused call: its own state and buffers are put together from what it hands over and what it keeps, and afterwards in the same
 -- way from what it is handed back. `put` says how, and is any: a buffer in its own slot or in another (`put w .red` is `w .blackWhite`), a piece of

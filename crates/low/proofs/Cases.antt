@@ -9,13 +9,14 @@ use lib.ListN.{length}
 use native.Mathlib.Nat.{mul-comm}
 use Rattle.device.specs.declared.Registers.{Registers}
 use Rattle.device.specs.declared.Ssd1677.{Ssd1677}
+use Rattle.world.specs.World.{WithLog, withLog, WithGlass, withGlass, WithBuffers, withBuffers, Lent}
 use Rattle.config.specs.declared.PanelGeometry.{PanelGeometry}
-use Rattle.clock.specs.Advance.{Ready, WithGlass, withGlass, advanced}
-use Rattle.chip.specs.Close.{WithLog, withLog, closed}
+use Rattle.clock.specs.Advance.{Ready, advanced}
+use Rattle.chip.specs.Close.{closed}
 use Rattle.clock.proofs.Arrived.{config-advanced, regs-advanced}
 use Rattle.reset.proofs.Kept.{ready-closed}
 use Rattle.activation.specs.Display.{Startable}
-use Rattle.activation.specs.Activation.{WithBuffers, withBuffers, Lent, Activatable}
+use Rattle.activation.specs.Activation.{Activatable}
 use Rattle.activation.proofs.Kept.{ready-advanced}
 use Rattle.begin.specs.Begin.{begun}
 use Rattle.guard_lengths.specs.declared.Lengths.{Lengths}

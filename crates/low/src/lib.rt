@@ -2,7 +2,8 @@
 ghost use mathlib.Core.Path.{_≡_};
 ghost use Rattle.guard.specs.Refusals.{numberOf};
 ghost use Rattle.query.specs.Outcome.{outcome};
-ghost use Rattle.activation.specs.Activation.{withBuffers, lent, Activatable};
+ghost use Rattle.world.specs.World.{withBuffers, lent};
+ghost use Rattle.activation.specs.Activation.{Activatable};
 ghost use Rattle.low.specs.Command.{commandTaken, commandWritten};
 use device::Ssd1677;
 use query::Answer;

@@ -21,9 +21,9 @@ use Rattle.device.specs.declared.Power.the-variants.{Running, Asleep, InReset}
 use Rattle.device.specs.declared.Registers.{Registers}
 use Rattle.device.specs.declared.Ssd1677.{Ssd1677}
 use Rattle.device.specs.Parts.{withCounter, withRegs}
+use Rattle.world.specs.World.{WithLog, withLog}
 use Rattle.registers.specs.Read.{readRegister}
 use Rattle.busy.specs.Busy.{busyAt}
-use Rattle.chip.specs.Close.{WithLog, withLog}
 use Rattle.chip.specs.Report.{logged}
 use Rattle.data.specs.Data.{made, stepped}
 use Rattle.reading.specs.Reading.{WithByte, withByte, counted, nothingRead, registerRead, chosen, outOfRange, ramFound, ramRead, byteRead, byKind, byCurrent, readTaken}

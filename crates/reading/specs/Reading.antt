@@ -19,9 +19,9 @@ use Rattle.device.specs.declared.Kind.the-variants.{Write, Read, Unsupported, R
 use Rattle.device.specs.declared.Power.{Power}
 use Rattle.device.specs.declared.Power.the-variants.{Running, Asleep, InReset}
 use Rattle.device.specs.declared.Ssd1677.{Ssd1677}
+use Rattle.world.specs.World.{WithLog, withLog}
 use Rattle.registers.specs.Read.{readRegister}
 use Rattle.busy.specs.Busy.{busyAt}
-use Rattle.chip.specs.Close.{WithLog, withLog}
 use Rattle.chip.specs.Report.{logged}
 use Rattle.data.specs.Data.{made, stepped}
 

@@ -18,7 +18,7 @@ use Rattle.device.specs.declared.Kind.{Kind}
 use Rattle.device.specs.declared.Kind.the-variants.{Write, Read, Unsupported, Reserved}
 use Rattle.device.specs.declared.Power.{Power}
 use Rattle.device.specs.declared.Power.the-variants.{Running, Asleep, InReset}
-use Rattle.chip.specs.Close.{WithLog, withLog}
+use Rattle.world.specs.World.{WithLog}
 use Rattle.chip.specs.Report.{logged}
 use Rattle.acts_laws.proofs.Kept.{logged-kept}
 use Rattle.data_laws.proofs.Kept.{Rests, rests-all, rests-then, rests-made, rests-stepped}

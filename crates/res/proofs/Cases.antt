@@ -4,8 +4,9 @@ use mathlib.Core.Path.{_≡_, refl, sym, ap, subst, _∙_}
 use mathlib.Core.Bool.{Bool, true, false}
 use mathlib.Core.List.{List}
 use lib.ListN.{length}
-use Rattle.clock.specs.Advance.{Ready, WithGlass, withGlass, advanced}
-use Rattle.reset.specs.Reset.{WithGlassLog, withGlassLog, byLine}
+use Rattle.world.specs.World.{WithGlass, withGlass, WithGlassLog, withGlassLog}
+use Rattle.clock.specs.Advance.{Ready, advanced}
+use Rattle.reset.specs.Reset.{byLine}
 use Rattle.activation.proofs.Kept.{ready-advanced}
 use Rattle.guard_lengths.specs.declared.Lengths.{Lengths}
 use Rattle.guard_lengths.specs.declared.Lent.the-variants.{Nothing, Of}

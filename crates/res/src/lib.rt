@@ -2,7 +2,7 @@
 ghost use mathlib.Core.Path.{_≡_};
 ghost use Rattle.guard.specs.Refusals.{numberOf};
 ghost use Rattle.query.specs.Outcome.{outcome};
-ghost use Rattle.reset.specs.Reset.{withGlassLog};
+ghost use Rattle.world.specs.World.{withGlassLog};
 ghost use Rattle.res.specs.Line.{lineMoved};
 use device::Ssd1677;
 use query::Answer;

@@ -21,12 +21,13 @@ use Rattle.device.specs.declared.Power.the-variants.{Running, Asleep, InReset}
 use Rattle.device.specs.declared.Current.the-variants.{Idle}
 use Rattle.device.specs.Parts.{withBus, withDisplay, withJournal, withPowers}
 use Rattle.device.specs.Parts as part
+use Rattle.world.specs.World.{WithLog, withLog, WithGlass, withGlass, WithGlassLog, withGlassLog}
 use Rattle.registers.specs.Reset.{resetOf}
 use Rattle.moment.specs.Moments.{nsBetween, busyFor}
-use Rattle.clock.specs.Advance.{WithGlass, withGlass, stopped, endingOf, glassOf}
-use Rattle.chip.specs.Close.{WithLog, withLog, closed}
+use Rattle.clock.specs.Advance.{stopped, endingOf, glassOf}
+use Rattle.chip.specs.Close.{closed}
 use Rattle.chip.specs.Report.{logged}
-use Rattle.reset.specs.Reset.{restored, WithGlassLog, withGlassLog, isDriving, cutShort, cut, inReset, asserted, released, byLine}
+use Rattle.reset.specs.Reset.{restored, isDriving, cutShort, cut, inReset, asserted, released, byLine}
 
 pub restores : (d r : Ssd1677) (g : Registers) → g ≡ resetOf (d .config .«user_id»)
     → r ≡ withPowers d g false false (record { «hv_not_ready» = false; «vci_low» = false }) → r ≡ restored d

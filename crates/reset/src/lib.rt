@@ -1,8 +1,9 @@
 // The reset line, and what a reset restores (mod.rs, `set_reset`, `restore_registers`).
 ghost use mathlib.Core.Path.{_≡_};
 ghost use lib.ListN.{length};
-ghost use Rattle.clock.specs.Advance.{Ready, withGlass};
-ghost use Rattle.reset.specs.Reset.{restored, withGlassLog, cutShort, cut, inReset, asserted, released, byLine};
+ghost use Rattle.world.specs.World.{withGlass, withGlassLog};
+ghost use Rattle.clock.specs.Advance.{Ready};
+ghost use Rattle.reset.specs.Reset.{restored, cutShort, cut, inReset, asserted, released, byLine};
 use device::Bus;
 use device::Current;
 use device::Deadline;

@@ -1,7 +1,7 @@
 // What 0x12, 0x28 and the RAM commands do when their byte arrives (mod.rs, `start_command`, `powered`).
 ghost use mathlib.Core.Path.{_≡_};
 ghost use lib.ListN.{length};
-ghost use Rattle.chip.specs.Close.{withLog};
+ghost use Rattle.world.specs.World.{withLog};
 ghost use Rattle.start.specs.Start.{softReset, isPowered, unpowered, vcomSensed, pointed};
 use device::Ssd1677;
 use device::part;

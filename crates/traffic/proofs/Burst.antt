@@ -20,9 +20,9 @@ use Rattle.device.specs.declared.Current.{Current}
 use Rattle.device.specs.declared.Current.the-variants as current
 use Rattle.device.specs.declared.Ssd1677.{Ssd1677}
 use Rattle.device.specs.Parts.{withNow, withCurrent, withPointed}
+use Rattle.world.specs.World.{World, world, withRam, WithPlanes, withPlanes, planesInWorld}
 use Rattle.registers.proofs.Bounds.{Bounded}
 use Rattle.clock.specs.Advance.{isQuiet}
-use Rattle.acts.specs.Ram.{withRam}
 use Rattle.data.specs.Most.{isStream}
 use Rattle.data.specs.Data.{counted, planeFor, dataTaken}
 use Rattle.data.proofs.Cases.{puts, is-stream}
@@ -42,9 +42,9 @@ use Rattle.entry_laws.proofs.Passed.{only-accepted}
 use Rattle.event.specs.declared.Event.{Event}
 use Rattle.event.specs.declared.Event.the-variants.{Data}
 use Rattle.event.specs.Events.{eventOf}
-use Rattle.high.specs.Data.{WithPlanes, withPlanes, dataWritten}
+use Rattle.high.specs.Data.{dataWritten}
 use Rattle.high.proofs.Cases.{data-rests}
-use Rattle.dispatch.specs.Dispatch.{World, world, putPlanes, dispatched}
+use Rattle.dispatch.specs.Dispatch.{tells, dispatched}
 use Rattle.burst.specs.declared.Reached.{Reached}
 use Rattle.burst.specs.Running.{takes, onward, Ran, ran, running}
 use Rattle.burst.proofs.Running.{from-on, not-past}
@@ -112,7 +112,7 @@ data-event kind time value e = rw e
 
 -- the command's own plane, of two: `white` says that it is the black-white one
 module _ (d : Ssd1677) (a : Active) (is : d .bus .current ≡ current.Active a) (fine : stateFine d ≡ true) (streams : isStream (a .kind) ≡ true)
-    (white : Bool) (plane-is : eqb (a .command) 0x24 ≡ white) (other : List ℕ) (states : List ℤ) (luts pixels log : List ℕ) where
+    (white : Bool) (plane-is : eqb (a .command) 0x24 ≡ white) (other : List ℕ) (states : List ℤ) (luts pixels gates log : List ℕ) where
   -- the planes' lengths are such as 11 accepts
   Fit : List ℕ → Type 0
   Fit p =
@@ -124,7 +124,7 @@ module _ (d : Ssd1677) (a : Active) (is : d .bus .current ≡ current.Active a) 
   planes s p = withPlanes (reachedBy d a s) states pixels (pick white p other) (pick white other p) log
 
   abbrev at : Reached → List ℕ → World
-  at s p = world (reachedBy d a s) states luts pixels (pick white p other) (pick white other p) log
+  at s p = world (reachedBy d a s) states luts pixels (pick white p other) (pick white other p) gates log
 
   -- the byte is put, the counter steps and the byte counts
   put-one : (time byte : ℕ) (s : Reached) (p : List ℕ) → wroteAt p (s .counter) ≡ true
@@ -177,12 +177,12 @@ module _ (d : Ssd1677) (a : Active) (is : d .bus .current ≡ current.Active a) 
       (ap accepts ok) refl (sym quiet) refl (put-one time byte s p there)
 
   -- ---- and so is a burst
-  module _ (gates otp kinds times values : List ℕ) where
+  module _ (otp kinds times values : List ℕ) where
     abbrev events : ℕ → Event
     events = eventAt kinds times values
 
     abbrev step : ℕ → World → Outcome World
-    step = made gates otp events
+    step = made otp events
 
     made-step : (i : ℕ) (s : Reached) (p : List ℕ) → TenBitCounter (s .counter) → Fit p
         → takes (courseOf d) (getD kinds i 0) (getD times i 0) s p ≡ true
@@ -194,9 +194,9 @@ module _ (d : Ssd1677) (a : Active) (is : d .bus .current ≡ current.Active a) 
         let quiet = isQuiet (withNow (reachedBy d a s) (max (s .latest) time)) in
         let calm = left (eqb kind 2 && quiet) (wroteAt p (s .counter)) h in
         let e = data-event kind time (getD values i 0) (eqb-true kind 2 (left (eqb kind 2) quiet calm)) in
-        ap (λ (o : Outcome WithPlanes). unread (putPlanes (at s p) o))
+        ap (λ (o : Outcome WithPlanes). unread (tells planesInWorld (at s p) o))
         (written-one time (getD values i 0) s p ten fit (right (eqb kind 2) quiet calm) (right (eqb kind 2 && quiet) (wroteAt p (s .counter)) h))
-        ∙ ap (λ (x : Event). unread (dispatched gates otp (at s p) x)) (sym e)
+        ∙ ap (λ (x : Event). unread (dispatched otp (at s p) x)) (sym e)
 
     fit-written : (p : List ℕ) (c : Counter) (byte : ℕ) → Fit p → Fit (writtenAt p c byte)
     unfolding Fit
@@ -296,7 +296,7 @@ module _ (kinds times values : List ℕ) (count i : ℕ) (within : i ≤ count) 
       goes-alike gates otp luts pixels log states e =
           let m = ends a plane .made in
           let all : i + (count - i) - m ≡ count - m = omega (arith, within) in
-          let step = made gates otp (eventAt kinds times values) in
+          let step = made otp (eventAt kinds times values) in
           let fit =
           ap (λ (l : Lengths). lengthsFit (d .config .panel) l)
           (sym
@@ -304,12 +304,12 @@ module _ (kinds times values : List ℕ) (count i : ℕ) (within : i ≤ count) 
           ∙ ap (λ (p : List ℕ). planesLogLent (length states) (length luts) (length pixels) (length log) (length p) (length red)) first
           ∙ ap (λ (p : List ℕ). planesLogLent (length states) (length luts) (length pixels) (length log) (length (pick white plane other)) (length p)) second))
           ∙ accepted-lengths d lengths passes in
-          ap (λ (k : ℕ). feeding step k m (world (burst .device) states luts pixels (burst .blackWhite) (burst .red) log)) (sym all)
-          ∙ burst-alike d a is fine streams white plane-is other states luts pixels log gates otp kinds times values (count - i) i (startOf d a) plane
+          ap (λ (k : ℕ). feeding step k m (world (burst .device) states luts pixels (burst .blackWhite) (burst .red) gates log)) (sym all)
+          ∙ burst-alike d a is fine streams white plane-is other states luts pixels gates log otp kinds times values (count - i) i (startOf d a) plane
           (counter-ten d a is fine) fit
-          ∙ ap (λ (x : Ssd1677). feeding step (count - i) i (world x states luts pixels (pick white plane other) (pick white other plane) log)) (starts d a is)
-          ∙ ap (λ (p : List ℕ). feeding step (count - i) i (world d states luts pixels p (pick white other plane) log)) (sym first)
-          ∙ ap (λ (p : List ℕ). feeding step (count - i) i (world d states luts pixels blackWhite p log)) (sym second)
+          ∙ ap (λ (x : Ssd1677). feeding step (count - i) i (world x states luts pixels (pick white plane other) (pick white other plane) gates log)) (starts d a is)
+          ∙ ap (λ (p : List ℕ). feeding step (count - i) i (world d states luts pixels p (pick white other plane) gates log)) (sym first)
+          ∙ ap (λ (p : List ℕ). feeding step (count - i) i (world d states luts pixels blackWhite p gates log)) (sym second)
 
       burst-goes : Goes burst
       burst-goes =

@@ -12,7 +12,8 @@ use Rattle.guard.specs.declared.Refusal.the-variants.{Accepted, Buffer, Table, 
 use Rattle.guard.specs.Refusals.{numberOf, accepts}
 use Rattle.ram.specs.declared.Byte.{Byte}
 use Rattle.event.specs.declared.Event.{Event}
-use Rattle.dispatch.specs.Dispatch.{World, told, dispatched}
+use Rattle.world.specs.World.{World}
+use Rattle.dispatch.specs.Dispatch.{told, dispatched}
 use Rattle.traffic.specs.Traffic.{Fed, fed, feeding, ended, unread, made}
 
 pub never : false ≡ true → ⊥
@@ -88,6 +89,6 @@ module _ {A : Type 0} (step : ℕ → A → Outcome A) where
           (λ t. absurd (never (sym a ∙ t)), ap (λ (k : ℕ). ended step count (fed (numberOf refusal) k v)) f ∙ ended-there count refusal i v a ∙ fed-last count i _ w refusal h a o refl)
 
 -- the step of a place, by what its event does
-pub made-one : (gates otp : List ℕ) (events : ℕ → Event) (i : ℕ) (w : World) {v : World} {number : ℕ} {byte : Byte} {event : Event}
-    → outcome number (told v byte) ≡ dispatched gates otp w event → event ≡ events i → outcome number v ≡ made gates otp events i w
-made-one gates otp events i w e f = ap unread e ∙ ap (λ (x : Event). unread (dispatched gates otp w x)) f
+pub made-one : (otp : List ℕ) (events : ℕ → Event) (i : ℕ) (w : World) {v : World} {number : ℕ} {byte : Byte} {event : Event}
+    → outcome number (told v byte) ≡ dispatched otp w event → event ≡ events i → outcome number v ≡ made otp events i w
+made-one otp events i w e f = ap unread e ∙ ap (λ (x : Event). unread (dispatched otp w x)) f

@@ -17,10 +17,10 @@ use Rattle.query.specs.Outcome.{Outcome, outcome}
 use Rattle.power_on.specs.declared.StartError.{StartError}
 use Rattle.power_on.specs.Start.{Buffers, Powered, startAnswerOf}
 use Rattle.event.specs.declared.Event.{Event}
-use Rattle.dispatch.specs.Dispatch as dispatch
-use Rattle.dispatch.specs.Dispatch.{Told, dispatched}
-use Rattle.traffic.specs.Traffic.{Fed, fed, feeding, made, eventAt, shortest}
-use Rattle.calls.specs.World.{World, Call, worldOf, back, called}
+use Rattle.dispatch.specs.Dispatch.{Told}
+use Rattle.traffic.specs.Traffic.{Fed, fed, feeding, unread, made, eventAt, shortest}
+use Rattle.calls.specs.World.{Call, worldOf, called}
+use Rattle.world.specs.World.{World, world}
 use Rattle.history.specs.Reckon.{coreOf, reckon, begun}
 use Rattle.history.specs.Runs as runs
 use Rattle.history.specs.Runs.{Runs}
@@ -29,7 +29,7 @@ use Rattle.history.specs.Contracts.{New}
 use Rattle.history.proofs.Calls.{refused-same, beside-same}
 use Rattle.history.proofs.Contracts.{not-nought, made-runs, new-agrees}
 use Rattle.history.proofs.Exists.{one-end}
-use Rattle.traffic_laws.specs.Events.{callOf, callsFrom, withGates}
+use Rattle.traffic_laws.specs.Events.{callOf, callsFrom}
 use Rattle.traffic_laws.specs.Contracts as contracts
 use Rattle.traffic_laws.specs.Contracts.{Dispatches, Feeds, Traffic, done, calls, event, refused, events, none-made}
 use Rattle.traffic_laws.proofs.Events.{dispatched-called}
@@ -38,19 +38,18 @@ use Rattle.traffic_laws.proofs.Events.{dispatched-called}
 pub dispatches-called : {otp : List ℕ} {w v : World} {sent : Event} {reason : Refusal} → Dispatches otp w sent reason v
     → outcome (numberOf reason) v ≡ called otp w (callOf sent)
 dispatches-called (contracts.dispatch κs a r s q) =
-    let gates = now (a .1 .1 .1 .1 .1 .1 .0) in
     let w =
-    dispatch.world (a .0) (now (a .1 .0)) (now (a .1 .1 .0)) (now (a .1 .1 .1 .0)) (now (a .1 .1 .1 .1 .0)) (now (a .1 .1 .1 .1 .1 .0))
-    (now (a .1 .1 .1 .1 .1 .1 .1 .0)) in
-    ap (λ (o : Outcome Told). back (λ (t : Told). withGates gates (t .left)) o) q
-    ∙ dispatched-called gates (now (a .1 .1 .1 .1 .1 .1 .1 .1 .0)) w (a .1 .1 .1 .1 .1 .1 .1 .1 .1 .0)
+    world (a .0) (now (a .1 .0)) (now (a .1 .1 .0)) (now (a .1 .1 .1 .0)) (now (a .1 .1 .1 .1 .0)) (now (a .1 .1 .1 .1 .1 .0))
+    (now (a .1 .1 .1 .1 .1 .1 .0)) (now (a .1 .1 .1 .1 .1 .1 .1 .0)) in
+    ap (λ (o : Outcome Told). unread o) q
+    ∙ dispatched-called (now (a .1 .1 .1 .1 .1 .1 .1 .1 .0)) w (a .1 .1 .1 .1 .1 .1 .1 .1 .1 .0)
 
 -- ---- a list of events: those that are made run, and a refused one leaves what it was handed
-module _ (gates otp : List ℕ) (event : ℕ → Event) where
-  abbrev step : ℕ → dispatch.World → Outcome dispatch.World
-  step = made gates otp event
+module _ (otp : List ℕ) (event : ℕ → Event) where
+  abbrev step : ℕ → World → Outcome World
+  step = made otp event
 
-  not-back : (n i : ℕ) (w : dispatch.World) → i ≤ feeding step n i w .made
+  not-back : (n i : ℕ) (w : World) → i ≤ feeding step n i w .made
   unfolding feeding
   not-back zero i w = omega arith
   not-back (suc n) i w = by (eqb (step i w .number) 0) (not-back n (i + 1) (step i w .held))
@@ -60,30 +59,30 @@ module _ (gates otp : List ℕ) (event : ℕ → Event) where
       by true h = omega (arith, h)
       by false h = omega arith
 
-  fed-runs : (n i k : ℕ) (w : dispatch.World) → feeding step n i w .made ≡ i + k
-      → Runs otp (withGates gates w) (callsFrom event k i) (withGates gates (feeding step n i w .left))
+  fed-runs : (n i k : ℕ) (w : World) → feeding step n i w .made ≡ i + k
+      → Runs otp w (callsFrom event k i) (feeding step n i w .left)
   unfolding feeding
   fed-runs zero i zero w e = runs.done
   fed-runs zero i (suc k) w e = absurd (omega (arith, e))
   fed-runs (suc n) i k w e = by (eqb (step i w .number) 0) refl k e (λ j f. fed-runs n (i + 1) j (step i w .held) f)
     where
-      is : outcome (step i w .number) (withGates gates (step i w .held)) ≡ called otp (withGates gates w) (callOf (event i))
-      is = dispatched-called gates otp w (event i)
+      is : outcome (step i w .number) (step i w .held) ≡ called otp w (callOf (event i))
+      is = dispatched-called otp w (event i)
 
       by : (b : Bool) → eqb (step i w .number) 0 ≡ b → (k : ℕ)
           → pick b (feeding step n (i + 1) (step i w .held)) (fed (step i w .number) i (step i w .held)) .made ≡ i + k
           → ((j : ℕ) → feeding step n (i + 1) (step i w .held) .made ≡ i + 1 + j
-          → Runs otp (withGates gates (step i w .held)) (callsFrom event j (i + 1)) (withGates gates (feeding step n (i + 1) (step i w .held) .left)))
-          → Runs otp (withGates gates w) (callsFrom event k i)
-          (withGates gates (pick b (feeding step n (i + 1) (step i w .held)) (fed (step i w .number) i (step i w .held)) .left))
+          → Runs otp (step i w .held) (callsFrom event j (i + 1)) (feeding step n (i + 1) (step i w .held) .left))
+          → Runs otp w (callsFrom event k i)
+          (pick b (feeding step n (i + 1) (step i w .held)) (fed (step i w .number) i (step i w .held)) .left)
       by true o zero f rest = absurd (omega (arith, f, not-back n (i + 1) (step i w .held)))
       by true o (suc k) f rest =
           runs.accepted
-          (ap (λ (m : ℕ). outcome m (withGates gates (step i w .held))) (sym (eqb-true (step i w .number) 0 o)) ∙ is)
+          (ap (λ (m : ℕ). outcome m (step i w .held)) (sym (eqb-true (step i w .number) 0 o)) ∙ is)
           (rest k (omega (arith, f)))
       by false o zero f rest =
-          subst (Runs otp (withGates gates w) [])
-          (sym (refused-same otp (withGates gates w) (withGates gates (step i w .held)) (step i w .number) (callOf (event i)) (eqb-false (step i w .number) 0 o) is))
+          subst (Runs otp w [])
+          (sym (refused-same otp w (step i w .held) (step i w .number) (callOf (event i)) (eqb-false (step i w .number) 0 o) is))
           runs.done
       by false o (suc k) f rest = absurd (omega (arith, f))
 
@@ -92,18 +91,17 @@ from-none e = omega arith
 
 pub feeds-runs : {otp : List ℕ} {w v : World} {list : List Call} → Feeds otp w list v → Runs otp w list v
 feeds-runs (contracts.feed κs a r s q) =
-    let gates = now (a .1 .1 .1 .1 .1 .1 .0) in
     let otp = now (a .1 .1 .1 .1 .1 .1 .1 .1 .0) in
     let kinds = now (a .1 .1 .1 .1 .1 .1 .1 .1 .1 .0) in
     let times = now (a .1 .1 .1 .1 .1 .1 .1 .1 .1 .1 .0) in
     let values = now (a .1 .1 .1 .1 .1 .1 .1 .1 .1 .1 .1 .0) in
     let w =
-    dispatch.world (a .0) (now (a .1 .0)) (now (a .1 .1 .0)) (now (a .1 .1 .1 .0)) (now (a .1 .1 .1 .1 .0)) (now (a .1 .1 .1 .1 .1 .0))
-    (now (a .1 .1 .1 .1 .1 .1 .1 .0)) in
+    world (a .0) (now (a .1 .0)) (now (a .1 .1 .0)) (now (a .1 .1 .1 .0)) (now (a .1 .1 .1 .1 .0)) (now (a .1 .1 .1 .1 .1 .0))
+    (now (a .1 .1 .1 .1 .1 .1 .0)) (now (a .1 .1 .1 .1 .1 .1 .1 .0)) in
     let event = eventAt kinds times values in
-    subst (λ (x : dispatch.World). Runs otp (withGates gates w) (callsFrom event (r .made) 0) (withGates gates x))
-    (ap (λ (f : Fed dispatch.World). f .left) (sym q))
-    (fed-runs gates otp event (shortest kinds times values) 0 (r .made) w (from-none (ap (λ (f : Fed dispatch.World). f .made) (sym q))))
+    subst (λ (x : World). Runs otp w (callsFrom event (r .made) 0) x)
+    (ap (λ (f : Fed World). f .left) (sym q))
+    (fed-runs otp event (shortest kinds times values) 0 (r .made) w (from-none (ap (λ (f : Fed World). f .made) (sym q))))
 
 -- ---- a mixture
 runs-then : {otp : List ℕ} {w v u : World} {list more : List Call} → Runs otp w list v → Runs otp v more u → Runs otp w (list ++ more) u

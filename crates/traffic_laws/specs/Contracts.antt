@@ -8,9 +8,10 @@ use Rattle.guard.specs.declared.Refusal.{Refusal}
 use Rattle.guard.specs.declared.Refusal.the-variants.{Accepted}
 use Rattle.event.specs.declared.Event.{Event}
 use Rattle.traffic.specs.Traffic.{eventAt}
-use Rattle.calls.specs.World.{World, Call}
+use Rattle.world.specs.World.{World, world}
+use Rattle.calls.specs.World.{Call}
 use Rattle.history.specs.Runs.{Beside}
-use Rattle.history.specs.Contracts.{world, Made}
+use Rattle.history.specs.Contracts.{Made}
 use Rattle.dispatch.proofs.dispatch.Reads as dispatch-reads
 use Rattle.traffic.proofs.feed.Reads as feed-reads
 use Rattle.traffic_laws.specs.Events.{callOf, callsFrom}

@@ -4,7 +4,8 @@ use mathlib.Core.Path.{_≡_, ap, _∙_}
 use mathlib.Core.Bool.{Bool, true, false}
 use mathlib.Core.List.{List}
 use lib.ListN.{length}
-use Rattle.clock.specs.Advance.{Ready, WithGlass, advanced}
+use Rattle.world.specs.World.{WithGlass}
+use Rattle.clock.specs.Advance.{Ready, advanced}
 use Rattle.guard_lengths.specs.declared.Lengths.{Lengths}
 use Rattle.guard_lengths.specs.declared.Lent.the-variants.{Nothing}
 use Rattle.guard.specs.declared.Refusal.{Refusal}

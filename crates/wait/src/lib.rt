@@ -2,7 +2,7 @@
 ghost use mathlib.Core.Path.{_≡_};
 ghost use Rattle.guard.specs.Refusals.{numberOf};
 ghost use Rattle.query.specs.Outcome.{outcome};
-ghost use Rattle.clock.specs.Advance.{withGlass};
+ghost use Rattle.world.specs.World.{withGlass};
 ghost use Rattle.wait.specs.Wait.{clockMoved};
 use device::Ssd1677;
 use query::Answer;

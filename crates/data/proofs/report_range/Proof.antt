@@ -1,6 +1,6 @@
 -- `data::report_range` meets its contract.
 use Rattle.data.proofs.Cases.{past, past-first}
-use Rattle.acts.specs.Ram.{WithRam, withRam}
+use Rattle.world.specs.World.{withRam}
 use borrow.Author.Needs.{needs}
 use Rattle.data.proofs.report_range.Statement.{statement}
 use Rattle.data.proofs.report_range.Tie as tie

@@ -1,6 +1,6 @@
 -- `data::step_outside` meets its contract.
 use Rattle.data.proofs.Cases.{steps-outside}
-use Rattle.acts.specs.Ram.{WithRam, withRam}
+use Rattle.world.specs.World.{withRam}
 use borrow.Author.Needs.{needs}
 use Rattle.data.proofs.step_outside.Statement.{statement}
 use Rattle.data.proofs.step_outside.Tie as tie

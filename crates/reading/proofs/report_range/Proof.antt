@@ -1,6 +1,6 @@
 -- `reading::report_range` meets its contract.
 use Rattle.reading.proofs.Cases.{past, past-first}
-use Rattle.chip.specs.Close.{withLog}
+use Rattle.world.specs.World.{withLog}
 use borrow.Author.Needs.{needs}
 use Rattle.reading.proofs.report_range.Statement.{statement}
 use Rattle.reading.proofs.report_range.Tie as tie
