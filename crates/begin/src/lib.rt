@@ -119,6 +119,7 @@ pub fn decode(
     ensures { λ r. ⌜ withBuffers r (now (states .exit)) (now (luts .exit)) (now (pixels .exit)) (now (log .exit)) ≡ byKind (lent (now («black_white» .entry)) (now (red .entry)) (now (gates .entry)) (now (otp .entry))) command (withBuffers state (now (states .entry)) (now (luts .entry)) (now (pixels .entry)) (now (log .entry))) (kindOf command) ⌝ }
 {
     let known = command::kind(command);
+    // The last command was closed before this byte was looked at, so that data which follow are ignored: there is no more to do than to log.
     let Known::Of(kind) = known else {
         return chip::report(state, log, DiagnosticKind::UnknownCommand { command });
     };

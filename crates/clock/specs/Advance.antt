@@ -1,6 +1,6 @@
 -- What the clock's move does (mod.rs, `advance`; SCOPE, Time: time never goes back, the later clock counts).
 use Prim.Native.Nat.{ℕ, max}
-use mathlib.Core.Bool.{Bool, false, _&&_, not}
+use mathlib.Core.Bool.{Bool, false, _&&_}
 use mathlib.Core.List.{List}
 use lib.Dec.{leb}
 use lib.IntN.{ℤ}
@@ -13,7 +13,7 @@ use Rattle.device.specs.declared.Ssd1677.{Ssd1677}
 use Rattle.device.specs.Parts.{withNow, withBus}
 use Rattle.device.specs.Parts as part
 use Rattle.world.specs.World.{WithGlass, withGlass}
-use Rattle.moment.specs.Moments.{hasCome, lowered}
+use Rattle.moment.specs.Moments.{lowered, quietAt}
 
 -- what finishing a display asks of the state and its buffers; 13 and 11 refuse all else
 abbrev pub Ready : Ssd1677 → List ℤ → List ℕ → List ℕ → Type 0
@@ -41,7 +41,7 @@ isOver d = d .display .running && leb (d .display .ends) (d .now)
 
 -- at the clock no display ends and BUSY does not fall
 abbrev pub isQuiet : Ssd1677 → Bool
-isQuiet d = not (isOver d) && not (hasCome (d .bus .«busy_until») (d .now))
+isQuiet d = quietAt (d .display .running) (d .display .ends) (d .bus .«busy_until») (d .now)
 
 -- a display whose end has come is finished whole, dated its end
 unfoldable pub ended : List ℕ → WithGlass → WithGlass
