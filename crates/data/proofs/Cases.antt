@@ -67,20 +67,20 @@ module _ (a : Active) (w : WithRam) where
   unfolding upTo
   takes-not most byte z h e = rw (le-ltb (a .received) most h) e
 
-  pub past : a .«range_reported» ≡ true → w ≡ outOfRange a w
+  pub steps-outside : (n : WithLog) (r : Ssd1677) → n ≡ outOfRange a (withLog (w .device) (w .log))
+      → r ≡ made (current.Active (counted a (a .«extra_reported») true)) (stepped (n .device))
+      → withRam r (w .blackWhite) (w .red) (n .log) ≡ going a (a .«extra_reported») true (on deviceInRam stepped (on logInRam (outOfRange a) w))
+  steps-outside n r e f = rw (f, e)
+
+module _ (a : Active) (k : WithLog) where
+  pub past : a .«range_reported» ≡ true → k ≡ outOfRange a k
   unfolding outOfRange
   past h = rw h
 
-  pub past-first : (k : WithLog) → a .«range_reported» ≡ false
-      → k ≡ logged (RamOutOfRange (a .command) (w .device .regs .counter .x) (w .device .regs .counter .y)) (withLog (w .device) (w .log))
-      → withRam (k .device) (w .blackWhite) (w .red) (k .log) ≡ outOfRange a w
+  pub past-first : (n : WithLog) → a .«range_reported» ≡ false
+      → n ≡ logged (RamOutOfRange (a .command) (k .device .regs .counter .x) (k .device .regs .counter .y)) k → n ≡ outOfRange a k
   unfolding outOfRange
-  past-first k h e = rw (h, e)
-
-  pub steps-outside : (v : WithRam) (r : Ssd1677) → v ≡ outOfRange a w
-      → r ≡ made (current.Active (counted a (a .«extra_reported») true)) (stepped (v .device))
-      → withRam r (v .blackWhite) (v .red) (v .log) ≡ going a (a .«extra_reported») true (on deviceInRam stepped (outOfRange a w))
-  steps-outside v r e f = rw (f, e)
+  past-first n h e = rw h e
 
 pub steps : (d r : Ssd1677) (c : Counter) (a b : Active) (bus : Bus) → c ≡ advancedOf (d .regs .counter) (d .regs .window) (d .regs .entry) → b ≡ a
     → bus ≡ withCurrent (d .bus) (current.Active b) → r ≡ withPointed d c bus → r ≡ made (current.Active a) (stepped d)
@@ -124,7 +124,7 @@ module _ (byte : ℕ) (a : Active) (w : WithRam) (wrote : Bool) (b d : List ℕ)
 
 -- past the RAM
 pub outside : (byte : ℕ) (a : Active) (w z : WithRam) → isInside (planeFor (a .command)) w ≡ false
-    → z ≡ going a (a .«extra_reported») true (on deviceInRam stepped (outOfRange a w)) → z ≡ ramWritten byte a w
+    → z ≡ going a (a .«extra_reported») true (on deviceInRam stepped (on logInRam (outOfRange a) w)) → z ≡ ramWritten byte a w
 unfolding ramWritten
 outside byte a w z h e = passed _ _ _ _ h e
 

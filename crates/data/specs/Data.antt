@@ -75,17 +75,16 @@ abbrev pub stepped : Ssd1677 → Ssd1677
 stepped d = withRegs d (withCounter (d .regs) (advancedOf (d .regs .counter) (d .regs .window) (d .regs .entry)))
 
 -- 31 past the RAM, once a command
-unfoldable pub outOfRange : Active → WithRam → WithRam
-outOfRange a w =
-    pick (a .«range_reported») w
-    (on logInRam (logged (RamOutOfRange (a .command) (w .device .regs .counter .x) (w .device .regs .counter .y))) w)
+unfoldable pub outOfRange : Active → WithLog → WithLog
+outOfRange a k =
+    pick (a .«range_reported») k (logged (RamOutOfRange (a .command) (k .device .regs .counter .x) (k .device .regs .counter .y)) k)
 
 -- a byte of 0x24 or 0x26: put at the counter, or 31; the counter steps in either case
 unfoldable pub ramWritten : ℕ → Active → WithRam → WithRam
 ramWritten byte a w =
     pick (isInside (planeFor (a .command)) w)
     (going a (a .«extra_reported») (a .«range_reported») (on deviceInRam stepped (put (planeFor (a .command)) byte w)))
-    (going a (a .«extra_reported») true (on deviceInRam stepped (outOfRange a w)))
+    (going a (a .«extra_reported») true (on deviceInRam stepped (on logInRam (outOfRange a) w)))
 
 -- by what the active command is
 unfoldable pub byKind : ℕ → Active → WithRam → Kind → WithRam

@@ -154,10 +154,10 @@ fn step(state: Ssd1677, active: Active, range: bool) -> Ssd1677
     part::set_pointed(state, counter, bus)
 }
 
-// 31, unless the command has reported it, whatever the planes.
-fn report_range(state: Ssd1677, log: &mut [u8], active: Active) -> Ssd1677
+// 31, unless the command has reported it.
+pub fn report_range(state: Ssd1677, log: &mut [u8], active: Active) -> Ssd1677
     requires { ⌜ length (now log) ≡ 16384 ⌝ }
-    ensures { λ r. ⌜ ((b d : List ℕ) → withRam r b d (now (log .exit)) ≡ outOfRange active (withRam state b d (now (log .entry)))) ⌝ }
+    ensures { λ r. ⌜ withLog r (now (log .exit)) ≡ outOfRange active (withLog state (now (log .entry))) ⌝ }
 {
     if active.range_reported {
         return state;
@@ -178,7 +178,7 @@ fn report_range(state: Ssd1677, log: &mut [u8], active: Active) -> Ssd1677
 // Past the RAM the counter steps all the same.
 fn step_outside(state: Ssd1677, log: &mut [u8], active: Active) -> Ssd1677
     requires { ⌜ length (now log) ≡ 16384 ⌝ }
-    ensures { λ r. ⌜ ((b d : List ℕ) → withRam r b d (now (log .exit)) ≡ going active (active .«extra_reported») true (on deviceInRam stepped (outOfRange active (withRam state b d (now (log .entry)))))) ⌝ }
+    ensures { λ r. ⌜ ((b d : List ℕ) → withRam r b d (now (log .exit)) ≡ going active (active .«extra_reported») true (on deviceInRam stepped (on logInRam (outOfRange active) (withRam state b d (now (log .entry)))))) ⌝ }
 {
     let noted = report_range(state, log, active);
     step(noted, active, true)

@@ -170,9 +170,17 @@ module _ (a : Active) (w : WithRam) where
           (leaves-made (current.Active (counted a (a .«extra_reported») (a .«range_reported»))) (parameterTaken (a .command) (a .received) byte w))
       by false = leaves-surplus
 
-  leaves-out : DataLeaves w (outOfRange a w)
+  leaves-out : DataLeaves w (on logInRam (outOfRange a) w)
   unfolding outOfRange
-  leaves-out = leaves-logged (a .«range_reported») (RamOutOfRange (a .command) (w .device .regs .counter .x) (w .device .regs .counter .y)) w
+  leaves-out = by (a .«range_reported»)
+    where
+      by : (b : Bool)
+          → DataLeaves w
+          (logInRam .put w
+          (pick b (withLog (w .device) (w .log))
+          (logged (RamOutOfRange (a .command) (w .device .regs .counter .x) (w .device .regs .counter .y)) (withLog (w .device) (w .log)))))
+      by true = leaves-all w
+      by false = leaves-logged false (RamOutOfRange (a .command) (w .device .regs .counter .x) (w .device .regs .counter .y)) w
 
   -- a step of the counter, and a byte more
   leaves-on : (range : Bool) (v : WithRam) → DataLeaves w v → DataLeaves w (going a (a .«extra_reported») range (on deviceInRam stepped v))
@@ -189,9 +197,9 @@ module _ (a : Active) (w : WithRam) where
           → DataLeaves w
           (pick b
           (going a (a .«extra_reported») (a .«range_reported») (on deviceInRam stepped (put (planeFor (a .command)) byte w)))
-          (going a (a .«extra_reported») true (on deviceInRam stepped (outOfRange a w))))
+          (going a (a .«extra_reported») true (on deviceInRam stepped (on logInRam (outOfRange a) w))))
       by true = leaves-on (a .«range_reported») (put (planeFor (a .command)) byte w) (leaves-put (planeFor (a .command)) byte w)
-      by false = leaves-on true (outOfRange a w) leaves-out
+      by false = leaves-on true (on logInRam (outOfRange a) w) leaves-out
 
   leaves-kind : (byte : ℕ) → byte ≤ 255 → (k : Kind) → DataLeaves w (byKind byte a w k)
   unfolding byKind
@@ -236,7 +244,7 @@ module _ (P : Current → Type 0) (ignored : P current.Ignoring)
           → P
           (pick b
           (going a (a .«extra_reported») (a .«range_reported») (on deviceInRam stepped (put (planeFor (a .command)) byte w)))
-          (going a (a .«extra_reported») true (on deviceInRam stepped (outOfRange a w))) .device .bus .current)
+          (going a (a .«extra_reported») true (on deviceInRam stepped (on logInRam (outOfRange a) w))) .device .bus .current)
       by true = counts a (a .«extra_reported») (a .«range_reported») h
       by false = counts a (a .«extra_reported») true h
 

@@ -8,7 +8,7 @@ use Rattle.numbers.specs.Choice.{pick}
 use Rattle.ram.specs.declared.Byte.{Byte}
 use Rattle.ram.specs.declared.Byte.the-variants.{Is, Nothing}
 use Rattle.ram.specs.Plane.{planeOf, readAt}
-use Rattle.diagnostic.specs.declared.DiagnosticKind.the-variants.{RamOutOfRange, NothingToRead}
+use Rattle.diagnostic.specs.declared.DiagnosticKind.the-variants.{NothingToRead}
 use Rattle.device.specs.declared.Active.{Active}
 use Rattle.device.specs.declared.Current.{Current}
 use Rattle.device.specs.declared.Current.the-variants as current
@@ -18,9 +18,10 @@ use Rattle.device.specs.declared.Power.{Power}
 use Rattle.device.specs.declared.Power.the-variants.{Running, Asleep, InReset}
 use Rattle.world.specs.World.{WithLog}
 use Rattle.chip.specs.Report.{logged}
-use Rattle.reading.specs.Reading.{WithByte, withByte, going, nothingRead, registerRead, chosen, outOfRange, moved, ramFound, ramRead, byteRead, byKind, byCurrent, readTaken}
+use Rattle.data.specs.Data.{outOfRange}
+use Rattle.reading.specs.Reading.{WithByte, withByte, going, nothingRead, registerRead, chosen, moved, ramFound, ramRead, byteRead, byKind, byCurrent, readTaken}
 use Rattle.history.proofs.Blind.{plainLog, seenLog, quiet-then, quiet-pick}
-use Rattle.history.proofs.Steps.{QuietLog, quiet-logged}
+use Rattle.history.proofs.Steps.{QuietLog, quiet-logged, quiet-range}
 
 -- of what a read leaves beside its byte
 abbrev QuietRead : (WithLog → WithByte) → Type 0
@@ -49,24 +50,13 @@ module _ (a : Active) where
   unfolding registerRead
   quiet-register = quiet-going (a .«range_reported») (a .«nothing_reported»)
 
-  -- 31 says where the counter is, which the core has
-  quiet-told : QuietLog (λ k. logged (RamOutOfRange (a .command) (k .device .regs .counter .x) (k .device .regs .counter .y)) k)
-  unfolding logged
-  quiet-told = record { blind = λ k. refl; still = λ k. refl }
-
-  quiet-range : QuietLog (outOfRange a)
-  unfolding outOfRange
-  quiet-range =
-      quiet-pick plainLog seenLog (λ _. a .«range_reported») (λ k. k)
-      (λ k. logged (RamOutOfRange (a .command) (k .device .regs .counter .x) (k .device .regs .counter .y)) k) (λ k. refl) none quiet-told
-
   quiet-moved : (range : Bool) → QuietLog (λ k. going a range (a .«nothing_reported») (moved k))
   quiet-moved range = record { blind = λ k. refl; still = λ k. refl }
 
   quiet-found : (byte : Byte) → QuietRead (λ k. ramFound a k byte)
   unfolding ramFound
   quiet-found (Is b) = quiet-moved (a .«range_reported»)
-  quiet-found Nothing = quiet-then plainLog seenLog (outOfRange a) (λ k. going a true (a .«nothing_reported») (moved k)) quiet-range (quiet-moved true)
+  quiet-found Nothing = quiet-then plainLog seenLog (outOfRange a) (λ k. going a true (a .«nothing_reported») (moved k)) (quiet-range a) (quiet-moved true)
 
   module _ (blackWhite red : List ℕ) where
     -- the byte at the counter, which the core has

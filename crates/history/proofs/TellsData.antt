@@ -7,7 +7,7 @@ use lib.Dec.{eqb, ltb}
 use Rattle.numbers.specs.Choice.{pick}
 use Rattle.ram.specs.declared.Plane.{Plane}
 use Rattle.ram.specs.declared.Plane.the-variants.{BlackWhite, Red}
-use Rattle.diagnostic.specs.declared.DiagnosticKind.the-variants.{DataWithoutCommand, ExtraData, RamOutOfRange}
+use Rattle.diagnostic.specs.declared.DiagnosticKind.the-variants.{DataWithoutCommand, ExtraData}
 use Rattle.device.specs.declared.Active.{Active}
 use Rattle.device.specs.declared.Current.{Current}
 use Rattle.device.specs.declared.Current.the-variants as current
@@ -25,7 +25,7 @@ use Rattle.parameter.specs.Parameter.{registerTaken, writing, autoFilled, autoT
 use Rattle.data.specs.Data.{made, going, surplus, upTo, planeFor, put, isInside, stepped, outOfRange, ramWritten, byKind, unasked, dataTaken}
 use Rattle.history.proofs.Blind.{plainRam}
 use Rattle.history.proofs.Tells.{Bundle, Tells, tells-none, tells-more, tells-by, tells-pick, tells-then}
-use Rattle.history.proofs.TellsLog.{TellsLog, tells-told, tells-logged, tells-checked, tells-hv, tells-vci, tells-register}
+use Rattle.history.proofs.TellsLog.{TellsLog, tells-logged, tells-checked, tells-hv, tells-vci, tells-register, tells-range}
 
 abbrev pub inRam : Bundle WithRam
 inRam = record { plain = plainRam; journal = λ (w : WithRam). w .device .journal }
@@ -140,12 +140,8 @@ tells-put Red byte = tells-none inRam inRam (put Red byte) (λ w. refl) (λ w. r
 tells-stepped : TellsRam 0 (on deviceInRam stepped)
 tells-stepped = tells-none inRam inRam (on deviceInRam stepped) (λ w. refl) (λ w. refl)
 
-tells-out : (a : Active) → TellsRam 1 (outOfRange a)
-unfolding outOfRange
-tells-out a =
-    let past : WithLog → WithLog = λ (k : WithLog). logged (RamOutOfRange (a .command) (k .device .regs .counter .x) (k .device .regs .counter .y)) k in
-    pickRam 0 1 (λ _. a .«range_reported») (λ w. w) (on logInRam past) (λ w. refl) none
-    (tells-log 1 past (tells-told (λ (k : WithLog). RamOutOfRange (a .command) (k .device .regs .counter .x) (k .device .regs .counter .y))))
+tells-out : (a : Active) → TellsRam 1 (on logInRam (outOfRange a))
+tells-out a = tells-log 1 (outOfRange a) (tells-range a)
 
 inside-same : (plane : Plane) (w : WithRam) → isInside plane w ≡ isInside plane (plainRam w)
 inside-same BlackWhite w = refl
@@ -157,10 +153,10 @@ tells-ram byte a =
     let plane = planeFor (a .command) in
     let in-it = going a (a .«extra_reported») (a .«range_reported») in
     let past-it = going a (a .«extra_reported») true in
-    pickRam 0 1 (isInside plane) (λ w. in-it (on deviceInRam stepped (put plane byte w))) (λ w. past-it (on deviceInRam stepped (outOfRange a w))) (inside-same plane)
+    pickRam 0 1 (isInside plane) (λ w. in-it (on deviceInRam stepped (put plane byte w))) (λ w. past-it (on deviceInRam stepped (on logInRam (outOfRange a) w))) (inside-same plane)
     (thenRam 0 0 (put plane byte) (λ w. in-it (on deviceInRam stepped w)) (tells-put plane byte)
     (thenRam 0 0 (on deviceInRam stepped) in-it tells-stepped (tells-going a (a .«extra_reported») (a .«range_reported»))))
-    (thenRam 1 0 (outOfRange a) (λ w. past-it (on deviceInRam stepped w)) (tells-out a)
+    (thenRam 1 0 (on logInRam (outOfRange a)) (λ w. past-it (on deviceInRam stepped w)) (tells-out a)
     (thenRam 0 0 (on deviceInRam stepped) past-it tells-stepped (tells-going a (a .«extra_reported») true)))
 
 -- ---- by the command that the byte belongs to

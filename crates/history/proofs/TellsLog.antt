@@ -32,7 +32,8 @@ use Rattle.start.specs.Start.{withBusyFor, isPowered, unpowered, sensingTime, v
 use Rattle.acts.specs.Reserved.{reserved, checked}
 use Rattle.acts.specs.Acts.{withHvNotReady, withVciLow, vciLevel, hvDetected, hvReady, vciDetected, vciSensed}
 use Rattle.parameter.specs.Parameter.{registerTaken}
-use Rattle.reading.specs.Reading.{WithByte, withByte, going, nothingRead, registerRead, chosen, outOfRange, moved, ramFound, ramRead, byteRead, byKind, byCurrent, readTaken}
+use Rattle.data.specs.Data.{outOfRange}
+use Rattle.reading.specs.Reading.{WithByte, withByte, going, nothingRead, registerRead, chosen, moved, ramFound, ramRead, byteRead, byKind, byCurrent, readTaken}
 use Rattle.history.proofs.Blind.{plainLog}
 use Rattle.history.proofs.Tells.{one, oneReserved, reported-one, reserved-one, adds-fresh, adds-then, adds-more, adds-one, adds-reserved, Bundle, Tells, tells-none, tells-more, tells-by, tells-pick, tells-then}
 
@@ -204,7 +205,7 @@ module _ (a : Active) where
       let next = going a (a .«range_reported») (a .«nothing_reported») in
       tells-more inLog inLog 0 1 next (omega arith) (tells-going (a .«range_reported») (a .«nothing_reported»))
 
-  tells-range : TellsLog 1 (outOfRange a)
+  pub tells-range : TellsLog 1 (outOfRange a)
   unfolding outOfRange
   tells-range =
       pickLog 0 1 (λ _. a .«range_reported») (λ k. k)

@@ -6,7 +6,7 @@ use lib.Dec.{eqb, ltb}
 use Rattle.numbers.specs.Choice.{pick}
 use Rattle.ram.specs.declared.Plane.{Plane}
 use Rattle.ram.specs.declared.Plane.the-variants.{BlackWhite, Red}
-use Rattle.diagnostic.specs.declared.DiagnosticKind.the-variants.{DataWithoutCommand, ExtraData, RamOutOfRange}
+use Rattle.diagnostic.specs.declared.DiagnosticKind.the-variants.{DataWithoutCommand, ExtraData}
 use Rattle.device.specs.declared.Active.{Active}
 use Rattle.device.specs.declared.Current.{Current}
 use Rattle.device.specs.declared.Current.the-variants as current
@@ -23,7 +23,7 @@ use Rattle.acts.specs.Acts.{asleep, emptied, sleeps, slept, hvReady, vciSensed}
 use Rattle.parameter.specs.Parameter.{registerTaken, writing, autoFilled, autoTaken, parameterTaken}
 use Rattle.data.specs.Data.{made, going, surplus, upTo, planeFor, put, isInside, stepped, outOfRange, ramWritten, byKind, unasked, dataTaken}
 use Rattle.history.proofs.Blind.{plainRam, seenRam, Quiet, quiet-then, quiet-pick}
-use Rattle.history.proofs.Steps.{QuietLog, quiet-logged, quiet-checked, quiet-hv, quiet-vci, quiet-register}
+use Rattle.history.proofs.Steps.{QuietLog, quiet-logged, quiet-checked, quiet-hv, quiet-vci, quiet-register, quiet-range}
 
 -- of the state, the planes and the log
 abbrev pub QuietRam : (WithRam → WithRam) → Type 0
@@ -125,14 +125,8 @@ quiet-put Red byte = record { blind = λ w. refl; still = λ w. refl }
 quiet-stepped : QuietRam (on deviceInRam stepped)
 quiet-stepped = record { blind = λ w. refl; still = λ w. refl }
 
-quiet-out : (a : Active) → QuietRam (outOfRange a)
-unfolding outOfRange logged
-quiet-out a =
-    pickRam (λ _. a .«range_reported») (λ w. w)
-    (λ (w : WithRam). on logInRam (logged (RamOutOfRange (a .command) (w .device .regs .counter .x) (w .device .regs .counter .y))) w)
-    (λ w. refl)
-    none
-    (record { blind = λ w. refl; still = λ w. refl })
+quiet-out : (a : Active) → QuietRam (on logInRam (outOfRange a))
+quiet-out a = quiet-log (outOfRange a) (quiet-range a)
 
 inside-same : (plane : Plane) (w : WithRam) → isInside plane w ≡ isInside plane (plainRam w)
 inside-same BlackWhite w = refl
@@ -144,10 +138,10 @@ quiet-ram byte a =
     let plane = planeFor (a .command) in
     let in-it = going a (a .«extra_reported») (a .«range_reported») in
     let past-it = going a (a .«extra_reported») true in
-    pickRam (isInside plane) (λ w. in-it (on deviceInRam stepped (put plane byte w))) (λ w. past-it (on deviceInRam stepped (outOfRange a w))) (inside-same plane)
+    pickRam (isInside plane) (λ w. in-it (on deviceInRam stepped (put plane byte w))) (λ w. past-it (on deviceInRam stepped (on logInRam (outOfRange a) w))) (inside-same plane)
     (thenRam (put plane byte) (λ w. in-it (on deviceInRam stepped w)) (quiet-put plane byte)
     (thenRam (on deviceInRam stepped) in-it quiet-stepped (quiet-going a (a .«extra_reported») (a .«range_reported»))))
-    (thenRam (outOfRange a) (λ w. past-it (on deviceInRam stepped w)) (quiet-out a)
+    (thenRam (on logInRam (outOfRange a)) (λ w. past-it (on deviceInRam stepped w)) (quiet-out a)
     (thenRam (on deviceInRam stepped) past-it quiet-stepped (quiet-going a (a .«extra_reported») true)))
 
 -- ---- by the command that the byte belongs to

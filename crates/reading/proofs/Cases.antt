@@ -9,7 +9,7 @@ use Rattle.ram.specs.declared.Byte.the-variants.{Is, Nothing}
 use Rattle.counter.specs.declared.Counter.{Counter}
 use Rattle.counter.specs.Counter.{advancedOf}
 use Rattle.ram.specs.Plane.{planeOf, readAt}
-use Rattle.diagnostic.specs.declared.DiagnosticKind.the-variants.{RamOutOfRange, NothingToRead}
+use Rattle.diagnostic.specs.declared.DiagnosticKind.the-variants.{NothingToRead}
 use Rattle.device.specs.declared.Active.{Active}
 use Rattle.device.specs.declared.Current.{Current}
 use Rattle.device.specs.declared.Current.the-variants as current
@@ -25,8 +25,8 @@ use Rattle.world.specs.World.{WithLog, withLog}
 use Rattle.registers.specs.Read.{readRegister}
 use Rattle.busy.specs.Busy.{busyAt}
 use Rattle.chip.specs.Report.{logged}
-use Rattle.data.specs.Data.{made, stepped}
-use Rattle.reading.specs.Reading.{WithByte, withByte, counted, nothingRead, registerRead, chosen, outOfRange, ramFound, ramRead, byteRead, byKind, byCurrent, readTaken}
+use Rattle.data.specs.Data.{made, stepped, outOfRange}
+use Rattle.reading.specs.Reading.{WithByte, withByte, counted, nothingRead, registerRead, chosen, ramFound, ramRead, byteRead, byKind, byCurrent, readTaken}
 
 -- the command goes on with a read more
 abbrev on : Active → Bool → Bool → Ssd1677 → Ssd1677
@@ -52,15 +52,6 @@ module _ (a : Active) (k : WithLog) where
       → r ≡ on a (a .«range_reported») (a .«nothing_reported») (k .device) → withByte (withLog r (k .log)) b ≡ registerRead a k
   unfolding registerRead
   gives busy b r e f h = rw (f, e, h)
-
-  pub past : a .«range_reported» ≡ true → k ≡ outOfRange a k
-  unfolding outOfRange
-  past h = rw h
-
-  pub past-first : (n : WithLog) → a .«range_reported» ≡ false
-      → n ≡ logged (RamOutOfRange (a .command) (k .device .regs .counter .x) (k .device .regs .counter .y)) k → n ≡ outOfRange a k
-  unfolding outOfRange
-  past-first n h e = rw h e
 
   pub finds : (b : Byte) (value : ℕ) (m r : Ssd1677) → b ≡ Is value → m ≡ stepped (k .device)
       → r ≡ on a (a .«range_reported») (a .«nothing_reported») m → withByte (withLog r (k .log)) (Is value) ≡ ramFound a k b

@@ -10,7 +10,7 @@ use Rattle.ram.specs.declared.Byte.the-variants.{Is, Nothing}
 use Rattle.ram.specs.declared.Plane.{Plane}
 use Rattle.ram.specs.declared.Plane.the-variants.{BlackWhite, Red}
 use Rattle.ram.specs.Plane.{planeOf, readAt}
-use Rattle.diagnostic.specs.declared.DiagnosticKind.the-variants.{RamOutOfRange, NothingToRead}
+use Rattle.diagnostic.specs.declared.DiagnosticKind.the-variants.{NothingToRead}
 use Rattle.device.specs.declared.Active.{Active}
 use Rattle.device.specs.declared.Current.{Current}
 use Rattle.device.specs.declared.Current.the-variants as current
@@ -23,7 +23,7 @@ use Rattle.world.specs.World.{WithLog, withLog}
 use Rattle.registers.specs.Read.{readRegister}
 use Rattle.busy.specs.Busy.{busyAt}
 use Rattle.chip.specs.Report.{logged}
-use Rattle.data.specs.Data.{made, stepped}
+use Rattle.data.specs.Data.{made, stepped, outOfRange}
 
 -- the state and the log with the byte read, or none: the line floats
 pub record WithByte : Type 0 where
@@ -66,11 +66,6 @@ registerRead a k =
 -- the plane that 0x41 chose
 abbrev pub chosen : Ssd1677 → Plane
 chosen d = pick (d .regs .«read_ram_red») Red BlackWhite
-
--- 31 past the RAM, once a command
-unfoldable pub outOfRange : Active → WithLog → WithLog
-outOfRange a k =
-    pick (a .«range_reported») k (logged (RamOutOfRange (a .command) (k .device .regs .counter .x) (k .device .regs .counter .y)) k)
 
 -- the counter steps
 abbrev pub moved : WithLog → WithLog

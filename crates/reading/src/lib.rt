@@ -7,7 +7,7 @@ ghost use Rattle.ram.specs.Plane.{planeOf, readAt};
 ghost use Rattle.device.specs.declared.Current.the-variants as current;
 ghost use Rattle.world.specs.World.{withLog};
 ghost use Rattle.data.specs.Data.{made, stepped};
-ghost use Rattle.reading.specs.Reading.{withByte, counted, nothingRead, registerRead, chosen, outOfRange, ramFound, ramRead, byteRead, byCurrent, readTaken};
+ghost use Rattle.reading.specs.Reading.{withByte, counted, nothingRead, registerRead, chosen, ramFound, ramRead, byteRead, byCurrent, readTaken};
 use device::Active;
 use device::Current;
 use device::Kind;
@@ -87,27 +87,6 @@ fn step(state: Ssd1677) -> Ssd1677
     part::set_regs(state, regs)
 }
 
-// 31, unless the command has reported it.
-fn report_range(state: Ssd1677, log: &mut [u8], active: Active) -> Ssd1677
-    requires { ⌜ length (now log) ≡ 16384 ⌝ }
-    ensures { λ r. ⌜ withLog r (now (log .exit)) ≡ outOfRange active (withLog state (now (log .entry))) ⌝ }
-{
-    if active.range_reported {
-        return state;
-    }
-    let command = active.command;
-    let at = state.regs.counter;
-    chip::report(
-        state,
-        log,
-        DiagnosticKind::RamOutOfRange {
-            command,
-            x: at.x,
-            y: at.y,
-        },
-    )
-}
-
 // What the RAM has at the counter, which steps in either case.
 fn found(state: Ssd1677, log: &mut [u8], active: Active, byte: Byte) -> Reading
     requires { ⌜ length (now log) ≡ 16384 ⌝ }
@@ -123,7 +102,7 @@ fn found(state: Ssd1677, log: &mut [u8], active: Active, byte: Byte) -> Reading
             Reading { state, byte }
         }
         Byte::Nothing => {
-            let noted = report_range(state, log, active);
+            let noted = data::report_range(state, log, active);
             let moved = step(noted);
             let state = go_on(moved, active, true, nothing);
             let byte = Byte::Nothing;

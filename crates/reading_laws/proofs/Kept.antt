@@ -22,8 +22,8 @@ use Rattle.world.specs.World.{WithLog}
 use Rattle.chip.specs.Report.{logged}
 use Rattle.acts_laws.proofs.Kept.{logged-kept}
 use Rattle.data_laws.proofs.Kept.{Rests, rests-all, rests-then, rests-made, rests-stepped}
-use Rattle.data.specs.Data.{made}
-use Rattle.reading.specs.Reading.{WithByte, withByte, counted, going, nothingRead, registerRead, chosen, outOfRange, moved, ramFound, ramRead, byteRead, byKind, byCurrent, readTaken}
+use Rattle.data.specs.Data.{made, outOfRange}
+use Rattle.reading.specs.Reading.{WithByte, withByte, counted, going, nothingRead, registerRead, chosen, moved, ramFound, ramRead, byteRead, byKind, byCurrent, readTaken}
 
 -- what stays of the state and its log, the supplies, BUSY and the power, whatever becomes of the current command
 pub record ReadLeaves (k j : WithLog) : Type 0 where
