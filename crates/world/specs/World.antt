@@ -98,7 +98,7 @@ pub record Lent : Type 0 where
 abbrev pub lent : List ℕ → List ℕ → List ℕ → List ℕ → Lent
 lent b r g o = record { blackWhite = b; red = r; gates = g; otp = o }
 
--- with a table, of a world
+-- the same of a world, with the table
 abbrev pub lentOf : List ℕ → World → Lent
 lentOf otp w = lent (w .blackWhite) (w .red) (w .gates) otp
 
@@ -112,36 +112,41 @@ pub record Lens (S A : Type 0) : Type 0 where
 abbrev pub on : {S A : Type 0} → Lens S A → (A → A) → S → S
 on l f w = l .put w (f (l .get w))
 
--- ---- in the state with the states, the pixels and the log
+-- the state alone, in what `set_reset` is lent
 abbrev pub deviceInGlassLog : Lens WithGlassLog Ssd1677
 deviceInGlassLog = record { get = λ w. w .device; put = λ w d. withGlassLog d (w .states) (w .pixels) (w .log) }
 
+-- the state and its log in it
 abbrev pub logInGlassLog : Lens WithGlassLog WithLog
 logInGlassLog = record { get = λ w. withLog (w .device) (w .log); put = λ w k. withGlassLog (k .device) (w .states) (w .pixels) (k .log) }
 
+-- the state, the states and the pixels in it
 abbrev pub glassInGlassLog : Lens WithGlassLog WithGlass
 glassInGlassLog =
     record { get = λ w. withGlass (w .device) (w .states) (w .pixels); put = λ w g. withGlassLog (g .device) (g .states) (g .pixels) (w .log) }
 
--- ---- in the state with the planes and the log
+-- the state alone, in the state with the planes and the log
 abbrev pub deviceInRam : Lens WithRam Ssd1677
 deviceInRam = record { get = λ w. w .device; put = λ w d. withRam d (w .blackWhite) (w .red) (w .log) }
 
+-- the state and its log in it
 abbrev pub logInRam : Lens WithRam WithLog
 logInRam = record { get = λ w. withLog (w .device) (w .log); put = λ w k. withRam (k .device) (w .blackWhite) (w .red) (k .log) }
 
--- ---- in what a command may change
+-- the state alone, in what a command may change
 abbrev pub deviceInBuffers : Lens WithBuffers Ssd1677
 deviceInBuffers = record { get = λ w. w .device; put = λ w d. withBuffers d (w .states) (w .luts) (w .pixels) (w .log) }
 
+-- the state and its log in it
 abbrev pub logInBuffers : Lens WithBuffers WithLog
 logInBuffers = record { get = λ w. withLog (w .device) (w .log); put = λ w k. withBuffers (k .device) (w .states) (w .luts) (w .pixels) (k .log) }
 
+-- the state, the states and the pixels in it
 abbrev pub glassInBuffers : Lens WithBuffers WithGlass
 glassInBuffers =
     record { get = λ w. withGlass (w .device) (w .states) (w .pixels); put = λ w g. withBuffers (g .device) (g .states) (w .luts) (g .pixels) (w .log) }
 
--- ---- in what a data byte may change
+-- the state, the states and the pixels, in what a data byte may change
 abbrev pub glassInPlanes : Lens WithPlanes WithGlass
 glassInPlanes =
     record {
@@ -149,6 +154,7 @@ glassInPlanes =
       put = λ w g. withPlanes (g .device) (g .states) (g .pixels) (w .blackWhite) (w .red) (w .log);
     }
 
+-- the state, the planes and the log in it
 abbrev pub ramInPlanes : Lens WithPlanes WithRam
 ramInPlanes =
     record {
@@ -156,7 +162,7 @@ ramInPlanes =
       put = λ w m. withPlanes (m .device) (w .states) (w .pixels) (m .blackWhite) (m .red) (m .log);
     }
 
--- ---- in the whole
+-- ---- what each call is lent of the whole
 -- what `set_ambient` and `take_diagnostics` are lent
 abbrev pub deviceInWorld : Lens World Ssd1677
 deviceInWorld =
