@@ -26,7 +26,7 @@ use Rattle.device.specs.declared.Power.{Power}
 use Rattle.device.specs.declared.Power.the-variants.{Running, Asleep, InReset}
 use Rattle.device.specs.declared.Ssd1677.{Ssd1677}
 use Rattle.device.specs.Parts.{withBus, withCurrent, withPointed}
-use Rattle.world.specs.World.{WithLog, withLog, WithRam, withRam, on, deviceInRam}
+use Rattle.world.specs.World.{WithLog, withLog, WithRam, withRam, on, deviceInRam, logInRam}
 use Rattle.chip.specs.Report.{logged}
 use Rattle.parameter.specs.Parameter.{parameterTaken}
 use Rattle.data.specs.declared.Streamed.{Streamed}

@@ -20,7 +20,7 @@ use Rattle.device.specs.declared.Power.{Power}
 use Rattle.device.specs.declared.Power.the-variants.{Running, Asleep, InReset}
 use Rattle.device.specs.declared.Ssd1677.{Ssd1677}
 use Rattle.device.specs.Parts.{withBus, withCurrent, withCounter, withRegs}
-use Rattle.world.specs.World.{WithRam, withRam, on, deviceInRam, logInRam}
+use Rattle.world.specs.World.{WithLog, WithRam, withRam, on, deviceInRam, logInRam}
 use Rattle.chip.specs.Report.{logged}
 use Rattle.parameter.specs.Parameter.{parameterTaken}
 

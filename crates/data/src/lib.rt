@@ -12,7 +12,7 @@ ghost use Rattle.diagnostic.specs.declared.DiagnosticKind.the-variants.{ExtraDa
 ghost use Rattle.chip.specs.Report.{logged};
 ghost use Rattle.data.specs.Most.{isStream, mostOf};
 ghost use Rattle.device.specs.Parts.{withPointed};
-ghost use Rattle.world.specs.World.{withLog, withRam, on, deviceInRam};
+ghost use Rattle.world.specs.World.{withLog, withRam, on, deviceInRam, logInRam};
 ghost use Rattle.data.specs.Stream.{leftAs, isStreamed, streamed};
 ghost use Rattle.data.specs.Data.{counted, made, going, surplus, upTo, stepped, outOfRange, planeFor, unasked, dataTaken};
 use device::Active;
