@@ -13,7 +13,7 @@ use Rattle.waveform.specs.Setting.{waveformOf}
 use Rattle.waveform.specs.Duration.{durationOf}
 use Rattle.config.specs.declared.PanelGeometry.{PanelGeometry}
 use Rattle.diagnostic.specs.declared.DiagnosticKind.the-variants.{RamPingPong}
-use Rattle.diagnostic.specs.Power.{powered}
+use Rattle.diagnostic.specs.Power.{ifPowered}
 use Rattle.diagnostic.specs.declared.Stage.the-variants as stage
 use Rattle.scan.specs.declared.Scan.{Scan}
 use Rattle.scan.specs.Luts.{optionOf, lutOf}
@@ -93,5 +93,5 @@ module _ (blackWhite red gates : List ℕ) (d : Ssd1677) where
   unfoldable pub shown : Bool → Bool → Step → List ℕ → Displayed
   shown wanted two s luts =
       pick (wanted && s .run .«waveform_found»)
-      (powered (s .run .clock) (s .run .analog) stage.Display (begun two s luts) (λ kind. unchanged (d .display) luts (noted (d .now) kind s)))
+      (ifPowered (s .run .clock) (s .run .analog) stage.Display (begun two s luts) (λ kind. unchanged (d .display) luts (noted (d .now) kind s)))
       (unchanged (d .display) luts s)

@@ -6,7 +6,7 @@ use Rattle.counter.specs.Counter.{withinOf}
 use Rattle.diagnostic.specs.declared.Stage.{Stage}
 use Rattle.diagnostic.specs.declared.Stage.the-variants.{VcomSense}
 use Rattle.diagnostic.specs.declared.DiagnosticKind.the-variants.{CounterOutsideWindow}
-use Rattle.diagnostic.specs.Power.{powered}
+use Rattle.diagnostic.specs.Power.{ifPowered}
 use Rattle.device.specs.declared.Ssd1677.{Ssd1677}
 use Rattle.device.specs.Parts.{withBus}
 use Rattle.world.specs.World.{WithLog, withLog}
@@ -28,7 +28,7 @@ isPowered d = d .clock && d .analog
 
 -- 33 with the clock off; else 34 with the analog supplies off (mod.rs, `powered`)
 unfoldable pub unpowered : Stage → WithLog → WithLog
-unpowered stage k = powered (k .device .clock) (k .device .analog) stage k (λ kind. logged kind k)
+unpowered stage k = ifPowered (k .device .clock) (k .device .analog) stage k (λ kind. logged kind k)
 
 -- what 0x28 takes: the low four bits of 0x29 and one, in seconds of 1,000,000,000 ns
 abbrev pub sensingTime : Ssd1677 → ℕ
