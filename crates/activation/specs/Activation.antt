@@ -14,7 +14,7 @@ use Rattle.stages.specs.declared.Control.{Control}
 use Rattle.stages.specs.declared.Run.{Run}
 use Rattle.stages.specs.Run.{controlOf, Step, step, withClock, withAnalog, waited}
 use Rattle.stages.specs.Stages.{loaded}
-use Rattle.activation.specs.Display.{Startable, Displayed, shown}
+use Rattle.activation.specs.Display.{Startable, Displayed, displayShown}
 
 -- bit 1: analog supplies that are on stop
 unfoldable pub analogOff : Bool → ℕ → Run → Run
@@ -38,8 +38,8 @@ runOf d =
     }
 
 -- and leave it there; BUSY is high for their time from now on
-unfoldable pub settled : Ssd1677 → Run → Display → Ssd1677
-settled d r display =
+unfoldable pub runSettled : Ssd1677 → Run → Display → Ssd1677
+runSettled d r display =
     withActivated d (withLoaded (d .regs) (r .temperature) (r .lut)) (busyFor (d .bus) (d .now) (r .ns)) (r .clock) (r .analog) display (r .journal)
 
 -- the state with the chosen LUTs and the log, which the stages change
@@ -60,13 +60,13 @@ module _ (k : Lent) (s : WithLuts) where
   -- then the display
   abbrev pub during : Control → Displayed
   during control =
-      shown (k .blackWhite) (k .red) (k .gates) (s .device) (control .display) (control .«mode_two») (before control) (s .luts)
+      displayShown (k .blackWhite) (k .red) (k .gates) (s .device) (control .display) (control .«mode_two») (before control) (s .luts)
 
   -- then the supplies' end, and all of it back in the state
   abbrev pub after : Control → Displayed → WithLuts
   after control t =
       withLuts
-      (settled (s .device) (clockOff (control .«clock_off») (analogOff (control .«analog_off») (s .device .config .timing .«analog_off») (t .run))) (t .display))
+      (runSettled (s .device) (clockOff (control .«clock_off») (analogOff (control .«analog_off») (s .device .config .timing .«analog_off») (t .run))) (t .display))
       (t .luts)
       (t .log)
 
@@ -88,9 +88,9 @@ abbrev pub arrived : WithBuffers → WithLuts → WithGlass
 arrived w s = advanced (s .luts) (s .device .now) (withGlass (s .device) (w .states) (w .pixels))
 
 -- the two put together
-abbrev pub joined : WithLuts → WithGlass → WithBuffers
-joined s g = withBuffers (g .device) (g .states) (s .luts) (g .pixels) (s .log)
+abbrev pub bothLeft : WithLuts → WithGlass → WithBuffers
+bothLeft s g = withBuffers (g .device) (g .states) (s .luts) (g .pixels) (s .log)
 
 -- 0x20
 unfoldable pub activated : Lent → WithBuffers → WithBuffers
-activated k w = joined (stagedIn k w) (arrived w (stagedIn k w))
+activated k w = bothLeft (stagedIn k w) (arrived w (stagedIn k w))

@@ -24,14 +24,14 @@ abbrev pub zeros : List ℕ → List ℕ
 zeros plane = tab (length plane) (λ _. 0)
 
 -- both planes lost
-abbrev pub emptied : WithRam → WithRam
-emptied w = withRam (w .device) (zeros (w .blackWhite)) (zeros (w .red)) (w .log)
+abbrev pub ramLost : WithRam → WithRam
+ramLost w = withRam (w .device) (zeros (w .blackWhite)) (zeros (w .red)) (w .log)
 
 -- bits 1:0 of 0x10: 00 stays awake; 11 sleeps with the RAM lost; the reserved 01 and 10 sleep with the RAM kept (ASSUMPTION of mod.rs)
 unfoldable pub sleeps : ℕ → WithRam → WithRam
 sleeps byte w =
     pick (eqb (byte % 4) 0) w
-    (pick (eqb (byte % 4) 3) (on deviceInRam asleep (emptied w)) (on deviceInRam asleep w))
+    (pick (eqb (byte % 4) 3) (on deviceInRam asleep (ramLost w)) (on deviceInRam asleep w))
 
 -- 0x10: 00h and 03h alone are listed
 unfoldable pub slept : ℕ → WithRam → WithRam

@@ -25,7 +25,7 @@ use Rattle.chip.specs.Close.{entriesOf}
 use Rattle.chip.specs.Report.{logged}
 use Rattle.start.specs.Start.{withBusyFor, isPowered, unpowered}
 use Rattle.acts.specs.Reserved.{reserved, checked}
-use Rattle.acts.specs.Acts.{asleep, emptied, sleeps, slept, withHvNotReady, hvDetected, hvReady, vciLevel, withVciLow, vciDetected, vciSensed}
+use Rattle.acts.specs.Acts.{asleep, ramLost, sleeps, slept, withHvNotReady, hvDetected, hvReady, vciLevel, withVciLow, vciDetected, vciSensed}
 
 -- what stays of the state
 pub record Same (d e : Ssd1677) : Type 0 where
@@ -202,7 +202,7 @@ asleep-kept w =
       red-long = refl;
     }
 
-emptied-kept : (w : WithRam) → KeptRam w (emptied w)
+emptied-kept : (w : WithRam) → KeptRam w (ramLost w)
 emptied-kept w =
     record {
       same = same-all (w .device);
@@ -218,9 +218,9 @@ sleeps-kept : (byte : ℕ) (w : WithRam) → KeptRam w (sleeps byte w)
 unfolding sleeps
 sleeps-kept byte w = by (eqb (byte % 4) 0) (eqb (byte % 4) 3)
   where
-    by : (b c : Bool) → KeptRam w (pick b w (pick c (on deviceInRam asleep (emptied w)) (on deviceInRam asleep w)))
+    by : (b c : Bool) → KeptRam w (pick b w (pick c (on deviceInRam asleep (ramLost w)) (on deviceInRam asleep w)))
     by true c = ram-all w
-    by false true = ram-then w (emptied w) (on deviceInRam asleep (emptied w)) (emptied-kept w) (asleep-kept (emptied w))
+    by false true = ram-then w (ramLost w) (on deviceInRam asleep (ramLost w)) (emptied-kept w) (asleep-kept (ramLost w))
     by false false = asleep-kept w
 
 pub slept-kept : (byte : ℕ) (w : WithRam) → KeptRam w (slept byte w)

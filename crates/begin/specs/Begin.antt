@@ -22,8 +22,8 @@ use Rattle.start.specs.Start.{softReset, vcomSensed, pointed}
 use Rattle.activation.specs.Activation.{activated}
 
 -- the command is the current one, with nothing written, read or reported
-unfoldable pub made : ℕ → Kind → Ssd1677 → Ssd1677
-made command kind d =
+unfoldable pub commandMade : ℕ → Kind → Ssd1677 → Ssd1677
+commandMade command kind d =
     withBus d
     (withCurrent (d .bus)
     (Active
@@ -46,12 +46,12 @@ run k command w =
     (pick (eqb command 0x24 || eqb command 0x26 || eqb command 0x27) (on logInBuffers (pointed command) w) w)))
 
 -- by what Table 7-1 has for the command: 21, 22 and 23 leave it without data
-unfoldable pub byKind : Lent → ℕ → WithBuffers → Known → WithBuffers
-byKind k command w Unknown = on logInBuffers (logged (UnknownCommand command)) w
-byKind k command w (Of Reserved) = on logInBuffers (logged (ReservedCommand command)) w
-byKind k command w (Of Unsupported) = on logInBuffers (logged (UnsupportedCommand command)) w
-byKind k command w (Of (Write params)) = run k command (on deviceInBuffers (made command (Write params)) w)
-byKind k command w (Of Read) = run k command (on deviceInBuffers (made command Read) w)
+unfoldable pub commandByKind : Lent → ℕ → WithBuffers → Known → WithBuffers
+commandByKind k command w Unknown = on logInBuffers (logged (UnknownCommand command)) w
+commandByKind k command w (Of Reserved) = on logInBuffers (logged (ReservedCommand command)) w
+commandByKind k command w (Of Unsupported) = on logInBuffers (logged (UnsupportedCommand command)) w
+commandByKind k command w (Of (Write params)) = run k command (on deviceInBuffers (commandMade command (Write params)) w)
+commandByKind k command w (Of Read) = run k command (on deviceInBuffers (commandMade command Read) w)
 
 -- BUSY is high and the command is not the status read, 0x2F, which a busy chip takes
 abbrev pub isHeldOff : ℕ → Ssd1677 → Bool
@@ -61,4 +61,4 @@ isHeldOff command d = pending (d .bus .«busy_until») (d .now) && not (eqb comm
 unfoldable pub begun : Lent → ℕ → WithBuffers → Power → WithBuffers
 begun k command w InReset = on logInBuffers (logged (WhileInReset command)) w
 begun k command w Asleep = on logInBuffers (logged (WhileAsleep command)) w
-begun k command w Running = pick (isHeldOff command (w .device)) (on logInBuffers (logged (WhileBusy command)) w) (byKind k command w (kindOf command))
+begun k command w Running = pick (isHeldOff command (w .device)) (on logInBuffers (logged (WhileBusy command)) w) (commandByKind k command w (kindOf command))

@@ -19,14 +19,14 @@ use Rattle.guard_lengths.specs.Lengths.{planeBytes, logBytes, fits, lengthsFit,
 use Rattle.guard.specs.Refusals.{guarded, guardedWithTable}
 use Rattle.guard_state.specs.State.{stateFine}
 use Rattle.query.specs.Outcome.{outcome, unless, stateGuarded}
-use Rattle.query.specs.Queries.{withAmbient, ambientSet, WithCount, withCount, emptied, diagnosticsTaken}
+use Rattle.query.specs.Queries.{withAmbient, ambientSet, WithCount, withCount, journalEmptied, diagnosticsTaken}
 use Rattle.wait.specs.Wait.{clockMoved}
 use Rattle.res.specs.Line.{lineTaken, lineMoved}
 use Rattle.low.specs.Command.{commandTaken, commandWritten}
 use Rattle.high.specs.Data.{dataIn, dataWritten}
 use Rattle.driven.specs.Read.{WithRead, withRead, readIn, dataRead}
 use Rattle.calls.specs.World.{Call, advance, set-reset, write-command, write-data, read-data, set-ambient, take-diagnostics, back, called, taken}
-use Rattle.calls.specs.Sound.{lengthsIn, Sound}
+use Rattle.calls.specs.Sound.{lengthsInWorld, Sound}
 use Rattle.calls.proofs.Parts.{lengths-pass, has, sound-long}
 
 -- ---- the guards let pass
@@ -85,7 +85,7 @@ module _ (otp : List ℕ) (w : World) (s : Sound otp w) where
   accepted-takes (write-command time command) =
       ap (back (buffersInWorld .put w))
       (granted _ (buffersInWorld .get w) (commandTaken (lentOf otp w) time command (buffersInWorld .get w))
-      (three-pass (w .device) (lengthsIn w) otp (s .state) (s .lengths) (s .table)))
+      (three-pass (w .device) (lengthsInWorld w) otp (s .state) (s .lengths) (s .table)))
   accepted-takes (write-data time byte) = ap (back (planesInWorld .put w)) (granted _ (planesInWorld .get w) (dataIn (w .luts) time byte (planesInWorld .get w)) planes-pass)
   accepted-takes (read-data time) =
       ap (back (λ (r : WithRead). glassLogInWorld .put w (r .left)))
@@ -95,5 +95,5 @@ module _ (otp : List ℕ) (w : World) (s : Sound otp w) where
       (granted _ (w .device) (withConfig (w .device) (withAmbient (w .device .config) register)) (state-passes (w .device) (s .state)))
   accepted-takes take-diagnostics =
       ap (back (λ (t : WithCount). deviceInWorld .put w (t .device)))
-      (granted _ (withCount (w .device) 0) (withCount (withJournal (w .device) (emptied (w .device .journal))) (w .device .journal .count))
+      (granted _ (withCount (w .device) 0) (withCount (withJournal (w .device) (journalEmptied (w .device .journal))) (w .device .journal .count))
       (state-passes (w .device) (s .state)))

@@ -27,7 +27,7 @@ use Rattle.reset.specs.Reset.{restored}
 use Rattle.start.specs.Start.{withBusyFor, softReset, isPowered, unpowered, sensingTime, vcomSensed, pointed}
 use Rattle.stages_laws.proofs.Kept.{either}
 use Rattle.activation.specs.Activation.{activated}
-use Rattle.begin.specs.Begin.{made, run, byKind, isHeldOff, begun}
+use Rattle.begin.specs.Begin.{commandMade, run, commandByKind, isHeldOff, begun}
 use Rattle.calls.specs.Sound.{takesNone, UnderWay, Held}
 use Rattle.calls.proofs.Clock.{held-still, under-way-kept}
 use Rattle.calls.proofs.Activated.{held-activated}
@@ -88,18 +88,18 @@ HeldWith w = Held (w .device)
 
 -- ---- no display runs
 module _ (k : Lent) (command : ℕ) (w : WithBuffers) (still : w .device .display .running ≡ false) where
-  made-activated : (kind : Kind) → w .device .bus .power ≡ Running → takesNone kind ≡ true → HeldWith (activated k (on deviceInBuffers (made command kind) w))
-  unfolding made
-  made-activated kind power none = held-activated k (on deviceInBuffers (made command kind) w) power none still
+  made-activated : (kind : Kind) → w .device .bus .power ≡ Running → takesNone kind ≡ true → HeldWith (activated k (on deviceInBuffers (commandMade command kind) w))
+  unfolding commandMade
+  made-activated kind power none = held-activated k (on deviceInBuffers (commandMade command kind) w) power none still
 
-  made-still : (kind : Kind) → on deviceInBuffers (made command kind) w .device .display .running ≡ false
-  unfolding made
+  made-still : (kind : Kind) → on deviceInBuffers (commandMade command kind) w .device .display .running ≡ false
+  unfolding commandMade
   made-still kind = still
 
-  run-held : (kind : Kind) → w .device .bus .power ≡ Running → kindOf command ≡ Of kind → HeldWith (run k command (on deviceInBuffers (made command kind) w))
+  run-held : (kind : Kind) → w .device .bus .power ≡ Running → kindOf command ≡ Of kind → HeldWith (run k command (on deviceInBuffers (commandMade command kind) w))
   unfolding run
   run-held kind power e =
-      let v = on deviceInBuffers (made command kind) w in
+      let v = on deviceInBuffers (commandMade command kind) w in
       let entry = withLog (v .device) (v .log) in
       either HeldWith (eqb command 0x12) (on deviceInBuffers softReset v) _ (held-still _ (reset-same (v .device) ∙ made-still kind))
       (when HeldWith (eqb command 0x20) (activated k v) _
@@ -108,8 +108,8 @@ module _ (k : Lent) (command : ℕ) (w : WithBuffers) (still : w .device .displa
       (either HeldWith (eqb command 0x24 || eqb command 0x26 || eqb command 0x27) (on logInBuffers (pointed command) v) v
       (held-still _ (pointed-same entry command ∙ made-still kind)) (held-still _ (made-still kind)))))
 
-  kind-held : (known : Known) → w .device .bus .power ≡ Running → kindOf command ≡ known → HeldWith (byKind k command w known)
-  unfolding byKind logged
+  kind-held : (known : Known) → w .device .bus .power ≡ Running → kindOf command ≡ known → HeldWith (commandByKind k command w known)
+  unfolding commandByKind logged
   kind-held Unknown power e = held-still _ still
   kind-held (Of Reserved) power e = held-still _ still
   kind-held (Of Unsupported) power e = held-still _ still
@@ -121,7 +121,7 @@ module _ (k : Lent) (command : ℕ) (w : WithBuffers) (still : w .device .displa
   begun-still InReset power = held-still _ still
   begun-still Asleep power = held-still _ still
   begun-still Running power =
-      either HeldWith (isHeldOff command (w .device)) (on logInBuffers (logged (WhileBusy command)) w) (byKind k command w (kindOf command)) (held-still _ still)
+      either HeldWith (isHeldOff command (w .device)) (on logInBuffers (logged (WhileBusy command)) w) (commandByKind k command w (kindOf command)) (held-still _ still)
       (kind-held (kindOf command) power refl)
 
 -- ---- one runs
@@ -135,10 +135,10 @@ module _ (k : Lent) (w : WithBuffers) (u : UnderWay (w .device)) where
 
   -- 0x2F is taken: its data bytes are read
   status-under-way : UnderWay (begun k 0x2F w Running .device)
-  unfolding begun byKind run made kindOf lookup rows
+  unfolding begun commandByKind run commandMade kindOf lookup rows
   status-under-way = by (pending (w .device .bus .«busy_until») (w .device .now))
     where
-      by : (b : Bool) → UnderWay (pick (b && not (eqb 0x2F 0x2F)) (on logInBuffers (logged (WhileBusy 0x2F)) w) (on deviceInBuffers (made 0x2F Read) w) .device)
+      by : (b : Bool) → UnderWay (pick (b && not (eqb 0x2F 0x2F)) (on logInBuffers (logged (WhileBusy 0x2F)) w) (on deviceInBuffers (commandMade 0x2F Read) w) .device)
       by true = under-way-kept (w .device) _ refl refl refl refl refl u
       by false = under-way-kept (w .device) _ refl refl refl refl refl u
 

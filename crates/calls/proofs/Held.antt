@@ -18,7 +18,7 @@ use Rattle.busy.specs.Busy.{pending, busyIn, busyAt, earlier, displayEnd, deadl
 use Rattle.clock.specs.Advance.{advanced}
 use Rattle.chip.specs.Close.{closed}
 use Rattle.chip.specs.Report.{logged}
-use Rattle.reset.specs.Reset.{restored, isDriving, cutShort, dropped, cut, inReset, asserted, released, byLine}
+use Rattle.reset.specs.Reset.{restored, isDriving, displayCut, displayDropped, cut, inReset, asserted, released, byLine}
 use Rattle.reading.specs.Reading.{readTaken}
 use Rattle.reading_laws.proofs.Kept.{read-leaves, current-read}
 use Rattle.power_on.specs.Start.{Buffers, poweredOn, unstarted, Powered, powered, poweredUp, started}
@@ -37,10 +37,10 @@ use Rattle.calls.proofs.Written.{held-data}
 -- ---- the reset line stops the display
 module _ (luts : List ℕ) where
   cut-still : (w : WithGlassLog) → cut luts w .device .display .running ≡ false
-  unfolding cut cutShort
+  unfolding cut displayCut
   cut-still w =
       either (λ (x : WithGlassLog). x .device .display .running ≡ false) (isDriving (w .device))
-      (on glassInGlassLog (cutShort luts) (on logInGlassLog (logged ResetDuringDisplay) w)) (on deviceInGlassLog dropped w) refl refl
+      (on glassInGlassLog (displayCut luts) (on logInGlassLog (logged ResetDuringDisplay) w)) (on deviceInGlassLog displayDropped w) refl refl
 
   asserted-still : (w : WithGlassLog) → asserted luts w .device .display .running ≡ false
   unfolding asserted inReset restored

@@ -19,9 +19,9 @@ use Rattle.clock.proofs.Arrived.{config-advanced, swing-advanced, regs-advanced
 use Rattle.reset.proofs.Kept.{ready-closed, ready-line}
 use Rattle.activation.proofs.Kept.{ready-advanced}
 use Rattle.begin_laws.proofs.Kept.{config-begun, swing-begun, states-begun, luts-begun, pixels-begun, log-begun, count-begun, bounded-begun, current-begun}
-use Rattle.data.specs.Data.{counted}
+use Rattle.data.specs.Data.{oneByteMore}
 use Rattle.data_laws.proofs.Kept.{data-leaves, current-kept}
-use Rattle.reading.specs.Reading.{counted as countedRead}
+use Rattle.reading.specs.Reading.{oneByteMore as countedRead}
 use Rattle.reading_laws.proofs.Kept.{read-leaves, current-read}
 use Rattle.res.specs.Line.{lineTaken}
 use Rattle.low.specs.Command.{commandTaken}
@@ -38,7 +38,7 @@ ignored : currentFine Ignoring ≡ true
 unfolding currentFine
 ignored = refl
 
-goes-on : (a : the.Active) (extra range : Bool) → currentFine (Active a) ≡ true → currentFine (Active (counted a extra range)) ≡ true
+goes-on : (a : the.Active) (extra range : Bool) → currentFine (Active a) ≡ true → currentFine (Active (oneByteMore a extra range)) ≡ true
 unfolding currentFine
 goes-on a extra range h = h
 

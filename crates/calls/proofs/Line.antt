@@ -22,7 +22,7 @@ use Rattle.guard_kinds.specs.Kinds.{currentFine}
 use Rattle.chip.specs.Close.{expectedOf, missing, entriesOf, closed}
 use Rattle.chip.specs.Report.{logged}
 use Rattle.moment.proofs.Current.{current-busy}
-use Rattle.reset.specs.Reset.{restored, isDriving, cutShort, dropped, cut, inReset, asserted, released, byLine}
+use Rattle.reset.specs.Reset.{restored, isDriving, displayCut, displayDropped, cut, inReset, asserted, released, byLine}
 
 -- ---- 26 if parameters lack
 module _ (time : ℕ) (e : Entries) where
@@ -123,8 +123,8 @@ leaves-logged w =
       log-long = reported-length (entriesOf k) (w .device .now) ResetDuringDisplay;
     }
 
-leaves-shortened : (luts : List ℕ) (w : WithGlassLog) → LineLeaves w (on glassInGlassLog (cutShort luts) w)
-unfolding cutShort finished published
+leaves-shortened : (luts : List ℕ) (w : WithGlassLog) → LineLeaves w (on glassInGlassLog (displayCut luts) w)
+unfolding displayCut finished published
 leaves-shortened luts w =
     record {
       same-config = refl;
@@ -135,7 +135,7 @@ leaves-shortened luts w =
       log-long = λ h. h;
     }
 
-leaves-dropped : (w : WithGlassLog) → LineLeaves w (on deviceInGlassLog dropped w)
+leaves-dropped : (w : WithGlassLog) → LineLeaves w (on deviceInGlassLog displayDropped w)
 leaves-dropped w =
     record { same-config = refl; same-swing = refl; bounded = λ h. h; count = λ h. h; states-long = refl; log-long = λ h. h }
 
@@ -143,10 +143,10 @@ leaves-cut : (luts : List ℕ) (w : WithGlassLog) → LineLeaves w (cut luts w)
 unfolding cut
 leaves-cut luts w = by (isDriving (w .device))
   where
-    by : (b : Bool) → LineLeaves w (pick b (on glassInGlassLog (cutShort luts) (on logInGlassLog (logged ResetDuringDisplay) w)) (on deviceInGlassLog dropped w))
+    by : (b : Bool) → LineLeaves w (pick b (on glassInGlassLog (displayCut luts) (on logInGlassLog (logged ResetDuringDisplay) w)) (on deviceInGlassLog displayDropped w))
     by true =
         let v = on logInGlassLog (logged ResetDuringDisplay) w in
-        leaves-then w v (on glassInGlassLog (cutShort luts) v) (leaves-logged w) (leaves-shortened luts v)
+        leaves-then w v (on glassInGlassLog (displayCut luts) v) (leaves-logged w) (leaves-shortened luts v)
     by false = leaves-dropped w
 
 leaves-restored : (w : WithGlassLog) → LineLeaves w (on deviceInGlassLog inReset (on deviceInGlassLog restored w))

@@ -19,7 +19,7 @@ use Rattle.guard_state.specs.State.{panelFine, swingFine, periodsFine, register
 use Rattle.guard_laws.proofs.Joined.{each}
 use Rattle.guard_laws.proofs.Accepted.{fine-registers, fine-lengths}
 use Rattle.guard_laws.proofs.Kept.{registers-pass, state-passes}
-use Rattle.calls.specs.Sound.{lengthsIn, Sound}
+use Rattle.calls.specs.Sound.{lengthsInWorld, Sound}
 
 -- what 13 asks
 pub record Fine (d : Ssd1677) : Type 0 where
@@ -74,9 +74,9 @@ pub record Long (p : PanelGeometry) (w : World) : Type 0 where
   pub red : length (w .red) ≡ 81600
   pub gates : length (w .gates) ≡ p .height
 
-pub long-parts : (p : PanelGeometry) (w : World) → lengthsFit p (lengthsIn w) ≡ true → Long p w
+pub long-parts : (p : PanelGeometry) (w : World) → lengthsFit p (lengthsInWorld w) ≡ true → Long p w
 long-parts p w e =
-    let f = fine-lengths p (lengthsIn w) e in
+    let f = fine-lengths p (lengthsInWorld w) e in
     record {
       states = f .states;
       luts = f .luts;
@@ -99,7 +99,7 @@ pub has : (n size : ℕ) → n ≡ size → fits (Of n) size ≡ true
 unfolding fits
 has n size e = eq-eqb n size e
 
-pub long-passes : (p : PanelGeometry) (w : World) → Long p w → lengthsFit p (lengthsIn w) ≡ true
+pub long-passes : (p : PanelGeometry) (w : World) → Long p w → lengthsFit p (lengthsInWorld w) ≡ true
 long-passes p w l =
     lengths-pass p (length (w .states)) (length (w .luts)) (length (w .pixels)) (Of (length (w .log))) (Of (length (w .blackWhite)))
     (Of (length (w .red))) (Of (length (w .gates))) (l .states) (l .luts) (l .pixels) (has (length (w .log)) logBytes (l .log))

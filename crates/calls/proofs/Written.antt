@@ -17,7 +17,7 @@ use Rattle.device.specs.declared.Power.{Power}
 use Rattle.device.specs.declared.Power.the-variants.{Running, Asleep, InReset}
 use Rattle.world.specs.World.{WithRam, on, deviceInRam, logInRam}
 use Rattle.chip.specs.Report.{logged}
-use Rattle.data.specs.Data.{made, going, surplus, upTo, byKind, unasked, dataTaken}
+use Rattle.data.specs.Data.{made, writingOn, surplus, upTo, dataByKind, unasked, dataTaken}
 use Rattle.data_laws.proofs.Kept.{data-leaves}
 use Rattle.calls.specs.Sound.{takesNone, inert, UnderWay, Held}
 use Rattle.calls.proofs.Clock.{held-still, under-way-kept}
@@ -32,7 +32,7 @@ module _ (w : WithRam) (u : UnderWay (w .device)) where
     unfolding surplus logged
     surplus-under-way = by (a .«extra_reported»)
       where
-        by : (b : Bool) → UnderWay (going a true (a .«range_reported») (pick b w (on logInRam (logged (ExtraData (a .command))) w)) .device)
+        by : (b : Bool) → UnderWay (writingOn a true (a .«range_reported») (pick b w (on logInRam (logged (ExtraData (a .command))) w)) .device)
         by true = under-way-kept (w .device) _ refl refl refl refl none u
         by false = under-way-kept (w .device) _ refl refl refl refl none u
 
@@ -41,8 +41,8 @@ module _ (w : WithRam) (u : UnderWay (w .device)) where
     unfolding upTo
     none-under-way count byte e = rw (le-ltb (a .received) count (omega arith)) surplus-under-way
 
-    kind-under-way : (byte : ℕ) (kind : Kind) → takesNone kind ≡ true → UnderWay (byKind byte a w kind .device)
-    unfolding byKind
+    kind-under-way : (byte : ℕ) (kind : Kind) → takesNone kind ≡ true → UnderWay (dataByKind byte a w kind .device)
+    unfolding dataByKind
     kind-under-way byte (Write (Exactly count)) h = none-under-way count byte (eqb-true count 0 h)
     kind-under-way byte (Write (Between least most)) h = absurd (never h)
     kind-under-way byte (Write Stream) h = absurd (never h)

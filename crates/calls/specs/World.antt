@@ -7,7 +7,7 @@ use Rattle.world.specs.World.{World, world, lentOf, deviceInWorld, glassInWorld
 use Rattle.clock.specs.Advance.{advanced}
 use Rattle.power_on.specs.Start.{Powered}
 use Rattle.query.specs.Outcome.{Outcome, outcome}
-use Rattle.query.specs.Queries.{withAmbient, ambientSet, WithCount, emptied, diagnosticsTaken}
+use Rattle.query.specs.Queries.{withAmbient, ambientSet, WithCount, journalEmptied, diagnosticsTaken}
 use Rattle.wait.specs.Wait.{clockMoved}
 use Rattle.res.specs.Line.{lineTaken, lineMoved}
 use Rattle.low.specs.Command.{commandTaken, commandWritten}
@@ -53,7 +53,7 @@ taken otp w (write-command time command) = buffersInWorld .put w (commandTaken (
 taken otp w (write-data time byte) = planesInWorld .put w (dataIn (w .luts) time byte (planesInWorld .get w))
 taken otp w (read-data time) = glassLogInWorld .put w (readIn (w .luts) (w .blackWhite) (w .red) time (glassLogInWorld .get w) .left)
 taken otp w (set-ambient register) = deviceInWorld .put w (withConfig (w .device) (withAmbient (w .device .config) register))
-taken otp w take-diagnostics = deviceInWorld .put w (withJournal (w .device) (emptied (w .device .journal)))
+taken otp w take-diagnostics = deviceInWorld .put w (withJournal (w .device) (journalEmptied (w .device .journal)))
 
 -- ---- a list of calls
 -- what they leave, one after the other, each with what the one before left

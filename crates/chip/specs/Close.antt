@@ -37,12 +37,12 @@ abbrev pub entriesOf : WithLog → Entries
 entriesOf k = entries (k .device .journal) (k .log)
 
 -- the next command may report a reserved value again
-abbrev pub fresh : Journal → Journal
-fresh j = record { count = j .count; dropped = j .dropped; «reserved_reported» = false }
+abbrev pub reservedUnreported : Journal → Journal
+reservedUnreported j = record { count = j .count; dropped = j .dropped; «reserved_reported» = false }
 
 -- the entries put back, and later data ignored
 abbrev pub ignoring : WithLog → Entries → WithLog
-ignoring k e = withLog (withBus (withJournal (k .device) (fresh (e .journal))) (withCurrent (k .device .bus) Ignoring)) (e .log)
+ignoring k e = withLog (withBus (withJournal (k .device) (reservedUnreported (e .journal))) (withCurrent (k .device .bus) Ignoring)) (e .log)
 
 -- 26 if parameters lack; then no command is current
 unfoldable pub closed : WithLog → WithLog

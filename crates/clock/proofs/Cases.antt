@@ -20,7 +20,7 @@ use Rattle.clock.specs.Advance.{stopped, endingOf, glassOf, isOver, isQu
 module _ (luts : List ℕ) (g : WithGlass) where
   pub ends : (after : Glass) (off : Display) (r : Ssd1677) → isOver (g .device) ≡ true
       → after ≡ finished (endingOf (g .device) (g .device .display .ends) Whole) luts (glassOf g)
-      → off ≡ stopped (g .device .display) → r ≡ part.withGlass (g .device) (after .panel) off
+      → off ≡ stopped (g .device .display) → r ≡ part.withPanelAndDisplay (g .device) (after .panel) off
       → withGlass r (after .states) (after .pixels) ≡ ended luts g
   unfolding ended
   ends after off r h e f k = rw (h, ← e, k, f)

@@ -32,8 +32,8 @@ abbrev pub glassOf : WithGlass → Glass
 glassOf g = glass (g .device .panel) (g .states) (g .pixels)
 
 -- the glass that a display left, and the display stopped
-abbrev pub published : WithGlass → Glass → WithGlass
-published g after = withGlass (part.withGlass (g .device) (after .panel) (stopped (g .device .display))) (after .states) (after .pixels)
+abbrev pub glassPublished : WithGlass → Glass → WithGlass
+glassPublished g after = withGlass (part.withPanelAndDisplay (g .device) (after .panel) (stopped (g .device .display))) (after .states) (after .pixels)
 
 -- the display runs and the clock has reached its end
 abbrev pub isOver : Ssd1677 → Bool
@@ -47,7 +47,7 @@ isQuiet d = quietAt (d .display .running) (d .display .ends) (d .bus .«busy_unt
 unfoldable pub ended : List ℕ → WithGlass → WithGlass
 ended luts g =
     pick (isOver (g .device))
-    (published g (finished (endingOf (g .device) (g .device .display .ends) Whole) luts (glassOf g)))
+    (glassPublished g (finished (endingOf (g .device) (g .device .display .ends) Whole) luts (glassOf g)))
     g
 
 -- BUSY, at the clock

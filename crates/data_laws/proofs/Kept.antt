@@ -30,7 +30,7 @@ use Rattle.chip.specs.Report.{logged}
 use Rattle.parameter.specs.Parameter.{parameterTaken}
 use Rattle.acts_laws.proofs.Kept.{Sound, KeptRam, on-log, logged-kept}
 use Rattle.parameter.proofs.Kept.{parameter-kept}
-use Rattle.data.specs.Data.{counted, made, going, surplus, upTo, planeFor, put, isInside, stepped, outOfRange, ramWritten, byKind, unasked, dataTaken}
+use Rattle.data.specs.Data.{oneByteMore, made, writingOn, surplus, upTo, planeFor, planeWritten, isInside, counterStepped, outOfRange, ramWritten, dataByKind, unasked, dataTaken}
 
 -- ---- of a state and its log, whatever becomes of the current command
 pub record Rests (k j : WithLog) : Type 0 where
@@ -65,7 +65,7 @@ rests-made c k =
     }
 
 -- the counter stays within ten bits
-pub rests-stepped : (k : WithLog) → Rests k (withLog (stepped (k .device)) (k .log))
+pub rests-stepped : (k : WithLog) → Rests k (withLog (counterStepped (k .device)) (k .log))
 rests-stepped k =
     record {
       same-config = refl;
@@ -127,7 +127,7 @@ of-kept w v p =
 leaves-made : (c : Current) (w : WithRam) → DataLeaves w (on deviceInRam (made c) w)
 leaves-made c w = record { rests = rests-made c (logOf w); black-white-long = refl; red-long = refl }
 
-leaves-stepped : (w : WithRam) → DataLeaves w (on deviceInRam stepped w)
+leaves-stepped : (w : WithRam) → DataLeaves w (on deviceInRam counterStepped w)
 leaves-stepped w = record { rests = rests-stepped (logOf w); black-white-long = refl; red-long = refl }
 
 pub written-length : (p : List ℕ) (c : Counter) (byte : ℕ) → length (writtenAt p c byte) ≡ length p
@@ -138,7 +138,7 @@ written-length p c byte = by (indexOf c)
     by (At i) = length-set p i byte
     by Outside = refl
 
-leaves-put : (plane : Plane) (byte : ℕ) (w : WithRam) → DataLeaves w (put plane byte w)
+leaves-put : (plane : Plane) (byte : ℕ) (w : WithRam) → DataLeaves w (planeWritten plane byte w)
 leaves-put BlackWhite byte w =
     record { rests = rests-all (logOf w); black-white-long = written-length (w .blackWhite) (w .device .regs .counter) byte; red-long = refl }
 leaves-put Red byte w =
@@ -153,21 +153,21 @@ module _ (a : Active) (w : WithRam) where
   unfolding surplus
   leaves-surplus =
       let v = pick (a .«extra_reported») w (on logInRam (logged (ExtraData (a .command))) w) in
-      leaves-then w v (going a true (a .«range_reported») v)
+      leaves-then w v (writingOn a true (a .«range_reported») v)
       (leaves-logged (a .«extra_reported») (ExtraData (a .command)) w)
-      (leaves-made (current.Active (counted a true (a .«range_reported»))) v)
+      (leaves-made (current.Active (oneByteMore a true (a .«range_reported»))) v)
 
   leaves-up-to : (most byte : ℕ) → byte ≤ 255 → DataLeaves w (upTo most byte a w)
   unfolding upTo
   leaves-up-to most byte small = by (ltb (a .received) most)
     where
       by : (b : Bool)
-          → DataLeaves w (pick b (going a (a .«extra_reported») (a .«range_reported») (parameterTaken (a .command) (a .received) byte w)) (surplus a w))
+          → DataLeaves w (pick b (writingOn a (a .«extra_reported») (a .«range_reported») (parameterTaken (a .command) (a .received) byte w)) (surplus a w))
       by true =
           leaves-then w (parameterTaken (a .command) (a .received) byte w)
-          (going a (a .«extra_reported») (a .«range_reported») (parameterTaken (a .command) (a .received) byte w))
+          (writingOn a (a .«extra_reported») (a .«range_reported») (parameterTaken (a .command) (a .received) byte w))
           (of-kept w (parameterTaken (a .command) (a .received) byte w) (parameter-kept (a .command) (a .received) byte w small))
-          (leaves-made (current.Active (counted a (a .«extra_reported») (a .«range_reported»))) (parameterTaken (a .command) (a .received) byte w))
+          (leaves-made (current.Active (oneByteMore a (a .«extra_reported») (a .«range_reported»))) (parameterTaken (a .command) (a .received) byte w))
       by false = leaves-surplus
 
   leaves-out : DataLeaves w (on logInRam (outOfRange a) w)
@@ -183,11 +183,11 @@ module _ (a : Active) (w : WithRam) where
       by false = leaves-logged false (RamOutOfRange (a .command) (w .device .regs .counter .x) (w .device .regs .counter .y)) w
 
   -- a step of the counter, and a byte more
-  leaves-on : (range : Bool) (v : WithRam) → DataLeaves w v → DataLeaves w (going a (a .«extra_reported») range (on deviceInRam stepped v))
+  leaves-on : (range : Bool) (v : WithRam) → DataLeaves w v → DataLeaves w (writingOn a (a .«extra_reported») range (on deviceInRam counterStepped v))
   leaves-on range v p =
-      leaves-then w (on deviceInRam stepped v) (going a (a .«extra_reported») range (on deviceInRam stepped v))
-      (leaves-then w v (on deviceInRam stepped v) p (leaves-stepped v))
-      (leaves-made (current.Active (counted a (a .«extra_reported») range)) (on deviceInRam stepped v))
+      leaves-then w (on deviceInRam counterStepped v) (writingOn a (a .«extra_reported») range (on deviceInRam counterStepped v))
+      (leaves-then w v (on deviceInRam counterStepped v) p (leaves-stepped v))
+      (leaves-made (current.Active (oneByteMore a (a .«extra_reported») range)) (on deviceInRam counterStepped v))
 
   leaves-ram : (byte : ℕ) → DataLeaves w (ramWritten byte a w)
   unfolding ramWritten
@@ -196,13 +196,13 @@ module _ (a : Active) (w : WithRam) where
       by : (b : Bool)
           → DataLeaves w
           (pick b
-          (going a (a .«extra_reported») (a .«range_reported») (on deviceInRam stepped (put (planeFor (a .command)) byte w)))
-          (going a (a .«extra_reported») true (on deviceInRam stepped (on logInRam (outOfRange a) w))))
-      by true = leaves-on (a .«range_reported») (put (planeFor (a .command)) byte w) (leaves-put (planeFor (a .command)) byte w)
+          (writingOn a (a .«extra_reported») (a .«range_reported») (on deviceInRam counterStepped (planeWritten (planeFor (a .command)) byte w)))
+          (writingOn a (a .«extra_reported») true (on deviceInRam counterStepped (on logInRam (outOfRange a) w))))
+      by true = leaves-on (a .«range_reported») (planeWritten (planeFor (a .command)) byte w) (leaves-put (planeFor (a .command)) byte w)
       by false = leaves-on true (on logInRam (outOfRange a) w) leaves-out
 
-  leaves-kind : (byte : ℕ) → byte ≤ 255 → (k : Kind) → DataLeaves w (byKind byte a w k)
-  unfolding byKind
+  leaves-kind : (byte : ℕ) → byte ≤ 255 → (k : Kind) → DataLeaves w (dataByKind byte a w k)
+  unfolding dataByKind
   leaves-kind byte small (Write (Exactly count)) = leaves-up-to count byte small
   leaves-kind byte small (Write (Between least most)) = leaves-up-to most byte small
   leaves-kind byte small (Write Stream) = leaves-ram byte
@@ -226,13 +226,13 @@ data-leaves byte w (current.Active a) small = leaves-kind a w byte small (a .kin
 
 -- what is so of an ignored command, and goes by the command and its kind alone, stays so of the current one
 module _ (P : Current → Type 0) (ignored : P current.Ignoring)
-    (counts : (a : Active) (extra range : Bool) → P (current.Active a) → P (current.Active (counted a extra range))) where
+    (counts : (a : Active) (extra range : Bool) → P (current.Active a) → P (current.Active (oneByteMore a extra range))) where
   current-up-to : (most byte : ℕ) (a : Active) (w : WithRam) → P (current.Active a) → P (upTo most byte a w .device .bus .current)
   unfolding upTo surplus
   current-up-to most byte a w h = by (ltb (a .received) most)
     where
       by : (b : Bool)
-          → P (pick b (going a (a .«extra_reported») (a .«range_reported») (parameterTaken (a .command) (a .received) byte w)) (surplus a w) .device .bus .current)
+          → P (pick b (writingOn a (a .«extra_reported») (a .«range_reported») (parameterTaken (a .command) (a .received) byte w)) (surplus a w) .device .bus .current)
       by true = counts a (a .«extra_reported») (a .«range_reported») h
       by false = counts a true (a .«range_reported») h
 
@@ -243,13 +243,13 @@ module _ (P : Current → Type 0) (ignored : P current.Ignoring)
       by : (b : Bool)
           → P
           (pick b
-          (going a (a .«extra_reported») (a .«range_reported») (on deviceInRam stepped (put (planeFor (a .command)) byte w)))
-          (going a (a .«extra_reported») true (on deviceInRam stepped (on logInRam (outOfRange a) w))) .device .bus .current)
+          (writingOn a (a .«extra_reported») (a .«range_reported») (on deviceInRam counterStepped (planeWritten (planeFor (a .command)) byte w)))
+          (writingOn a (a .«extra_reported») true (on deviceInRam counterStepped (on logInRam (outOfRange a) w))) .device .bus .current)
       by true = counts a (a .«extra_reported») (a .«range_reported») h
       by false = counts a (a .«extra_reported») true h
 
-  current-kind : (byte : ℕ) (a : Active) (w : WithRam) (k : Kind) → P (current.Active a) → P (byKind byte a w k .device .bus .current)
-  unfolding byKind surplus
+  current-kind : (byte : ℕ) (a : Active) (w : WithRam) (k : Kind) → P (current.Active a) → P (dataByKind byte a w k .device .bus .current)
+  unfolding dataByKind surplus
   current-kind byte a w (Write (Exactly count)) h = current-up-to count byte a w h
   current-kind byte a w (Write (Between least most)) h = current-up-to most byte a w h
   current-kind byte a w (Write Stream) h = current-ram byte a w h

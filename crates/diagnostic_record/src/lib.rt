@@ -1,7 +1,7 @@
 // A diagnostic as a record of 16 bytes (SCOPE, Log; the cases are those of diagnostic.rs).
 ghost use mathlib.Core.Path.{_≡_};
 ghost use Prim.Native.Nat.{_<_};
-ghost use Rattle.diagnostic.specs.Record.{byteAt, stageNumber, fieldsOf, recordOf};
+ghost use Rattle.diagnostic.specs.Record.{recordByte, stageNumber, fieldsOf, recordOf};
 use config::mode_number;
 use diagnostic::DiagnosticKind;
 use diagnostic::Fields;
@@ -10,7 +10,7 @@ use diagnostic::Stage;
 // Byte k of a number, low byte first.
 fn byte_at(x: u64, k: u64) -> u8
     requires { ⌜ k < 8 ⌝ }
-    ensures { λ r. ⌜ r ≡ byteAt x k ⌝ }
+    ensures { λ r. ⌜ r ≡ recordByte x k ⌝ }
 {
     ((x >> (8 * k)) & 0xFF) as u8
 }

@@ -1,4 +1,4 @@
--- Greys read from tables: of the states of a step, those below `endOf` have the grey that it begins with, and the rest the next.
+-- Greys read from tables: of the states of a step, those below `greyEnd` have the grey that it begins with, and the rest the next.
 -- Assumes nothing.
 use mathlib.Core.Path.{_≡_, refl, sym, ap}
 use Prim.Native.Nat.{ℕ, _+_, _*_, _/_, _%_, _^_, _≤_, _<_}
@@ -11,7 +11,7 @@ use Rattle.numbers.proofs.Lin.{up, down, Le, Lt}
 use Rattle.numbers.proofs.Hold.{clamp-mid}
 use Rattle.numbers.proofs.Quot.{split-mul}
 use Rattle.glass.specs.Greys.{grayZ}
-use Rattle.glass_tables.specs.Greys.{bitsOf, endOf}
+use Rattle.glass_tables.specs.Greys.{bitsOf, greyEnd}
 
 -- the grey of a state from 0 to the swing
 pub within-lt : (a n : ℕ) → a ≤ n → 1 ≤ n → (510 * a + n) / (2 * n) < 256
@@ -51,12 +51,12 @@ module _ (x n k : ℕ) (some : 1 ≤ n) (fine : 255 * 2 ^ k ≤ n + 255) where
   most : (l + 1 + 1) * (2 * n) ≡ l * (2 * n) + 2 * n + 2 * n
   most = omega (arith, add-mul (l + 1) 1 (2 * n), more)
 
-  pub past : endOf n l ≤ x → l + 1 ≡ (510 * x + n) / (2 * n)
-  unfolding endOf
+  pub past : greyEnd n l ≤ x → l + 1 ≡ (510 * x + n) / (2 * n)
+  unfolding greyEnd
   past h = sym (div-eq-of-lt-le (2 * n) (omega (arith, halves, more)) (omega (arith, most, near, high)))
 
-  pub before : x < endOf n l → l ≡ (510 * x + n) / (2 * n)
-  unfolding endOf
+  pub before : x < greyEnd n l → l ≡ (510 * x + n) / (2 * n)
+  unfolding greyEnd
   before h = sym (div-eq-of-lt-le (2 * n) (omega (arith, low, first-le)) (omega (arith, halves, more)))
 
 -- ---- the 64 bits of a state

@@ -19,12 +19,12 @@ unfoldable pub firstsOf : ℤ → ℕ → List ℕ
 firstsOf swing k = tab 512 (λ step. grayZ (pos (step * 2 ^ k)) swing)
 
 -- the least state above a grey: where 510 × state reaches (2 × gray + 1) × swing
-unfoldable pub endOf : ℕ → ℕ → ℕ
-endOf swing gray = ((2 * gray + 1) * swing + 509) / 510
+unfoldable pub greyEnd : ℕ → ℕ → ℕ
+greyEnd swing gray = ((2 * gray + 1) * swing + 509) / 510
 
 -- where each grey ends
 unfoldable pub endsOf : ℕ → List ℕ
-endsOf swing = tab 256 (endOf swing)
+endsOf swing = tab 256 (greyEnd swing)
 
 -- the 64 bits of a state, as a number from 0 on
 abbrev pub bitsOf : ℤ → ℕ

@@ -5,7 +5,7 @@ ghost use Prim.Native.Nat.{_*_, _^_, _≤_, _<_};
 ghost use lib.IntN.{pos, natAbs};
 ghost use lib.Signed.{_≤ℤ_};
 ghost use Rattle.glass.specs.Greys.{grayZ};
-ghost use Rattle.glass_tables.specs.Greys.{bitsOf, Steps, Tables, firstsOf, endOf, endsOf};
+ghost use Rattle.glass_tables.specs.Greys.{bitsOf, Steps, Tables, firstsOf, greyEnd, endsOf};
 
 fn shift_of(swing: u64) -> u64
     requires { ⌜ swing < 9223372036854775808 ⌝ }
@@ -52,7 +52,7 @@ pub fn firsts(swing: i64, shift: u64) -> [u8; 512]
 // The least state whose grey is above `gray`: (2 × gray + 1) × swing / 510, rounded up, in 64 bits.
 fn end(gray: u64, swing: u64) -> u64
     requires { ⌜ (gray ≤ 255) × (swing < 9223372036854775808) ⌝ }
-    ensures { λ r. ⌜ r ≡ endOf swing gray ⌝ }
+    ensures { λ r. ⌜ r ≡ greyEnd swing gray ⌝ }
 {
     let halves = 2 * gray + 1;
     let whole = swing / 510;

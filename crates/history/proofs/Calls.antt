@@ -13,7 +13,7 @@ use Rattle.clock.specs.Advance.{advanced}
 use Rattle.device.specs.Parts.{withConfig, withJournal}
 use Rattle.world.specs.World.{World, lentOf, deviceInWorld, glassInWorld, glassLogInWorld, buffersInWorld, planesInWorld}
 use Rattle.query.specs.Outcome.{Outcome, outcome, unless, stateGuarded}
-use Rattle.query.specs.Queries.{withAmbient, ambientSet, WithCount, withCount, emptied, diagnosticsTaken}
+use Rattle.query.specs.Queries.{withAmbient, ambientSet, WithCount, withCount, journalEmptied, diagnosticsTaken}
 use Rattle.wait.specs.Wait.{clockMoved}
 use Rattle.res.specs.Line.{lineTaken, lineMoved}
 use Rattle.low.specs.Command.{commandTaken, commandWritten}
@@ -21,7 +21,7 @@ use Rattle.ram.specs.declared.Byte.the-variants.{Nothing}
 use Rattle.high.specs.Data.{dataIn, dataWritten}
 use Rattle.driven.specs.Read.{WithRead, withRead, readIn, dataRead}
 use Rattle.calls.specs.World.{Call, advance, set-reset, write-command, write-data, read-data, set-ambient, take-diagnostics, back, called, taken}
-use Rattle.calls.specs.Sound.{lengthsIn}
+use Rattle.calls.specs.Sound.{lengthsInWorld}
 use Rattle.history.specs.Runs.{Beside}
 
 -- ---- by the number alone
@@ -52,7 +52,7 @@ accepted-taken otp w v (set-reset time low) e =
     (guarded (w .device) (glassLogLent (length (w .states)) (length (w .luts)) (length (w .pixels)) (length (w .log)))) v e
 accepted-taken otp w v (write-command time command) e =
     decides (buffersInWorld .put w) (buffersInWorld .get w) (commandTaken (lentOf otp w) time command (buffersInWorld .get w))
-    (guardedWithTable (w .device) (lengthsIn w) otp) v e
+    (guardedWithTable (w .device) (lengthsInWorld w) otp) v e
 accepted-taken otp w v (write-data time byte) e =
     decides (planesInWorld .put w) (planesInWorld .get w) (dataIn (w .luts) time byte (planesInWorld .get w))
     (guarded (w .device) (planesLogLent (length (w .states)) (length (w .luts)) (length (w .pixels)) (length (w .log)) (length (w .blackWhite)) (length (w .red)))) v e
@@ -63,7 +63,7 @@ accepted-taken otp w v (set-ambient register) e =
     decides (deviceInWorld .put w) (w .device) (withConfig (w .device) (withAmbient (w .device .config) register))
     (stateGuarded (w .device)) v e
 accepted-taken otp w v take-diagnostics e =
-    decides (λ (t : WithCount). deviceInWorld .put w (t .device)) (withCount (w .device) 0) (withCount (withJournal (w .device) (emptied (w .device .journal))) (w .device .journal .count))
+    decides (λ (t : WithCount). deviceInWorld .put w (t .device)) (withCount (w .device) 0) (withCount (withJournal (w .device) (journalEmptied (w .device .journal))) (w .device .journal .count))
     (stateGuarded (w .device)) v e
 
 pub refused-same : (otp : List ℕ) (w v : World) (number : ℕ) (call : Call) → (number ≡ 0 → ⊥) → outcome number v ≡ called otp w call → v ≡ w
@@ -76,7 +76,7 @@ refused-same otp w v number (set-reset time low) n e =
     (guarded (w .device) (glassLogLent (length (w .states)) (length (w .luts)) (length (w .pixels)) (length (w .log)))) number v n e
 refused-same otp w v number (write-command time command) n e =
     declines (buffersInWorld .put w) (buffersInWorld .get w) (commandTaken (lentOf otp w) time command (buffersInWorld .get w))
-    (guardedWithTable (w .device) (lengthsIn w) otp) number v n e
+    (guardedWithTable (w .device) (lengthsInWorld w) otp) number v n e
 refused-same otp w v number (write-data time byte) n e =
     declines (planesInWorld .put w) (planesInWorld .get w) (dataIn (w .luts) time byte (planesInWorld .get w))
     (guarded (w .device) (planesLogLent (length (w .states)) (length (w .luts)) (length (w .pixels)) (length (w .log)) (length (w .blackWhite)) (length (w .red)))) number v n e
@@ -87,7 +87,7 @@ refused-same otp w v number (set-ambient register) n e =
     declines (deviceInWorld .put w) (w .device) (withConfig (w .device) (withAmbient (w .device .config) register))
     (stateGuarded (w .device)) number v n e
 refused-same otp w v number take-diagnostics n e =
-    declines (λ (t : WithCount). deviceInWorld .put w (t .device)) (withCount (w .device) 0) (withCount (withJournal (w .device) (emptied (w .device .journal))) (w .device .journal .count))
+    declines (λ (t : WithCount). deviceInWorld .put w (t .device)) (withCount (w .device) 0) (withCount (withJournal (w .device) (journalEmptied (w .device .journal))) (w .device .journal .count))
     (stateGuarded (w .device)) number v n e
 
 -- ---- a run beside a refused call

@@ -12,14 +12,14 @@ use Rattle.device.specs.declared.Ssd1677.{Ssd1677}
 use Rattle.world.specs.World.{World, world, WithGlass, WithGlassLog, WithBuffers, WithPlanes, deviceInWorld, glassInWorld, glassLogInWorld, buffersInWorld, planesInWorld}
 use Rattle.guard.specs.declared.Refusal.{Refusal}
 use Rattle.guard.specs.declared.Refusal.the-variants.{Accepted, Buffer, Table, State}
-use Rattle.guard.specs.Refusals.{numberOf}
+use Rattle.guard.specs.Refusals.{refusalNumber}
 use Rattle.query.specs.Outcome.{Outcome, outcome}
 use Rattle.query.specs.Queries.{WithCount}
 use Rattle.driven.specs.Read.{WithRead}
 use Rattle.power_on.specs.declared.StartError.{StartError}
 use Rattle.power_on.specs.Start.{Buffers, Powered, Start, start, startAnswerOf, started}
 use Rattle.calls.specs.World.{Call, worldOf, back, called}
-use Rattle.history.specs.Reckon.{coreOf, reckon, begun}
+use Rattle.history.specs.Reckon.{coreOf, reckon, firstReckoning}
 use Rattle.history.specs.Runs as runs
 use Rattle.history.specs.Runs.{Runs}
 use Rattle.history.specs.History.{Agrees}
@@ -28,7 +28,7 @@ use Rattle.history.specs.Contracts as contracts
 use Rattle.history.proofs.History.{history}
 
 -- ---- by call
-pub answers-called : {otp : List ℕ} {w v : World} {call : Call} {reason : Refusal} → Answers otp w call reason v → outcome (numberOf reason) v ≡ called otp w call
+pub answers-called : {otp : List ℕ} {w v : World} {call : Call} {reason : Refusal} → Answers otp w call reason v → outcome (refusalNumber reason) v ≡ called otp w call
 answers-called (contracts.advance κs a r s q otp b e g l) =
     ap (λ (o : Outcome WithGlass). back (glassInWorld .put (world (a .0) (now (a .1 .0)) (now (a .1 .1 .0)) (now (a .1 .1 .1 .0)) b e g l)) o) q
 answers-called (contracts.set-reset κs a r s q otp b e g) =
@@ -65,7 +65,7 @@ answers-called (contracts.read-data κs a r s q otp g) =
 answers-called (contracts.set-ambient κs a r s q otp w) = ap (λ (o : Outcome Ssd1677). back (deviceInWorld .put w) o) q
 answers-called (contracts.take-diagnostics κs a r s q otp w) = ap (λ (o : Outcome WithCount). back (λ (t : WithCount). deviceInWorld .put w (t .device)) o) q
 
-pub not-nought : (r : Refusal) → (r ≡ Accepted → ⊥) → numberOf r ≡ 0 → ⊥
+pub not-nought : (r : Refusal) → (r ≡ Accepted → ⊥) → refusalNumber r ≡ 0 → ⊥
 not-nought Accepted n e = n refl
 not-nought Buffer n e = omega arith
 not-nought Table n e = omega arith
@@ -85,14 +85,14 @@ made-runs (refused {reason = reason} call table n a b rest) = runs.refused call 
 -- ---- the theorem, from a device that `new` has started
 module _ (c : Ssd1677Config) (otp : List ℕ) (b : Buffers) (error : StartError) (p : Powered) (begins : New c otp b error p)
     (ok : isAccepted (startAnswerOf error) ≡ true) (byte : c .optics .«initial_gray» ≤ 255) (calls : List Call) (u : World) where
-  pub new-agrees : Runs otp (worldOf p) calls u → Agrees u (reckon otp (begun (coreOf (worldOf p))) calls)
+  pub new-agrees : Runs otp (worldOf p) calls u → Agrees u (reckon otp (firstReckoning (coreOf (worldOf p))) calls)
   new-agrees =
       let is = new-started begins in
       let accepts : isAccepted (started c otp b .answer) ≡ true = ap (λ (x : Start). isAccepted (x .answer)) (sym is) ∙ ok in
-      subst (λ (x : Powered). Runs otp (worldOf x) calls u → Agrees u (reckon otp (begun (coreOf (worldOf x))) calls))
+      subst (λ (x : Powered). Runs otp (worldOf x) calls u → Agrees u (reckon otp (firstReckoning (coreOf (worldOf x))) calls))
       (ap (λ (x : Start). x .left) (sym is))
       (history c otp b byte accepts calls u)
 
   -- whatever calls are then made, what they leave agrees with the reckoning
-  pub made-agrees : Made otp (worldOf p) calls u → Agrees u (reckon otp (begun (coreOf (worldOf p))) calls)
+  pub made-agrees : Made otp (worldOf p) calls u → Agrees u (reckon otp (firstReckoning (coreOf (worldOf p))) calls)
   made-agrees made = new-agrees (made-runs made)

@@ -12,16 +12,16 @@ use Rattle.world.specs.World.{World, WithLog, withLog, WithGlass, withGlass, Wi
 use Rattle.clock.specs.Advance.{advanced}
 use Rattle.chip.specs.Close.{closed}
 use Rattle.chip.specs.Report.{logged}
-use Rattle.reset.specs.Reset.{restored, isDriving, cutShort, dropped, cut, inReset, asserted, released, byLine}
+use Rattle.reset.specs.Reset.{restored, isDriving, displayCut, displayDropped, cut, inReset, asserted, released, byLine}
 use Rattle.data.specs.Data.{dataTaken}
 use Rattle.begin.specs.Begin as begin
 use Rattle.res.specs.Line.{lineTaken}
-use Rattle.low.specs.Command.{arrived, commandTaken}
+use Rattle.low.specs.Command.{movedTo, commandTaken}
 use Rattle.high.specs.Data.{dataIn}
 use Rattle.driven.specs.Read.{readIn}
 use Rattle.reading.specs.Reading.{readTaken}
 use Rattle.calls.specs.World.{Call, advance, set-reset, write-command, write-data, read-data, set-ambient, take-diagnostics, taken}
-use Rattle.history.specs.Reckon.{Core, coreOf, bare, stepped}
+use Rattle.history.specs.Reckon.{Core, coreOf, bare, coreAfter}
 use Rattle.history.proofs.Blind.{plain, plainLog, plainGlass, plainGlassLog, plainRam, plainBuffers, plainPlanes, Blind, blind-then}
 use Rattle.history.proofs.Steps.{quiet-closed}
 use Rattle.history.proofs.Written.{quiet-data}
@@ -30,13 +30,13 @@ use Rattle.history.proofs.Begun.{blind-advanced, quiet-log, blind-begun
 
 -- ---- the reset line
 blind-asserted : (luts : List ℕ) → Blind plainGlassLog plainGlassLog (asserted luts)
-unfolding asserted inReset restored cut cutShort closed logged
+unfolding asserted inReset restored cut displayCut closed logged
 blind-asserted luts w = by (isDriving (w .device))
   where
     fallen : Bool → WithGlassLog → WithGlassLog
     fallen b x =
         on deviceInGlassLog inReset
-        (on deviceInGlassLog restored (pick b (on glassInGlassLog (cutShort luts) (on logInGlassLog (logged ResetDuringDisplay) (on logInGlassLog closed x))) (on deviceInGlassLog dropped (on logInGlassLog closed x))))
+        (on deviceInGlassLog restored (pick b (on glassInGlassLog (displayCut luts) (on logInGlassLog (logged ResetDuringDisplay) (on logInGlassLog closed x))) (on deviceInGlassLog displayDropped (on logInGlassLog closed x))))
 
     by : (b : Bool) → plainGlassLog (fallen b w) ≡ plainGlassLog (fallen b (plainGlassLog w))
     by true = refl
@@ -63,14 +63,14 @@ blind-reset luts time low =
     (λ (w : WithGlassLog). blind-line luts low (w .device .bus .power) w)
 
 -- ---- a command byte
-blind-arrived : (time : ℕ) → Blind plainBuffers plainBuffers (arrived time)
+blind-arrived : (time : ℕ) → Blind plainBuffers plainBuffers (movedTo time)
 blind-arrived time w =
     ap (λ (g : WithGlass). withBuffers (g .device) (g .states) (w .luts) (g .pixels) []) (blind-advanced (w .luts) time (withGlass (w .device) (w .states) (w .pixels)))
 
 blind-command : (k : Lent) (time command : ℕ) → Blind plainBuffers plainBuffers (commandTaken k time command)
 unfolding commandTaken
 blind-command k time command =
-    blind-then plainBuffers plainBuffers plainBuffers (arrived time)
+    blind-then plainBuffers plainBuffers plainBuffers (movedTo time)
     (λ (w : WithBuffers). begin.begun k command (on logInBuffers closed w) (on logInBuffers closed w .device .bus .power))
     (blind-arrived time)
     (blind-then plainBuffers plainBuffers plainBuffers (on logInBuffers closed) (λ (w : WithBuffers). begin.begun k command w (w .device .bus .power))
@@ -112,7 +112,7 @@ blind-read luts blackWhite red time w =
     bare-read g = plainLog (readTaken blackWhite red (withLog (plain (g .device)) []) (g .device .bus .power) .left)
 
 -- ---- every call
-pub core-taken : (otp : List ℕ) (w : World) (call : Call) → coreOf (taken otp w call) ≡ stepped otp (coreOf w) call
+pub core-taken : (otp : List ℕ) (w : World) (call : Call) → coreOf (taken otp w call) ≡ coreAfter otp (coreOf w) call
 core-taken otp w (advance time) =
     ap (λ (g : WithGlass). coreOf (glassInWorld .put (bare (coreOf w)) g)) (blind-advanced (w .luts) time (glassInWorld .get w))
 core-taken otp w (set-reset time low) =

@@ -14,7 +14,7 @@ use Rattle.calls.specs.Sound.{Sound}
 use Rattle.calls.proofs.Accepted.{accepted-takes}
 use Rattle.calls.proofs.Kept.{sound-kept}
 use Rattle.calls.proofs.Start.{started-sound}
-use Rattle.history.specs.Reckon.{coreOf, reckon, begun}
+use Rattle.history.specs.Reckon.{coreOf, reckon, firstReckoning}
 use Rattle.history.specs.Runs.{Runs, done, accepted, refused}
 use Rattle.history.specs.History.{Agrees}
 use Rattle.history.proofs.Calls.{refused-changes-nothing}
@@ -41,5 +41,5 @@ module _ (c : Ssd1677Config) (otp : List ℕ) (b : Buffers) (ok : isAccepted (st
 
   -- what the calls leave agrees with the reckoning
   pub left-agrees : c .optics .«initial_gray» ≤ 255
-      → Agrees (leftBy otp (worldOf (started c otp b .left)) calls) (reckon otp (begun (coreOf (worldOf (started c otp b .left)))) calls)
+      → Agrees (leftBy otp (worldOf (started c otp b .left)) calls) (reckon otp (firstReckoning (coreOf (worldOf (started c otp b .left)))) calls)
   left-agrees byte = history c otp b byte ok calls (leftBy otp (worldOf (started c otp b .left)) calls) exists

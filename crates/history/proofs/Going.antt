@@ -15,11 +15,11 @@ use Rattle.clock.specs.Advance.{advanced}
 use Rattle.chip.specs.Close.{closed}
 use Rattle.activation.specs.Activation.{withLuts, staged}
 use Rattle.res.specs.Line.{lineTaken}
-use Rattle.low.specs.Command.{arrived, commandTaken}
+use Rattle.low.specs.Command.{movedTo, commandTaken}
 use Rattle.high.specs.Data.{dataIn}
 use Rattle.driven.specs.Read.{readIn}
 use Rattle.calls.specs.World.{Call, advance, set-reset, write-command, write-data, read-data, set-ambient, take-diagnostics, taken}
-use Rattle.history.specs.Reckon.{Core, coreOf, deviceOf, bare, stepped, Refreshing, none, shownBy, Reckoning, falls, activates, begins, unreached, instead, goesOn, Worked, reached, cutShort, worked}
+use Rattle.history.specs.Reckon.{Core, coreOf, deviceOf, bare, coreAfter, Refreshing, none, shownBy, Reckoning, falls, activates, begins, unreached, instead, goesOn, Worked, reached, cutAt, worked}
 use Rattle.history.proofs.Blind.{Seen}
 use Rattle.history.proofs.Written.{quiet-data}
 use Rattle.history.proofs.Read.{quiet-read}
@@ -51,7 +51,7 @@ module _ (otp : List ℕ) (w : World) where
 
     -- the core once the clock has moved
     abbrev c : Core
-    c = stepped otp (coreOf w) (advance time)
+    c = coreAfter otp (coreOf w) (advance time)
 
     moves : shownBy (g .device .display) (w .luts) ≡ unreached t (showsIn w)
     moves = moved-is (w .luts) (w .luts) time (glassInWorld .get w)
@@ -65,7 +65,7 @@ module _ (otp : List ℕ) (w : World) where
 
     -- the clock moved and the last command closed
     abbrev a : WithBuffers
-    a = on logInBuffers closed (arrived time (buffersInWorld .get w))
+    a = on logInBuffers closed (movedTo time (buffersInWorld .get w))
 
     begins-is : beginsIn (lentOf otp w) (g .device) (w .luts) ≡ begins otp c
     begins-is = sym (begins-core otp (taken otp w (advance time))) ∙ ap (begins otp) (core-taken otp w (advance time))
@@ -145,7 +145,7 @@ module _ (otp : List ℕ) (w : World) where
   unfolding worked
   works-in number (advance time) = reached-is (w .luts) (t time) (w .device .display)
   works-in number (set-reset time low) =
-      ap (λ (us : List Worked). us ++ pick (falls low (w .device .bus .power)) (cutShort (t time) (showsIn w)) [])
+      ap (λ (us : List Worked). us ++ pick (falls low (w .device .bus .power)) (cutAt (t time) (showsIn w)) [])
       (reached-is (w .luts) (t time) (w .device .display))
       ∙ ap (λ (us : List Worked). endsIn (w .luts) time (w .device) ++ pick (falls low (w .device .bus .power)) us [])
       (cut-is (w .luts) (t time) (w .device .display))

@@ -17,9 +17,9 @@ use Rattle.high.specs.Data.{dataIn}
 use Rattle.driven.specs.Read.{readIn}
 use Rattle.world.specs.World.{World, WithGlassLog, lentOf, glassInWorld, glassLogInWorld, buffersInWorld, planesInWorld}
 use Rattle.calls.specs.World.{Call, advance, set-reset, write-command, write-data, read-data, set-ambient, take-diagnostics, worldOf, taken}
-use Rattle.history.specs.Reckon.{Core, coreOf, stepped}
+use Rattle.history.specs.Reckon.{Core, coreOf, coreAfter}
 use Rattle.history.specs.Runs.{Runs, done, accepted, refused}
-use Rattle.history.specs.Reports.{bareWith, reportsOf, flagAfter, Tally, reported, told, tallyCall, tally, noReport, reportsIn, takes, Untaken, Tallies}
+use Rattle.history.specs.Reports.{bareWith, reportsOf, flagAfter, Tally, withReports, told, tallyCall, tally, noReport, reportsIn, takes, Untaken, Tallies}
 use Rattle.history.proofs.Tells.{journal, journals, grown, Bundle, Tells}
 use Rattle.history.proofs.TellsCalls.{inGlass, inGlassLog, inBuffers, inPlanes, tells-advanced, tells-reset, tells-read-in, tells-data-in, tells-command}
 use Rattle.history.proofs.Core.{core-taken}
@@ -150,11 +150,11 @@ record Kept (w : World) (c : Core) (t : Tally) : Type 0 where
   core : coreOf w ≡ c
   goes-on : Goes (w .device .journal) t
 
-step-kept : (otp : List ℕ) (w : World) (c : Core) (t : Tally) (call : Call) → Kept w c t → Kept (taken otp w call) (stepped otp c call) (tallyCall otp c t call)
+step-kept : (otp : List ℕ) (w : World) (c : Core) (t : Tally) (call : Call) → Kept w c t → Kept (taken otp w call) (coreAfter otp c call) (tallyCall otp c t call)
 step-kept otp w c t call k =
     let g = step-goes otp w call (k .goes-on .fits) in
     record {
-      core = core-taken otp w call ∙ ap (λ (x : Core). stepped otp x call) (k .core);
+      core = core-taken otp w call ∙ ap (λ (x : Core). coreAfter otp x call) (k .core);
       goes-on = record { is = g .is ∙ (λ i. tallyCall otp (k .core i) (k .goes-on .is i) call); fits = g .fits };
     }
 
@@ -162,8 +162,8 @@ run-kept : {otp : List ℕ} {w u : World} {calls : List Call} (c : Core) (t : Ta
 unfolding tally
 run-kept c t done k = k .goes-on
 run-kept {otp = otp} c t (accepted {w = w} {v = v} {call = call} e rest) k =
-    run-kept (stepped otp c call) (tallyCall otp c t call) rest
-    (subst (λ (x : World). Kept x (stepped otp c call) (tallyCall otp c t call)) (sym (accepted-taken otp w v call e)) (step-kept otp w c t call k))
+    run-kept (coreAfter otp c call) (tallyCall otp c t call) rest
+    (subst (λ (x : World). Kept x (coreAfter otp c call) (tallyCall otp c t call)) (sym (accepted-taken otp w v call e)) (step-kept otp w c t call k))
 run-kept c t (refused {w = w} {v = v} {handed = handed} {back = back} {number = number} call table n e b rest) k =
     run-kept c t rest (subst (λ (x : World). Kept x c t) (sym (refused-changes-nothing table w handed back v number call n e b)) k)
 
@@ -226,9 +226,9 @@ untaken-tally otp c t [] room held none = record { waiting = omega (arith, room)
 untaken-tally otp c t (call ∷ calls) room held none =
     let n = reportsOf otp c (t .flag) call in
     let f = flagAfter otp c (t .flag) call in
-    let r = reportsIn otp (stepped otp c call) f calls in
-    let b = untaken-tally otp (stepped otp c call) (told otp c t call) calls (omega arith) (omega arith) (none .1) in
-    subst (λ (x : Tally). Beyond t (n + r) (tally otp (stepped otp c call) x calls)) (sym (untaken-told otp c t call (none .0)))
+    let r = reportsIn otp (coreAfter otp c call) f calls in
+    let b = untaken-tally otp (coreAfter otp c call) (told otp c t call) calls (omega arith) (omega arith) (none .1) in
+    subst (λ (x : Tally). Beyond t (n + r) (tally otp (coreAfter otp c call) x calls)) (sym (untaken-told otp c t call (none .0)))
     (record { waiting = b .waiting ∙ waits (t .waiting) n r; dropped = b .dropped ∙ beyond (t .waiting) (t .dropped) n r })
   where
     waits : (w n r : ℕ) → min (min (w + n) 1024 + r) 1024 ≡ min (w + (n + r)) 1024

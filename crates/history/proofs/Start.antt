@@ -18,13 +18,13 @@ use Rattle.power_on.specs.Start.{Buffers, Powered, lengthsIn, poweredOn, filled
 use Rattle.power_on.proofs.Accepted.{full-swing, lengths, passed, left-is}
 use Rattle.power_on_laws.proofs.First.{swing-is}
 use Rattle.calls.specs.World.{worldOf}
-use Rattle.history.specs.Reckon.{none, shownBy, swingOf, firstNumber}
+use Rattle.history.specs.Reckon.{none, shownBy, swingS, firstNumber}
 use Rattle.history.proofs.Shows.{Marks, Shows}
 use Rattle.history.proofs.Taken.{seen}
 
 -- the state of the starting grey is the first whole number
 first-is : (c : Ssd1677Config) → panel.firstState (c .optics) ≡ pos (firstNumber c)
-first-is c = ap (levelZ (c .optics .«initial_gray»)) (swing-is (c .optics .«full_swing»)) ∙ sym (level-is (c .optics .«initial_gray») (swingOf c))
+first-is c = ap (levelZ (c .optics .«initial_gray»)) (swing-is (c .optics .«full_swing»)) ∙ sym (level-is (c .optics .«initial_gray») (swingS c))
 
 -- every pixel's first number, and no refresh
 abbrev pub at-first : Ssd1677Config → Marks
@@ -53,11 +53,11 @@ module _ (c : Ssd1677Config) (otp : List ℕ) (b : Buffers) (ok : isAccepted (st
           some = omega (arith, some);
           ends = omega arith;
           states = λ i l. getD-tab (length (b .states)) (λ _. panel.firstState (c .optics)) i (pos 0) (in-states i l) ∙ first-is c;
-          within = λ i l. level-le (swingOf c) (c .optics .«initial_gray») byte;
+          within = λ i l. level-le (swingS c) (c .optics .«initial_gray») byte;
           pixels = λ i l.
               getD-tab (length (b .pixels)) (λ _. grayZ (panel.firstState (c .optics)) (panel.swingOf (c .optics))) i 0 (omega (arith, long, in-states i l))
               ∙ ap (λ (s : ℤ). grayZ (panel.firstState (c .optics)) s) (swing-is (c .optics .«full_swing»))
-              ∙ ap (λ (x : ℤ). grayZ x (pos (swingOf c))) (first-is c);
+              ∙ ap (λ (x : ℤ). grayZ x (pos (swingS c))) (first-is c);
           generation = refl;
         }
       where

@@ -15,11 +15,11 @@ use Rattle.busy.specs.Busy.{pending}
 use Rattle.clock.specs.Advance.{advanced}
 use Rattle.chip.specs.Close.{closed}
 use Rattle.res.specs.Line.{lineTaken}
-use Rattle.low.specs.Command.{arrived, commandTaken}
+use Rattle.low.specs.Command.{movedTo, commandTaken}
 use Rattle.high.specs.Data.{dataIn}
 use Rattle.driven.specs.Read.{readIn}
 use Rattle.calls.specs.World.{Call, advance, set-reset, write-command, write-data, read-data, set-ambient, take-diagnostics, taken}
-use Rattle.history.specs.Reckon.{Core, coreOf, Worked, falls, activates, stepped, numberOver}
+use Rattle.history.specs.Reckon.{Core, coreOf, Worked, falls, activates, coreAfter, numberOver}
 use Rattle.history.proofs.Blind.{Seen, seenBy, seenGlass, seenBuffers, behind}
 use Rattle.history.proofs.Steps.{quiet-closed}
 use Rattle.history.proofs.Written.{quiet-data}
@@ -79,7 +79,7 @@ workedBy otp w (set-reset time low) =
     ++ pick (falls low (w .device .bus .power)) (cutAt (w .luts) (max (w .device .now) time) (w .device)) []
 workedBy otp w (write-command time command) =
     endsIn (w .luts) time (w .device)
-    ++ pick (activates (max (w .device .now) time) command (coreOf w)) (atOnce otp (stepped otp (coreOf w) (advance time))) []
+    ++ pick (activates (max (w .device .now) time) command (coreOf w)) (atOnce otp (coreAfter otp (coreOf w) (advance time))) []
 workedBy otp w (write-data time byte) = endsIn (w .luts) time (w .device)
 workedBy otp w (read-data time) = endsIn (w .luts) time (w .device)
 workedBy otp w (set-ambient register) = []
@@ -117,29 +117,29 @@ module _ (otp : List ℕ) (w : World) (number : Marks) (h : Shows (seen w) numbe
   module _ (time : ℕ) where
     -- the clock moved and the last command closed
     abbrev a : WithBuffers
-    a = on logInBuffers closed (arrived time (buffersInWorld .get w))
+    a = on logInBuffers closed (movedTo time (buffersInWorld .get w))
 
     abbrev t : ℕ
     t = max (w .device .now) time
 
     closes : Shows (seenBuffers a) (over c (first time) number)
     closes =
-        subst (λ (s : Seen). Shows s (over c (first time) number)) (sym (quiet-log closed quiet-closed .still (arrived time (buffersInWorld .get w)))) (moves time)
+        subst (λ (s : Seen). Shows s (over c (first time) number)) (sym (quiet-log closed quiet-closed .still (movedTo time (buffersInWorld .get w)))) (moves time)
 
     -- 0x20, as the reckoning has it
     abbrev starts : List Worked
-    starts = pick (activates t 0x20 (coreOf w)) (atOnce otp (stepped otp (coreOf w) (advance time))) []
+    starts = pick (activates t 0x20 (coreOf w)) (atOnce otp (coreAfter otp (coreOf w) (advance time))) []
 
     starts-is : pick (reaches (a .device .bus .power) (pending (a .device .bus .«busy_until») (a .device .now))) (onceIn (lentOf otp w) (a .device) (a .luts)) [] ≡ starts
     unfolding closed
     starts-is =
-        let once : onceIn (lentOf otp w) (a .device) (a .luts) ≡ atOnce otp (stepped otp (coreOf w) (advance time)) =
+        let once : onceIn (lentOf otp w) (a .device) (a .luts) ≡ atOnce otp (coreAfter otp (coreOf w) (advance time)) =
         sym (at-once otp (taken otp w (advance time))) ∙ ap (atOnce otp) (core-taken otp w (advance time)) in
         ap (λ (p : Power). pick (reaches p (pending (g time .device .bus .«busy_until») (g time .device .now))) (onceIn (lentOf otp w) (a .device) (a .luts)) [])
         (power-moved (w .luts) time (glassInWorld .get w))
         ∙ ap (λ (b : Bool). pick (reaches (w .device .bus .power) b) (onceIn (lentOf otp w) (a .device) (a .luts)) []) (pending-moved (w .luts) time (glassInWorld .get w))
         ∙ ap (λ (ws : List Worked). pick (reaches (w .device .bus .power) (pending (w .device .bus .«busy_until») t)) ws []) once
-        ∙ ap (λ (b : Bool). pick b (atOnce otp (stepped otp (coreOf w) (advance time))) []) (sym (reaches-is t (coreOf w)))
+        ∙ ap (λ (b : Bool). pick b (atOnce otp (coreAfter otp (coreOf w) (advance time))) []) (sym (reaches-is t (coreOf w)))
 
     config-is : a .device .config ≡ c
     unfolding closed
@@ -159,9 +159,9 @@ module _ (otp : List ℕ) (w : World) (number : Marks) (h : Shows (seen w) numbe
         (activation-shows (lentOf otp w) (over c (first time) number) a (a .device .bus .power) closes)))
     commands command false e =
         joins (seen (left command)) c c (first time)
-        (pick (activates t command (coreOf w)) (atOnce otp (stepped otp (coreOf w) (advance time))) [])
+        (pick (activates t command (coreOf w)) (atOnce otp (coreAfter otp (coreOf w) (advance time))) [])
         number refl
-        (subst (λ (b : Bool). Shows (seen (left command)) (over c (pick b (atOnce otp (stepped otp (coreOf w) (advance time))) []) (over c (first time) number)))
+        (subst (λ (b : Bool). Shows (seen (left command)) (over c (pick b (atOnce otp (coreAfter otp (coreOf w) (advance time))) []) (over c (first time) number)))
         (sym (reaches-not t command (coreOf w) e))
         (subst (λ (s : Seen). Shows s (over c (first time) number)) (sym (still-begun (lentOf otp w) command e (a .device .bus .power) a)) closes))
 

@@ -19,17 +19,17 @@ use Rattle.world.specs.World.{WithLog, withLog, WithGlass, withGlass, WithGlass
 use Rattle.command.specs.declared.Known.{Known}
 use Rattle.command.specs.declared.Known.the-variants.{Of, Unknown}
 use Rattle.command.specs.Table.{kindOf}
-use Rattle.clock.specs.Advance.{isOver, clocked, quieted, published, endingOf, glassOf, ended, advanced}
+use Rattle.clock.specs.Advance.{isOver, clocked, quieted, glassPublished, endingOf, glassOf, ended, advanced}
 use Rattle.chip.specs.Close.{closed}
 use Rattle.chip.specs.Report.{logged}
-use Rattle.reset.specs.Reset.{restored, isDriving, cutShort, dropped, cut, inReset, asserted, released, byLine}
+use Rattle.reset.specs.Reset.{restored, isDriving, displayCut, displayDropped, cut, inReset, asserted, released, byLine}
 use Rattle.start.specs.Start.{softReset, vcomSensed, pointed}
 use Rattle.activation.specs.Activation.{withLuts, stagedIn, activated}
 use Rattle.data.specs.Data.{dataTaken}
-use Rattle.begin.specs.Begin.{made, run, byKind, isHeldOff, begun}
+use Rattle.begin.specs.Begin.{commandMade, run, commandByKind, isHeldOff, begun}
 use Rattle.reading.specs.Reading.{readTaken}
 use Rattle.res.specs.Line.{lineTaken}
-use Rattle.low.specs.Command.{arrived, commandTaken}
+use Rattle.low.specs.Command.{movedTo, commandTaken}
 use Rattle.high.specs.Data.{dataIn}
 use Rattle.driven.specs.Read.{readIn}
 use Rattle.history.proofs.Blind.{plainGlass, plainGlassLog, plainBuffers, plainPlanes}
@@ -57,7 +57,7 @@ unfolding advanced ended
 advanced-same luts time g = by (isOver (clocked time g .device))
   where
     over : WithGlass → WithGlass
-    over x = published x (finished (endingOf (x .device) (x .device .display .ends) Whole) luts (glassOf x))
+    over x = glassPublished x (finished (endingOf (x .device) (x .device .display .ends) Whole) luts (glassOf x))
 
     by : (b : Bool) → quieted (pick b (over (clocked time g)) (clocked time g)) .device .journal ≡ g .device .journal
     by true = refl
@@ -84,13 +84,13 @@ line-log n f t =
 
 -- 39, or nothing
 tells-cut : (luts : List ℕ) → TellsLine 1 (cut luts)
-unfolding cut cutShort
+unfolding cut displayCut
 tells-cut luts =
     tells-pick inGlassLog inGlassLog 1 0 (λ (w : WithGlassLog). isDriving (w .device))
-    (λ w. on glassInGlassLog (cutShort luts) (on logInGlassLog (logged ResetDuringDisplay) w)) (on deviceInGlassLog dropped) (λ w. refl)
-    (thenLine 1 0 (on logInGlassLog (logged ResetDuringDisplay)) (on glassInGlassLog (cutShort luts)) (line-log 1 (logged ResetDuringDisplay) (tells-logged ResetDuringDisplay))
-    (tells-none inGlassLog inGlassLog (on glassInGlassLog (cutShort luts)) (λ w. refl) (λ w. refl)))
-    (tells-none inGlassLog inGlassLog (on deviceInGlassLog dropped) (λ w. refl) (λ w. refl))
+    (λ w. on glassInGlassLog (displayCut luts) (on logInGlassLog (logged ResetDuringDisplay) w)) (on deviceInGlassLog displayDropped) (λ w. refl)
+    (thenLine 1 0 (on logInGlassLog (logged ResetDuringDisplay)) (on glassInGlassLog (displayCut luts)) (line-log 1 (logged ResetDuringDisplay) (tells-logged ResetDuringDisplay))
+    (tells-none inGlassLog inGlassLog (on glassInGlassLog (displayCut luts)) (λ w. refl) (λ w. refl)))
+    (tells-none inGlassLog inGlassLog (on deviceInGlassLog displayDropped) (λ w. refl) (λ w. refl))
 
 tells-asserted : (luts : List ℕ) → TellsLine 2 (asserted luts)
 unfolding asserted inReset restored
@@ -208,9 +208,9 @@ module _ (k : Lent) (command : ℕ) where
   unfolding softReset restored
   tells-soft = tells-none inBuffers inBuffers (on deviceInBuffers softReset) (λ w. refl) (λ w. refl)
 
-  tells-made : (kind : Kind) → TellsBuffers 0 (on deviceInBuffers (made command kind))
-  unfolding made
-  tells-made kind = tells-none inBuffers inBuffers (on deviceInBuffers (made command kind)) (λ w. refl) (λ w. refl)
+  tells-made : (kind : Kind) → TellsBuffers 0 (on deviceInBuffers (commandMade command kind))
+  unfolding commandMade
+  tells-made kind = tells-none inBuffers inBuffers (on deviceInBuffers (commandMade command kind)) (λ w. refl) (λ w. refl)
 
   tells-run : TellsBuffers 8 (run k command)
   unfolding run
@@ -227,13 +227,13 @@ module _ (k : Lent) (command : ℕ) where
   tells-told : (kind : DiagnosticKind) → TellsBuffers 8 (on logInBuffers (logged kind))
   tells-told kind = up 1 (on logInBuffers (logged kind)) (omega arith) (buffers-log 1 (logged kind) (tells-logged kind))
 
-  tells-kind : (known : Known) → TellsBuffers 8 (λ (w : WithBuffers). byKind k command w known)
-  unfolding byKind
+  tells-kind : (known : Known) → TellsBuffers 8 (λ (w : WithBuffers). commandByKind k command w known)
+  unfolding commandByKind
   tells-kind Unknown = tells-told (UnknownCommand command)
   tells-kind (Of Reserved) = tells-told (ReservedCommand command)
   tells-kind (Of Unsupported) = tells-told (UnsupportedCommand command)
-  tells-kind (Of (Write params)) = thenBuffers 0 8 (on deviceInBuffers (made command (Write params))) (run k command) (tells-made (Write params)) tells-run
-  tells-kind (Of Read) = thenBuffers 0 8 (on deviceInBuffers (made command Read)) (run k command) (tells-made Read) tells-run
+  tells-kind (Of (Write params)) = thenBuffers 0 8 (on deviceInBuffers (commandMade command (Write params))) (run k command) (tells-made (Write params)) tells-run
+  tells-kind (Of Read) = thenBuffers 0 8 (on deviceInBuffers (commandMade command Read)) (run k command) (tells-made Read) tells-run
 
   tells-begun : (power : Power) → TellsBuffers 16 (λ (w : WithBuffers). begun k command w power)
   unfolding begun
@@ -241,15 +241,15 @@ module _ (k : Lent) (command : ℕ) where
   tells-begun Asleep = tells-more inBuffers inBuffers 8 16 (on logInBuffers (logged (WhileAsleep command))) (omega arith) (tells-told (WhileAsleep command))
   tells-begun Running =
       tells-pick inBuffers inBuffers 8 8 (λ (w : WithBuffers). isHeldOff command (w .device)) (on logInBuffers (logged (WhileBusy command)))
-      (λ w. byKind k command w (kindOf command)) (λ w. refl)
+      (λ w. commandByKind k command w (kindOf command)) (λ w. refl)
       (tells-told (WhileBusy command))
       (tells-kind (kindOf command))
 
   pub tells-command : (time : ℕ) → TellsBuffers 17 (commandTaken k time command)
   unfolding commandTaken
   tells-command time =
-      thenBuffers 0 17 (arrived time) (λ (w : WithBuffers). begun k command (on logInBuffers closed w) (on logInBuffers closed w .device .bus .power))
-      (tells-none inBuffers inBuffers (arrived time)
+      thenBuffers 0 17 (movedTo time) (λ (w : WithBuffers). begun k command (on logInBuffers closed w) (on logInBuffers closed w .device .bus .power))
+      (tells-none inBuffers inBuffers (movedTo time)
       (λ (w : WithBuffers).
       ap (λ (g : WithGlass). withBuffers (g .device) (g .states) (w .luts) (g .pixels) []) (blind-advanced (w .luts) time (withGlass (w .device) (w .states) (w .pixels))))
       (λ (w : WithBuffers). advanced-same (w .luts) time (withGlass (w .device) (w .states) (w .pixels))))

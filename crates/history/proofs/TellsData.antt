@@ -20,9 +20,9 @@ use Rattle.world.specs.World.{WithLog, withLog, WithRam, withRam, on, deviceInR
 use Rattle.listed.specs.Listed.{listed}
 use Rattle.chip.specs.Report.{logged}
 use Rattle.acts.specs.Reserved.{checked}
-use Rattle.acts.specs.Acts.{asleep, emptied, sleeps, slept, hvReady, vciSensed}
+use Rattle.acts.specs.Acts.{asleep, ramLost, sleeps, slept, hvReady, vciSensed}
 use Rattle.parameter.specs.Parameter.{registerTaken, writing, autoFilled, autoTaken, parameterTaken}
-use Rattle.data.specs.Data.{made, going, surplus, upTo, planeFor, put, isInside, stepped, outOfRange, ramWritten, byKind, unasked, dataTaken}
+use Rattle.data.specs.Data.{made, writingOn, surplus, upTo, planeFor, planeWritten, isInside, counterStepped, outOfRange, ramWritten, dataByKind, unasked, dataTaken}
 use Rattle.history.proofs.Blind.{plainRam}
 use Rattle.history.proofs.Tells.{Bundle, Tells, tells-none, tells-more, tells-by, tells-pick, tells-then}
 use Rattle.history.proofs.TellsLog.{TellsLog, tells-logged, tells-checked, tells-hv, tells-vci, tells-register, tells-range}
@@ -62,9 +62,9 @@ tells-asleep = tells-none inRam inRam (on deviceInRam asleep) (λ w. refl) (λ w
 tells-sleeps : (byte : ℕ) → TellsRam 0 (sleeps byte)
 unfolding sleeps
 tells-sleeps byte =
-    pickRam 0 0 (λ _. eqb (byte % 4) 0) (λ w. w) (λ w. pick (eqb (byte % 4) 3) (on deviceInRam asleep (emptied w)) (on deviceInRam asleep w)) (λ w. refl) none
-    (pickRam 0 0 (λ _. eqb (byte % 4) 3) (λ w. on deviceInRam asleep (emptied w)) (on deviceInRam asleep) (λ w. refl)
-    (thenRam 0 0 emptied (on deviceInRam asleep) (tells-none inRam inRam emptied (λ w. refl) (λ w. refl)) tells-asleep)
+    pickRam 0 0 (λ _. eqb (byte % 4) 0) (λ w. w) (λ w. pick (eqb (byte % 4) 3) (on deviceInRam asleep (ramLost w)) (on deviceInRam asleep w)) (λ w. refl) none
+    (pickRam 0 0 (λ _. eqb (byte % 4) 3) (λ w. on deviceInRam asleep (ramLost w)) (on deviceInRam asleep) (λ w. refl)
+    (thenRam 0 0 ramLost (on deviceInRam asleep) (tells-none inRam inRam ramLost (λ w. refl) (λ w. refl)) tells-asleep)
     tells-asleep)
 
 tells-slept : (byte : ℕ) → TellsRam 1 (slept byte)
@@ -112,13 +112,13 @@ tells-parameter command index byte = by (eqb command 0x10) (eqb command 0x14) (e
         raised (on logInRam (registerTaken command index byte)) (tells-log 1 (registerTaken command index byte) (tells-register command index byte))
 
 -- ---- the command's own count
-tells-going : (a : Active) (extra range : Bool) → TellsRam 0 (going a extra range)
-tells-going a extra range = tells-none inRam inRam (going a extra range) (λ w. refl) (λ w. refl)
+tells-going : (a : Active) (extra range : Bool) → TellsRam 0 (writingOn a extra range)
+tells-going a extra range = tells-none inRam inRam (writingOn a extra range) (λ w. refl) (λ w. refl)
 
 tells-surplus : (a : Active) → TellsRam 1 (surplus a)
 unfolding surplus
 tells-surplus a =
-    thenRam 1 0 (λ w. pick (a .«extra_reported») w (on logInRam (logged (ExtraData (a .command))) w)) (going a true (a .«range_reported»))
+    thenRam 1 0 (λ w. pick (a .«extra_reported») w (on logInRam (logged (ExtraData (a .command))) w)) (writingOn a true (a .«range_reported»))
     (pickRam 0 1 (λ _. a .«extra_reported») (λ w. w) (on logInRam (logged (ExtraData (a .command)))) (λ w. refl) none
     (tells-log 1 (logged (ExtraData (a .command))) (tells-logged (ExtraData (a .command)))))
     (tells-going a true (a .«range_reported»))
@@ -126,19 +126,19 @@ tells-surplus a =
 tells-up-to : (most byte : ℕ) (a : Active) → TellsRam 4 (upTo most byte a)
 unfolding upTo
 tells-up-to most byte a =
-    let next = going a (a .«extra_reported») (a .«range_reported») in
+    let next = writingOn a (a .«extra_reported») (a .«range_reported») in
     pickRam 3 1 (λ _. ltb (a .received) most) (λ w. next (parameterTaken (a .command) (a .received) byte w)) (surplus a) (λ w. refl)
     (thenRam 3 0 (parameterTaken (a .command) (a .received) byte) next (tells-parameter (a .command) (a .received) byte)
     (tells-going a (a .«extra_reported») (a .«range_reported»)))
     (tells-surplus a)
 
 -- ---- the planes
-tells-put : (plane : Plane) (byte : ℕ) → TellsRam 0 (put plane byte)
-tells-put BlackWhite byte = tells-none inRam inRam (put BlackWhite byte) (λ w. refl) (λ w. refl)
-tells-put Red byte = tells-none inRam inRam (put Red byte) (λ w. refl) (λ w. refl)
+tells-put : (plane : Plane) (byte : ℕ) → TellsRam 0 (planeWritten plane byte)
+tells-put BlackWhite byte = tells-none inRam inRam (planeWritten BlackWhite byte) (λ w. refl) (λ w. refl)
+tells-put Red byte = tells-none inRam inRam (planeWritten Red byte) (λ w. refl) (λ w. refl)
 
-tells-stepped : TellsRam 0 (on deviceInRam stepped)
-tells-stepped = tells-none inRam inRam (on deviceInRam stepped) (λ w. refl) (λ w. refl)
+tells-stepped : TellsRam 0 (on deviceInRam counterStepped)
+tells-stepped = tells-none inRam inRam (on deviceInRam counterStepped) (λ w. refl) (λ w. refl)
 
 tells-out : (a : Active) → TellsRam 1 (on logInRam (outOfRange a))
 tells-out a = tells-log 1 (outOfRange a) (tells-range a)
@@ -151,17 +151,17 @@ tells-ram : (byte : ℕ) (a : Active) → TellsRam 1 (ramWritten byte a)
 unfolding ramWritten
 tells-ram byte a =
     let plane = planeFor (a .command) in
-    let in-it = going a (a .«extra_reported») (a .«range_reported») in
-    let past-it = going a (a .«extra_reported») true in
-    pickRam 0 1 (isInside plane) (λ w. in-it (on deviceInRam stepped (put plane byte w))) (λ w. past-it (on deviceInRam stepped (on logInRam (outOfRange a) w))) (inside-same plane)
-    (thenRam 0 0 (put plane byte) (λ w. in-it (on deviceInRam stepped w)) (tells-put plane byte)
-    (thenRam 0 0 (on deviceInRam stepped) in-it tells-stepped (tells-going a (a .«extra_reported») (a .«range_reported»))))
-    (thenRam 1 0 (on logInRam (outOfRange a)) (λ w. past-it (on deviceInRam stepped w)) (tells-out a)
-    (thenRam 0 0 (on deviceInRam stepped) past-it tells-stepped (tells-going a (a .«extra_reported») true)))
+    let in-it = writingOn a (a .«extra_reported») (a .«range_reported») in
+    let past-it = writingOn a (a .«extra_reported») true in
+    pickRam 0 1 (isInside plane) (λ w. in-it (on deviceInRam counterStepped (planeWritten plane byte w))) (λ w. past-it (on deviceInRam counterStepped (on logInRam (outOfRange a) w))) (inside-same plane)
+    (thenRam 0 0 (planeWritten plane byte) (λ w. in-it (on deviceInRam counterStepped w)) (tells-put plane byte)
+    (thenRam 0 0 (on deviceInRam counterStepped) in-it tells-stepped (tells-going a (a .«extra_reported») (a .«range_reported»))))
+    (thenRam 1 0 (on logInRam (outOfRange a)) (λ w. past-it (on deviceInRam counterStepped w)) (tells-out a)
+    (thenRam 0 0 (on deviceInRam counterStepped) past-it tells-stepped (tells-going a (a .«extra_reported») true)))
 
 -- ---- by the command that the byte belongs to
-tells-kind : (byte : ℕ) (a : Active) (kind : Kind) → TellsRam 4 (λ w. byKind byte a w kind)
-unfolding byKind
+tells-kind : (byte : ℕ) (a : Active) (kind : Kind) → TellsRam 4 (λ w. dataByKind byte a w kind)
+unfolding dataByKind
 tells-kind byte a (Write (Exactly count)) = tells-up-to count byte a
 tells-kind byte a (Write (Between least most)) = tells-up-to most byte a
 tells-kind byte a (Write Stream) = tells-more inRam inRam 1 4 (ramWritten byte a) (omega arith) (tells-ram byte a)

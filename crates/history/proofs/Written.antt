@@ -19,9 +19,9 @@ use Rattle.world.specs.World.{WithLog, withLog, WithRam, withRam, on, deviceInR
 use Rattle.listed.specs.Listed.{listed}
 use Rattle.chip.specs.Report.{logged}
 use Rattle.acts.specs.Reserved.{checked}
-use Rattle.acts.specs.Acts.{asleep, emptied, sleeps, slept, hvReady, vciSensed}
+use Rattle.acts.specs.Acts.{asleep, ramLost, sleeps, slept, hvReady, vciSensed}
 use Rattle.parameter.specs.Parameter.{registerTaken, writing, autoFilled, autoTaken, parameterTaken}
-use Rattle.data.specs.Data.{made, going, surplus, upTo, planeFor, put, isInside, stepped, outOfRange, ramWritten, byKind, unasked, dataTaken}
+use Rattle.data.specs.Data.{made, writingOn, surplus, upTo, planeFor, planeWritten, isInside, counterStepped, outOfRange, ramWritten, dataByKind, unasked, dataTaken}
 use Rattle.history.proofs.Blind.{plainRam, seenRam, Quiet, quiet-then, quiet-pick}
 use Rattle.history.proofs.Steps.{QuietLog, quiet-logged, quiet-checked, quiet-hv, quiet-vci, quiet-register, quiet-range}
 
@@ -55,9 +55,9 @@ quiet-asleep = record { blind = λ w. refl; still = λ w. refl }
 quiet-sleeps : (byte : ℕ) → QuietRam (sleeps byte)
 unfolding sleeps
 quiet-sleeps byte =
-    pickRam (λ _. eqb (byte % 4) 0) (λ w. w) (λ w. pick (eqb (byte % 4) 3) (on deviceInRam asleep (emptied w)) (on deviceInRam asleep w)) (λ w. refl) none
-    (pickRam (λ _. eqb (byte % 4) 3) (λ w. on deviceInRam asleep (emptied w)) (on deviceInRam asleep) (λ w. refl)
-    (thenRam emptied (on deviceInRam asleep) (record { blind = λ w. refl; still = λ w. refl }) quiet-asleep)
+    pickRam (λ _. eqb (byte % 4) 0) (λ w. w) (λ w. pick (eqb (byte % 4) 3) (on deviceInRam asleep (ramLost w)) (on deviceInRam asleep w)) (λ w. refl) none
+    (pickRam (λ _. eqb (byte % 4) 3) (λ w. on deviceInRam asleep (ramLost w)) (on deviceInRam asleep) (λ w. refl)
+    (thenRam ramLost (on deviceInRam asleep) (record { blind = λ w. refl; still = λ w. refl }) quiet-asleep)
     quiet-asleep)
 
 quiet-slept : (byte : ℕ) → QuietRam (slept byte)
@@ -97,13 +97,13 @@ quiet-parameter command index byte = by (eqb command 0x10) (eqb command 0x14) (e
     by false false false false false = quiet-log (registerTaken command index byte) (quiet-register command index byte)
 
 -- ---- the command's own count
-quiet-going : (a : Active) (extra range : Bool) → QuietRam (going a extra range)
+quiet-going : (a : Active) (extra range : Bool) → QuietRam (writingOn a extra range)
 quiet-going a extra range = record { blind = λ w. refl; still = λ w. refl }
 
 quiet-surplus : (a : Active) → QuietRam (surplus a)
 unfolding surplus
 quiet-surplus a =
-    thenRam (λ w. pick (a .«extra_reported») w (on logInRam (logged (ExtraData (a .command))) w)) (going a true (a .«range_reported»))
+    thenRam (λ w. pick (a .«extra_reported») w (on logInRam (logged (ExtraData (a .command))) w)) (writingOn a true (a .«range_reported»))
     (pickRam (λ _. a .«extra_reported») (λ w. w) (on logInRam (logged (ExtraData (a .command)))) (λ w. refl) none
     (quiet-log (logged (ExtraData (a .command))) (quiet-logged (ExtraData (a .command)))))
     (quiet-going a true (a .«range_reported»))
@@ -111,18 +111,18 @@ quiet-surplus a =
 quiet-up-to : (most byte : ℕ) (a : Active) → QuietRam (upTo most byte a)
 unfolding upTo
 quiet-up-to most byte a =
-    let next = going a (a .«extra_reported») (a .«range_reported») in
+    let next = writingOn a (a .«extra_reported») (a .«range_reported») in
     pickRam (λ _. ltb (a .received) most) (λ w. next (parameterTaken (a .command) (a .received) byte w)) (surplus a) (λ w. refl)
     (thenRam (parameterTaken (a .command) (a .received) byte) next (quiet-parameter (a .command) (a .received) byte)
     (quiet-going a (a .«extra_reported») (a .«range_reported»)))
     (quiet-surplus a)
 
 -- ---- the planes
-quiet-put : (plane : Plane) (byte : ℕ) → QuietRam (put plane byte)
+quiet-put : (plane : Plane) (byte : ℕ) → QuietRam (planeWritten plane byte)
 quiet-put BlackWhite byte = record { blind = λ w. refl; still = λ w. refl }
 quiet-put Red byte = record { blind = λ w. refl; still = λ w. refl }
 
-quiet-stepped : QuietRam (on deviceInRam stepped)
+quiet-stepped : QuietRam (on deviceInRam counterStepped)
 quiet-stepped = record { blind = λ w. refl; still = λ w. refl }
 
 quiet-out : (a : Active) → QuietRam (on logInRam (outOfRange a))
@@ -136,17 +136,17 @@ quiet-ram : (byte : ℕ) (a : Active) → QuietRam (ramWritten byte a)
 unfolding ramWritten
 quiet-ram byte a =
     let plane = planeFor (a .command) in
-    let in-it = going a (a .«extra_reported») (a .«range_reported») in
-    let past-it = going a (a .«extra_reported») true in
-    pickRam (isInside plane) (λ w. in-it (on deviceInRam stepped (put plane byte w))) (λ w. past-it (on deviceInRam stepped (on logInRam (outOfRange a) w))) (inside-same plane)
-    (thenRam (put plane byte) (λ w. in-it (on deviceInRam stepped w)) (quiet-put plane byte)
-    (thenRam (on deviceInRam stepped) in-it quiet-stepped (quiet-going a (a .«extra_reported») (a .«range_reported»))))
-    (thenRam (on logInRam (outOfRange a)) (λ w. past-it (on deviceInRam stepped w)) (quiet-out a)
-    (thenRam (on deviceInRam stepped) past-it quiet-stepped (quiet-going a (a .«extra_reported») true)))
+    let in-it = writingOn a (a .«extra_reported») (a .«range_reported») in
+    let past-it = writingOn a (a .«extra_reported») true in
+    pickRam (isInside plane) (λ w. in-it (on deviceInRam counterStepped (planeWritten plane byte w))) (λ w. past-it (on deviceInRam counterStepped (on logInRam (outOfRange a) w))) (inside-same plane)
+    (thenRam (planeWritten plane byte) (λ w. in-it (on deviceInRam counterStepped w)) (quiet-put plane byte)
+    (thenRam (on deviceInRam counterStepped) in-it quiet-stepped (quiet-going a (a .«extra_reported») (a .«range_reported»))))
+    (thenRam (on logInRam (outOfRange a)) (λ w. past-it (on deviceInRam counterStepped w)) (quiet-out a)
+    (thenRam (on deviceInRam counterStepped) past-it quiet-stepped (quiet-going a (a .«extra_reported») true)))
 
 -- ---- by the command that the byte belongs to
-quiet-kind : (byte : ℕ) (a : Active) (kind : Kind) → QuietRam (λ w. byKind byte a w kind)
-unfolding byKind
+quiet-kind : (byte : ℕ) (a : Active) (kind : Kind) → QuietRam (λ w. dataByKind byte a w kind)
+unfolding dataByKind
 quiet-kind byte a (Write (Exactly count)) = quiet-up-to count byte a
 quiet-kind byte a (Write (Between least most)) = quiet-up-to most byte a
 quiet-kind byte a (Write Stream) = quiet-ram byte a

@@ -23,7 +23,7 @@ use Rattle.guard_lengths.specs.declared.Lengths.{Lengths}
 use Rattle.guard_lengths.specs.declared.Lent.the-variants.{Of}
 use Rattle.guard.specs.declared.Refusal.{Refusal}
 use Rattle.guard_lengths.specs.Lengths.{allLent}
-use Rattle.guard.specs.Refusals.{numberOf, accepts, guardedWithTable}
+use Rattle.guard.specs.Refusals.{refusalNumber, accepts, guardedWithTable}
 use Rattle.guard_laws.proofs.Accepted.{fine-state, fine-lengths}
 use Rattle.query.specs.Outcome.{outcome}
 use Rattle.query.proofs.Cases.{grants, refuses}
@@ -113,10 +113,10 @@ module _ (k : Lent) (time command : ℕ) (w : WithBuffers) (l : Lengths) (r : Re
             (Of (length (k .gates))) fine fit;
       }
 
-  pub command-moves : (v : WithBuffers) → b ≡ true → v ≡ commandTaken k time command w → outcome (numberOf r) v ≡ commandWritten k time command w
+  pub command-moves : (v : WithBuffers) → b ≡ true → v ≡ commandTaken k time command w → outcome (refusalNumber r) v ≡ commandWritten k time command w
   unfolding commandWritten
   command-moves v h e = grants r _ same-table w (commandTaken k time command w) b v t h e
 
-  pub command-refused : b ≡ false → outcome (numberOf r) w ≡ commandWritten k time command w
+  pub command-refused : b ≡ false → outcome (refusalNumber r) w ≡ commandWritten k time command w
   unfolding commandWritten
   command-refused h = refuses r _ same-table w (commandTaken k time command w) b t h

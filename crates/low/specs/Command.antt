@@ -10,12 +10,12 @@ use Rattle.guard.specs.Refusals.{guardedWithTable}
 use Rattle.query.specs.Outcome.{Outcome, unless}
 
 -- the clock's move, of a state with its buffers
-abbrev pub arrived : ℕ → WithBuffers → WithBuffers
-arrived time w = on glassInBuffers (advanced (w .luts) time) w
+abbrev pub movedTo : ℕ → WithBuffers → WithBuffers
+movedTo time w = on glassInBuffers (advanced (w .luts) time) w
 
 -- the clock moves, the last command is closed (26 if parameters lack), and the new one begins
 unfoldable pub commandTaken : Lent → ℕ → ℕ → WithBuffers → WithBuffers
-commandTaken k time command w = let a = on logInBuffers closed (arrived time w) in begun k command a (a .device .bus .power)
+commandTaken k time command w = let a = on logInBuffers closed (movedTo time w) in begun k command a (a .device .bus .power)
 
 -- write_command
 unfoldable pub commandWritten : Lent → ℕ → ℕ → WithBuffers → Outcome WithBuffers

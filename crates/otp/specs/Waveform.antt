@@ -11,7 +11,7 @@ use Rattle.config.specs.Mode.{modeNumber}
 use Rattle.config.specs.Temperature.{sixteenthsOf}
 use Rattle.otp.specs.declared.Entry.{Entry}
 use Rattle.otp.specs.declared.Entry.the-variants.{At, Nothing}
-use Rattle.otp.specs.Table.{entryBytes, entriesOf, modeAt, lowerAt, upperAt, badTable}
+use Rattle.otp.specs.Table.{entryBytes, entryCount, modeAt, lowerAt, upperAt, badTable}
 use Rattle.otp.specs.Search.{lastOf}
 
 -- the entry is of the mode, and its range holds the register's temperature: lower < T ≤ upper
@@ -22,7 +22,7 @@ covers otp mode register entry =
 
 -- "The last match will be selected"; none of a table that 12 refuses
 unfoldable pub foundEntry : List ℕ → DisplayMode → ℕ → Entry
-foundEntry otp mode register = pick (badTable otp) Nothing (lastOf (covers otp mode register) (entriesOf otp))
+foundEntry otp mode register = pick (badTable otp) Nothing (lastOf (covers otp mode register) (entryCount otp))
 
 -- the bytes of an entry
 abbrev pub partOf : List ℕ → Entry → List ℕ

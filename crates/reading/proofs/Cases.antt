@@ -25,15 +25,15 @@ use Rattle.world.specs.World.{WithLog, withLog}
 use Rattle.registers.specs.Read.{readRegister}
 use Rattle.busy.specs.Busy.{busyAt}
 use Rattle.chip.specs.Report.{logged}
-use Rattle.data.specs.Data.{made, stepped, outOfRange}
-use Rattle.reading.specs.Reading.{WithByte, withByte, counted, nothingRead, registerRead, chosen, ramFound, ramRead, byteRead, byKind, byCurrent, readTaken}
+use Rattle.data.specs.Data.{made, counterStepped, outOfRange}
+use Rattle.reading.specs.Reading.{WithByte, withByte, oneReadMore, nothingRead, registerRead, chosen, ramFound, ramRead, byteRead, readByKind, byCurrent, readTaken}
 
 -- the command goes on with a read more
 abbrev on : Active → Bool → Bool → Ssd1677 → Ssd1677
-on a range nothing d = made (current.Active (counted a range nothing)) d
+on a range nothing d = made (current.Active (oneReadMore a range nothing)) d
 
 pub steps : (d r : Ssd1677) (c : Counter) (g : Registers) → c ≡ advancedOf (d .regs .counter) (d .regs .window) (d .regs .entry)
-    → g ≡ withCounter (d .regs) c → r ≡ withRegs d g → r ≡ stepped d
+    → g ≡ withCounter (d .regs) c → r ≡ withRegs d g → r ≡ counterStepped d
 steps d r c g e f h = rw (h, f, e)
 
 module _ (a : Active) (k : WithLog) where
@@ -53,12 +53,12 @@ module _ (a : Active) (k : WithLog) where
   unfolding registerRead
   gives busy b r e f h = rw (f, e, h)
 
-  pub finds : (b : Byte) (value : ℕ) (m r : Ssd1677) → b ≡ Is value → m ≡ stepped (k .device)
+  pub finds : (b : Byte) (value : ℕ) (m r : Ssd1677) → b ≡ Is value → m ≡ counterStepped (k .device)
       → r ≡ on a (a .«range_reported») (a .«nothing_reported») m → withByte (withLog r (k .log)) (Is value) ≡ ramFound a k b
   unfolding ramFound
   finds b value m r h e f = rw (h, f, e)
 
-  pub finds-none : (b : Byte) (n : WithLog) (m r : Ssd1677) → b ≡ Nothing → n ≡ outOfRange a k → m ≡ stepped (n .device)
+  pub finds-none : (b : Byte) (n : WithLog) (m r : Ssd1677) → b ≡ Nothing → n ≡ outOfRange a k → m ≡ counterStepped (n .device)
       → r ≡ on a true (a .«nothing_reported») m → withByte (withLog r (n .log)) Nothing ≡ ramFound a k b
   unfolding ramFound
   finds-none b n m r h e f g = rw (h, g, f, e)
@@ -100,24 +100,24 @@ module _ (blackWhite red : List ℕ) (k : WithLog) (z : WithByte) (c : Current) 
   is-ignored h = rw h
 
   module _ (a : Active) (is : c ≡ current.Active a) where
-    by-kind : (x : Kind) → a .kind ≡ x → z ≡ byKind blackWhite red a k x → z ≡ byCurrent blackWhite red k c
+    by-kind : (x : Kind) → a .kind ≡ x → z ≡ readByKind blackWhite red a k x → z ≡ byCurrent blackWhite red k c
     unfolding byCurrent
-    by-kind x h e = rw is (subst (λ (y : Kind). z ≡ byKind blackWhite red a k y) (sym h) e)
+    by-kind x h e = rw is (subst (λ (y : Kind). z ≡ readByKind blackWhite red a k y) (sym h) e)
 
     pub is-read : a .kind ≡ Read → z ≡ byteRead blackWhite red a k → z ≡ byCurrent blackWhite red k c
-    unfolding byKind
+    unfolding readByKind
     is-read h e = by-kind Read h e
 
     pub is-write : (p : Params) → a .kind ≡ Write p → z ≡ nothingRead a k → z ≡ byCurrent blackWhite red k c
-    unfolding byKind
+    unfolding readByKind
     is-write p h e = by-kind (Write p) h e
 
     pub is-unsupported : a .kind ≡ Unsupported → z ≡ nothingRead a k → z ≡ byCurrent blackWhite red k c
-    unfolding byKind
+    unfolding readByKind
     is-unsupported h e = by-kind Unsupported h e
 
     pub is-reserved : a .kind ≡ Reserved → z ≡ nothingRead a k → z ≡ byCurrent blackWhite red k c
-    unfolding byKind
+    unfolding readByKind
     is-reserved h e = by-kind Reserved h e
 
 module _ (blackWhite red : List ℕ) (k : WithLog) (z : WithByte) (p : Power) where

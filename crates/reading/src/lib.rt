@@ -6,8 +6,8 @@ ghost use Prim.Native.Nat.{ℕ};
 ghost use Rattle.ram.specs.Plane.{planeOf, readAt};
 ghost use Rattle.device.specs.declared.Current.the-variants as current;
 ghost use Rattle.world.specs.World.{withLog};
-ghost use Rattle.data.specs.Data.{made, stepped};
-ghost use Rattle.reading.specs.Reading.{withByte, counted, nothingRead, registerRead, chosen, ramFound, ramRead, byteRead, byCurrent, readTaken};
+ghost use Rattle.data.specs.Data.{made, counterStepped};
+ghost use Rattle.reading.specs.Reading.{withByte, oneReadMore, nothingRead, registerRead, chosen, ramFound, ramRead, byteRead, byCurrent, readTaken};
 use device::Active;
 use device::Current;
 use device::Kind;
@@ -25,7 +25,7 @@ pub struct Reading {
 
 // The command with one read more, and what it has reported.
 fn count(active: Active, range: bool, nothing: bool) -> Active
-    ensures { λ r. ⌜ r ≡ counted active range nothing ⌝ }
+    ensures { λ r. ⌜ r ≡ oneReadMore active range nothing ⌝ }
 {
     let read = numbers::saturating_add_u16(active.read, 1);
     let mut next = active;
@@ -37,7 +37,7 @@ fn count(active: Active, range: bool, nothing: bool) -> Active
 
 // The command stays the current one, with a read more.
 fn go_on(state: Ssd1677, active: Active, range: bool, nothing: bool) -> Ssd1677
-    ensures { λ r. ⌜ r ≡ made (current.Active (counted active range nothing)) state ⌝ }
+    ensures { λ r. ⌜ r ≡ made (current.Active (oneReadMore active range nothing)) state ⌝ }
 {
     let next = count(active, range, nothing);
     let bus = part::set_current(state.bus, Current::Active(next));
@@ -77,7 +77,7 @@ fn read_register(state: Ssd1677, active: Active) -> Reading
 
 // The counter steps.
 fn step(state: Ssd1677) -> Ssd1677
-    ensures { λ r. ⌜ r ≡ stepped state ⌝ }
+    ensures { λ r. ⌜ r ≡ counterStepped state ⌝ }
 {
     let at = state.regs.counter;
     let window = state.regs.window;

@@ -23,7 +23,7 @@ use Rattle.chip.specs.Report.{logged}
 use Rattle.acts_laws.proofs.Kept.{logged-kept}
 use Rattle.data_laws.proofs.Kept.{Rests, rests-all, rests-then, rests-made, rests-stepped}
 use Rattle.data.specs.Data.{made, outOfRange}
-use Rattle.reading.specs.Reading.{WithByte, withByte, counted, going, nothingRead, registerRead, chosen, moved, ramFound, ramRead, byteRead, byKind, byCurrent, readTaken}
+use Rattle.reading.specs.Reading.{WithByte, withByte, oneReadMore, readingOn, nothingRead, registerRead, chosen, moved, ramFound, ramRead, byteRead, readByKind, byCurrent, readTaken}
 
 -- what stays of the state and its log, the supplies, BUSY and the power, whatever becomes of the current command
 pub record ReadLeaves (k j : WithLog) : Type 0 where
@@ -47,10 +47,10 @@ leaves-then k j l p q =
     }
 
 -- a read more of the current command
-leaves-going : (a : Active) (range nothing : Bool) (k : WithLog) → ReadLeaves k (going a range nothing k)
+leaves-going : (a : Active) (range nothing : Bool) (k : WithLog) → ReadLeaves k (readingOn a range nothing k)
 leaves-going a range nothing k =
     record {
-      rests = rests-made (current.Active (counted a range nothing)) k;
+      rests = rests-made (current.Active (oneReadMore a range nothing)) k;
       same-clock = refl;
       same-analog = refl;
       same-until = refl;
@@ -78,7 +78,7 @@ module _ (a : Active) (k : WithLog) where
   unfolding nothingRead
   leaves-nothing =
       let j = pick (a .«nothing_reported») k (logged (NothingToRead (a .command)) k) in
-      leaves-then k j (going a (a .«range_reported») true j) (leaves-told (a .«nothing_reported») (NothingToRead (a .command)) k)
+      leaves-then k j (readingOn a (a .«range_reported») true j) (leaves-told (a .«nothing_reported») (NothingToRead (a .command)) k)
       (leaves-going a (a .«range_reported») true j)
 
   leaves-register : ReadLeaves k (registerRead a k .left)
@@ -90,9 +90,9 @@ module _ (a : Active) (k : WithLog) where
   leaves-out = leaves-told (a .«range_reported») (RamOutOfRange (a .command) (k .device .regs .counter .x) (k .device .regs .counter .y)) k
 
   -- a step of the counter, and a read more
-  leaves-on : (range : Bool) (j : WithLog) → ReadLeaves k j → ReadLeaves k (going a range (a .«nothing_reported») (moved j))
+  leaves-on : (range : Bool) (j : WithLog) → ReadLeaves k j → ReadLeaves k (readingOn a range (a .«nothing_reported») (moved j))
   leaves-on range j p =
-      leaves-then k (moved j) (going a range (a .«nothing_reported») (moved j)) (leaves-then k j (moved j) p (leaves-moved j))
+      leaves-then k (moved j) (readingOn a range (a .«nothing_reported») (moved j)) (leaves-then k j (moved j) p (leaves-moved j))
       (leaves-going a range (a .«nothing_reported») (moved j))
 
   leaves-found : (b : Byte) → ReadLeaves k (ramFound a k b .left)
@@ -110,7 +110,7 @@ module _ (a : Active) (k : WithLog) where
     leaves-ram = by (eqb (a .read) 0)
       where
         by : (b : Bool)
-            → ReadLeaves k (pick b (withByte (going a (a .«range_reported») (a .«nothing_reported») k) (Is 0)) (ramFound a k there) .left)
+            → ReadLeaves k (pick b (withByte (readingOn a (a .«range_reported») (a .«nothing_reported») k) (Is 0)) (ramFound a k there) .left)
         by true = leaves-going a (a .«range_reported») (a .«nothing_reported») k
         by false = leaves-found there
 
@@ -122,8 +122,8 @@ module _ (a : Active) (k : WithLog) where
         by true = leaves-ram
         by false = leaves-register
 
-    leaves-kind : (x : Kind) → ReadLeaves k (byKind blackWhite red a k x .left)
-    unfolding byKind
+    leaves-kind : (x : Kind) → ReadLeaves k (readByKind blackWhite red a k x .left)
+    unfolding readByKind
     leaves-kind Read = leaves-byte
     leaves-kind (Write params) = leaves-nothing
     leaves-kind Unsupported = leaves-nothing
@@ -142,7 +142,7 @@ read-leaves blackWhite red k Asleep = leaves-all k
 read-leaves blackWhite red k InReset = leaves-all k
 
 -- what goes by the command and its kind alone stays so of the current command
-module _ (P : Current → Type 0) (on : (a : Active) (range nothing : Bool) → P (current.Active a) → P (current.Active (counted a range nothing)))
+module _ (P : Current → Type 0) (on : (a : Active) (range nothing : Bool) → P (current.Active a) → P (current.Active (oneReadMore a range nothing)))
     (blackWhite red : List ℕ) (k : WithLog) where
   -- of the state that a read leaves
   abbrev Still : WithByte → Type 0
@@ -165,7 +165,7 @@ module _ (P : Current → Type 0) (on : (a : Active) (range nothing : Bool) → 
         by : (b : Bool)
             → Still
             (pick b
-            (withByte (going a (a .«range_reported») (a .«nothing_reported») k) (Is 0))
+            (withByte (readingOn a (a .«range_reported») (a .«nothing_reported») k) (Is 0))
             (ramFound a k (readAt (planeOf blackWhite red (chosen (k .device))) (k .device .regs .counter))))
         by true = on a (a .«range_reported») (a .«nothing_reported») h
         by false = still-found (readAt (planeOf blackWhite red (chosen (k .device))) (k .device .regs .counter))
@@ -178,8 +178,8 @@ module _ (P : Current → Type 0) (on : (a : Active) (range nothing : Bool) → 
         by true = still-ram
         by false = on a (a .«range_reported») (a .«nothing_reported») h
 
-    still-kind : (x : Kind) → Still (byKind blackWhite red a k x)
-    unfolding byKind
+    still-kind : (x : Kind) → Still (readByKind blackWhite red a k x)
+    unfolding readByKind
     still-kind Read = still-byte
     still-kind (Write params) = still-nothing
     still-kind Unsupported = still-nothing

@@ -18,7 +18,7 @@ use Rattle.config.specs.Mode.{modeNumber}
 use Rattle.config.specs.Temperature.{coldest, warmest, sixteenthsOf, registerOf}
 use Rattle.config.proofs.Registers.{ranged, above-coldest}
 use Rattle.otp.specs.declared.Entry.the-variants.{At, Nothing}
-use Rattle.otp.specs.Table.{entriesOf, modeAt, lowerAt, upperAt, badEntry, badTable, unlistedVoltage, tableTest, voltagesTest}
+use Rattle.otp.specs.Table.{entryCount, modeAt, lowerAt, upperAt, badEntry, badTable, unlistedVoltage, tableTest, voltagesTest}
 use Rattle.otp.specs.Search.{anyOf, lastOf}
 use Rattle.otp.specs.Waveform.{covers, foundEntry}
 use Rattle.reference.specs.Reference.{celsius, referenceTable, settingFor, settingAbove}
@@ -32,7 +32,7 @@ table-fine : badTable referenceTable ≡ false
 unfolding badTable anyOf badEntry referenceTable tab registerOf
 table-fine = refl
 
-three : entriesOf referenceTable ≡ 3
+three : entryCount referenceTable ≡ 3
 unfolding referenceTable tab registerOf
 three = refl
 

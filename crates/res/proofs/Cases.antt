@@ -12,7 +12,7 @@ use Rattle.guard_lengths.specs.declared.Lengths.{Lengths}
 use Rattle.guard_lengths.specs.declared.Lent.the-variants.{Nothing, Of}
 use Rattle.guard.specs.declared.Refusal.{Refusal}
 use Rattle.guard_lengths.specs.Lengths.{glassLogLent}
-use Rattle.guard.specs.Refusals.{numberOf, accepts, guarded}
+use Rattle.guard.specs.Refusals.{refusalNumber, accepts, guarded}
 use Rattle.query.specs.Outcome.{outcome}
 use Rattle.query.proofs.Cases.{grants, refuses}
 use Rattle.entry_laws.proofs.Passed.{ready-fine, log-fine, state-passed, lengths-passed}
@@ -42,10 +42,10 @@ module _ (luts : List ℕ) (time : ℕ) (low : Bool) (w : WithGlassLog) (l : Len
 
   pub line-moves : (a : WithGlass) (v : WithGlassLog) → b ≡ true → a ≡ advanced luts time (withGlass (w .device) (w .states) (w .pixels))
       → v ≡ byLine luts low (withGlassLog (a .device) (a .states) (a .pixels) (w .log)) (a .device .bus .power)
-      → outcome (numberOf r) v ≡ lineMoved luts time low w
+      → outcome (refusalNumber r) v ≡ lineMoved luts time low w
   unfolding lineMoved lineTaken
   line-moves a v h e f = grants r _ same-lent w (lineTaken luts time low w) b v t h (rw (f, e))
 
-  pub line-refused : b ≡ false → outcome (numberOf r) w ≡ lineMoved luts time low w
+  pub line-refused : b ≡ false → outcome (refusalNumber r) w ≡ lineMoved luts time low w
   unfolding lineMoved
   line-refused h = refuses r _ same-lent w (lineTaken luts time low w) b t h

@@ -17,7 +17,7 @@ use Rattle.world.specs.World.{WithLog, withLog, WithGlass, withGlass, WithGlass
 use Rattle.clock.specs.Advance.{Ready}
 use Rattle.chip.specs.Close.{closed}
 use Rattle.chip.specs.Report.{logged}
-use Rattle.reset.specs.Reset.{restored, isDriving, cutShort, dropped, cut, inReset, asserted, released, byLine}
+use Rattle.reset.specs.Reset.{restored, isDriving, displayCut, displayDropped, cut, inReset, asserted, released, byLine}
 
 module _ (states : List ℤ) (luts pixels : List ℕ) where
   -- a report changes the journal alone
@@ -41,8 +41,8 @@ ReadyWith luts w = Ready (w .device) (w .states) luts (w .pixels)
 
 module _ (luts : List ℕ) where
   pub ready-shortened : (g : WithGlass) → Ready (g .device) (g .states) luts (g .pixels)
-      → Ready (cutShort luts g .device) (cutShort luts g .states) luts (cutShort luts g .pixels)
-  unfolding cutShort finished published
+      → Ready (displayCut luts g .device) (displayCut luts g .states) luts (displayCut luts g .pixels)
+  unfolding displayCut finished published
   ready-shortened g h =
       record {
         luts-long = h .luts-long ∙ sym (states-length _ luts (g .states));
@@ -58,7 +58,7 @@ module _ (luts : List ℕ) where
       k : WithLog
       k = logged ResetDuringDisplay (withLog (w .device) (w .log))
 
-      by : (b : Bool) → ReadyWith luts (pick b (on glassInGlassLog (cutShort luts) (on logInGlassLog (logged ResetDuringDisplay) w)) (on deviceInGlassLog dropped w))
+      by : (b : Bool) → ReadyWith luts (pick b (on glassInGlassLog (displayCut luts) (on logInGlassLog (logged ResetDuringDisplay) w)) (on deviceInGlassLog displayDropped w))
       by true = ready-shortened (withGlass (k .device) (w .states) (w .pixels)) (ready-logged (w .states) luts (w .pixels) ResetDuringDisplay _ k refl h)
       by false = h
 

@@ -16,7 +16,7 @@ use Rattle.device.specs.Parts.{withBus, withDisplay, withPowers}
 use Rattle.world.specs.World.{WithGlass, WithGlassLog, on, deviceInGlassLog, logInGlassLog, glassInGlassLog}
 use Rattle.registers.specs.Reset.{resetOf}
 use Rattle.moment.specs.Moments.{nsBetween, busyFor}
-use Rattle.clock.specs.Advance.{stopped, endingOf, glassOf, published}
+use Rattle.clock.specs.Advance.{stopped, endingOf, glassOf, glassPublished}
 use Rattle.chip.specs.Close.{closed}
 use Rattle.chip.specs.Report.{logged}
 
@@ -29,18 +29,18 @@ abbrev pub isDriving : Ssd1677 → Bool
 isDriving d = d .display .running && leb (d .display .started) (d .now)
 
 -- the display is finished up to the cut, which is the clock less the start of driving, and dated the clock
-unfoldable pub cutShort : List ℕ → WithGlass → WithGlass
-cutShort luts g =
+unfoldable pub displayCut : List ℕ → WithGlass → WithGlass
+displayCut luts g =
     let d = g .device in
-    published g (finished (endingOf d (d .now) (Cut (nsBetween (d .display .started) (d .now)))) luts (glassOf g))
+    glassPublished g (finished (endingOf d (d .now) (Cut (nsBetween (d .display .started) (d .now)))) luts (glassOf g))
 
 -- the display is stopped, and the glass stays as it is
-abbrev pub dropped : Ssd1677 → Ssd1677
-dropped d = withDisplay d (stopped (d .display))
+abbrev pub displayDropped : Ssd1677 → Ssd1677
+displayDropped d = withDisplay d (stopped (d .display))
 
 -- a display whose driving has begun is cut, with 39; an earlier one is dropped, no new picture and no 39 (SCOPE, Commands)
 unfoldable pub cut : List ℕ → WithGlassLog → WithGlassLog
-cut luts w = pick (isDriving (w .device)) (on glassInGlassLog (cutShort luts) (on logInGlassLog (logged ResetDuringDisplay) w)) (on deviceInGlassLog dropped w)
+cut luts w = pick (isDriving (w .device)) (on glassInGlassLog (displayCut luts) (on logInGlassLog (logged ResetDuringDisplay) w)) (on deviceInGlassLog displayDropped w)
 
 -- RES# is low: no command is current and BUSY has no end
 unfoldable pub inReset : Ssd1677 → Ssd1677

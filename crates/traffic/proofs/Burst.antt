@@ -24,7 +24,7 @@ use Rattle.world.specs.World.{World, world, withRam, WithPlanes, withPlanes, pl
 use Rattle.registers.proofs.Bounds.{Bounded}
 use Rattle.clock.specs.Advance.{isQuiet}
 use Rattle.data.specs.Most.{isStream}
-use Rattle.data.specs.Data.{counted, planeFor, dataTaken}
+use Rattle.data.specs.Data.{oneByteMore, planeFor, dataTaken}
 use Rattle.data.proofs.Cases.{puts, is-stream}
 use Rattle.data_laws.proofs.Kept.{written-length}
 use Rattle.guard_lengths.specs.declared.Lengths.{Lengths}
@@ -36,7 +36,7 @@ use Rattle.guard_laws.proofs.Accepted.{fine-registers, accepted-state, accepted
 use Rattle.guard_laws.proofs.Kept.{registers-pass, state-passes}
 use Rattle.guard.specs.declared.Refusal.{Refusal}
 use Rattle.guard.specs.declared.Refusal.the-variants.{Accepted}
-use Rattle.guard.specs.Refusals.{numberOf, accepts, guarded}
+use Rattle.guard.specs.Refusals.{refusalNumber, accepts, guarded}
 use Rattle.query.specs.Outcome.{Outcome, outcome}
 use Rattle.entry_laws.proofs.Passed.{only-accepted}
 use Rattle.event.specs.declared.Event.{Event}
@@ -136,7 +136,7 @@ module _ (d : Ssd1677) (a : Active) (is : d .bus .current ≡ current.Active a) 
       (current.Active (receivedAs a (s .received)))
   put-one time byte s p there =
       let w = withRam (withNow (reachedBy d a s) (max (s .latest) time)) (pick white p other) (pick white other p) log in
-      let next = counted (receivedAs a (s .received)) (a .«extra_reported») (a .«range_reported») in
+      let next = oneByteMore (receivedAs a (s .received)) (a .«extra_reported») (a .«range_reported») in
       is-stream byte w _ _ (receivedAs a (s .received)) true refl (sym streams) refl
       (puts byte (receivedAs a (s .received)) w true _ _
       (by-plane white plane-is)
@@ -170,7 +170,7 @@ module _ (d : Ssd1677) (a : Active) (is : d .bus .current ≡ current.Active a) 
   written-one time byte s p ten fit quiet there =
       let l = planesLogLent (length states) (length luts) (length pixels) (length log) (length (pick white p other)) (length (pick white other p)) in
       let ok = accepted (reachedBy d a s) l (fine-reached d a is fine s ten) fit in
-      ap (λ (r : Refusal). outcome (numberOf r) (planes (onward (courseOf d) time s) (writtenAt p (s .counter) byte))) (sym ok)
+      ap (λ (r : Refusal). outcome (refusalNumber r) (planes (onward (courseOf d) time s) (writtenAt p (s .counter) byte))) (sym ok)
       ∙ data-rests luts time byte (planes s p) l (guarded (reachedBy d a s) l) (accepts (guarded (reachedBy d a s) l)) refl refl refl
       (withNow (reachedBy d a s) (max (s .latest) time)) true
       (withRam (reachedBy d a (onward (courseOf d) time s)) (pick white (writtenAt p (s .counter) byte) other) (pick white other (writtenAt p (s .counter) byte)) log)

@@ -12,7 +12,7 @@ use Rattle.numbers.specs.Choice.{pick}
 use Rattle.config.specs.declared.Ssd1677Config.{Ssd1677Config}
 use Rattle.config.specs.Answer.{isAccepted}
 use Rattle.guard.specs.declared.Refusal.{Refusal}
-use Rattle.guard.specs.Refusals.{numberOf}
+use Rattle.guard.specs.Refusals.{refusalNumber}
 use Rattle.query.specs.Outcome.{Outcome, outcome}
 use Rattle.power_on.specs.declared.StartError.{StartError}
 use Rattle.power_on.specs.Start.{Buffers, Powered, startAnswerOf}
@@ -21,7 +21,7 @@ use Rattle.dispatch.specs.Dispatch.{Told}
 use Rattle.traffic.specs.Traffic.{Fed, fed, feeding, unread, made, eventAt, shortest}
 use Rattle.calls.specs.World.{Call, worldOf, called}
 use Rattle.world.specs.World.{World, world}
-use Rattle.history.specs.Reckon.{coreOf, reckon, begun}
+use Rattle.history.specs.Reckon.{coreOf, reckon, firstReckoning}
 use Rattle.history.specs.Runs as runs
 use Rattle.history.specs.Runs.{Runs}
 use Rattle.history.specs.History.{Agrees}
@@ -36,7 +36,7 @@ use Rattle.traffic_laws.proofs.Events.{dispatched-called}
 
 -- ---- an event
 pub dispatches-called : {otp : List ℕ} {w v : World} {sent : Event} {reason : Refusal} → Dispatches otp w sent reason v
-    → outcome (numberOf reason) v ≡ called otp w (callOf sent)
+    → outcome (refusalNumber reason) v ≡ called otp w (callOf sent)
 dispatches-called (contracts.dispatch κs a r s q) =
     let w =
     world (a .0) (now (a .1 .0)) (now (a .1 .1 .0)) (now (a .1 .1 .1 .0)) (now (a .1 .1 .1 .1 .0)) (now (a .1 .1 .1 .1 .1 .0))
@@ -122,5 +122,5 @@ traffic-runs {otp = otp} (none-made {w = w} {v = v} {u = u} {handed = handed} {b
 -- the theorem: whatever is then made of a device that `new` has started, what is left agrees with the reckoning
 pub traffic-agrees : (c : Ssd1677Config) (otp : List ℕ) (b : Buffers) (error : StartError) (p : Powered) → New c otp b error p
     → isAccepted (startAnswerOf error) ≡ true → c .optics .«initial_gray» ≤ 255 → (list : List Call) (u : World) → Traffic otp (worldOf p) list u
-    → Agrees u (reckon otp (begun (coreOf (worldOf p))) list)
+    → Agrees u (reckon otp (firstReckoning (coreOf (worldOf p))) list)
 traffic-agrees c otp b error p begins ok byte list u t = new-agrees c otp b error p begins ok byte list u (traffic-runs t)

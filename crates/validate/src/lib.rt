@@ -5,7 +5,7 @@ ghost use mathlib.Core.List.{[], _∷_};
 ghost use Prim.Native.Nat.{_<_};
 ghost use Rattle.voltage.specs.Codes.{isVoltage, sourceVoltage, vslVoltage, vcomVoltage};
 ghost use Rattle.config.specs.Answer.{firstOf, answerOf};
-ghost use Rattle.otp.specs.Table.{entriesOf, unlistedVoltage, voltagesTest, startTests};
+ghost use Rattle.otp.specs.Table.{entryCount, unlistedVoltage, voltagesTest, startTests};
 use config::ConfigError;
 use config::Ssd1677Config;
 use otp::ENTRY_BYTES;
@@ -31,7 +31,7 @@ fn is_unlisted_vcom(code: u8) -> bool
 
 // Bytes 106 to 109 of the setting, which begins at byte 6 of the entry.
 fn has_unlisted_voltage(otp: &[u8], entry: usize) -> bool
-    requires { ⌜ entry < entriesOf (now otp) ⌝ }
+    requires { ⌜ entry < entryCount (now otp) ⌝ }
     ensures { λ r. ⌜ r ≡ unlistedVoltage (now (otp .entry)) entry ⌝ }
 {
     let at = ENTRY_BYTES * entry;

@@ -11,7 +11,7 @@ use Rattle.numbers.specs.Lists.{tab}
 use Rattle.numbers.proofs.Lin.{whole, ranged, back, unsigned, abs-pos, abs-back, is-le}
 use Rattle.numbers.proofs.Painted.{getD-tab}
 use Rattle.glass.specs.Greys.{grayZ}
-use Rattle.glass_tables.specs.Greys.{bitsOf, firstsOf, endOf, endsOf}
+use Rattle.glass_tables.specs.Greys.{bitsOf, firstsOf, greyEnd, endsOf}
 use Rattle.glass.proofs.Grey.{gray-low, gray-high}
 use Rattle.glass_tables.proofs.Found.{bits-pos, bits-within, within-lt, gray-within, first-le, past, before}
 use borrow.Author.Needs.{needs}
@@ -115,13 +115,13 @@ l-lt c =
     let w = within c in
     within-lt _ (n c) (let b = first-le (x c) (n c) (k c) (w .some) (s .pre .steps .fine) in omega arith) (w .some)
 
-end-is : (c : tie.Else1) → getD (start c .args .ends .now) (first c) 0 ≡ endOf (n c) (l c)
+end-is : (c : tie.Else1) → getD (start c .args .ends .now) (first c) 0 ≡ greyEnd (n c) (l c)
 unfolding endsOf
 end-is c =
     let s = start c in
     ap (λ (es : List ℕ). getD es (first c) 0) (s .pre .ends-are)
-    ∙ ap (λ (g : ℕ). getD (tab 256 (endOf (n c))) g 0) (first-is c)
-    ∙ getD-tab 256 (endOf (n c)) (l c) 0 (l-lt c)
+    ∙ ap (λ (g : ℕ). getD (tab 256 (greyEnd (n c))) g 0) (first-is c)
+    ∙ getD-tab 256 (greyEnd (n c)) (l c) 0 (l-lt c)
 
 -- the grey, if it is found
 is : (c : tie.Else1) (g : ℕ) → g ≡ (510 * x c + n c) / (2 * n c) → g ≡ grayZ (start c .args .state) (start c .args .swing)
