@@ -2,6 +2,7 @@
 use Prim.Native.Nat.{ℕ}
 use mathlib.Core.Bool.{Bool, true, false, not}
 use mathlib.Core.List.{List, [], _∷_, _++_}
+use lib.Dec.{eqb}
 use lib.IntN.{ℤ, pos}
 use lib.ListN.{length, replicate}
 use Rattle.numbers.specs.Choice.{pick}
@@ -10,7 +11,7 @@ use Rattle.glass.specs.declared.RefreshKind.the-variants.{PowerOn}
 use Rattle.config.specs.declared.ConfigError.{ConfigError}
 use Rattle.config.specs.declared.PanelGeometry.{PanelGeometry}
 use Rattle.config.specs.declared.Ssd1677Config.{Ssd1677Config}
-use Rattle.config.specs.Answer.{Answer, refused, isAccepted, Test, firstOf, answerOf}
+use Rattle.config.specs.Answer.{Answer, accepted, refused, isAccepted, Test, firstOf, answerOf}
 use Rattle.otp.specs.Table.{startTests}
 use Rattle.gates_laws.specs.OneToOne.{gateOfRow}
 use Rattle.panel.specs.declared.Display.{Display}
@@ -24,6 +25,7 @@ use Rattle.registers.specs.Reset.{resetOf}
 use Rattle.guard_lengths.specs.declared.Lengths.{Lengths}
 use Rattle.guard_lengths.specs.Lengths.{lengthsFit, allLent}
 use Rattle.power_on.specs.declared.StartError.{StartError}
+use Rattle.power_on.specs.declared.StartRefusal.{StartRefusal}
 use Rattle.power_on.specs.declared.StartError.the-variants.{Parameters, Buffer}
 
 -- all that is lent to a start but the table
@@ -57,6 +59,10 @@ allTests c otp l = startTests c otp ++ bufferTest (c .panel) l ∷ []
 unfoldable pub startAnswerOf : StartError → Answer
 startAnswerOf (Parameters error) = answerOf error
 startAnswerOf Buffer = refused 11 0
+
+-- a number and its value as the answer that they stand for: 0 for an accepted start
+abbrev pub toldBy : StartRefusal → Answer
+toldBy r = pick (eqb (r .number) 0) accepted (refused (r .number) (r .value))
 
 -- no display has been started
 abbrev pub noDisplay : Display
