@@ -1,4 +1,4 @@
--- A device with all that it is lent, and the calls that change it (SCOPE, History).
+-- The calls that change a device and what it is lent (SCOPE, History).
 use Prim.Native.Nat.{ℕ, _≤_}
 use mathlib.Core.Bool.{Bool}
 use mathlib.Core.List.{List, [], _∷_}
