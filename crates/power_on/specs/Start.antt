@@ -10,9 +10,9 @@ use Rattle.glass.specs.declared.RefreshKind.the-variants.{PowerOn}
 use Rattle.config.specs.declared.ConfigError.{ConfigError}
 use Rattle.config.specs.declared.PanelGeometry.{PanelGeometry}
 use Rattle.config.specs.declared.Ssd1677Config.{Ssd1677Config}
-use Rattle.config.specs.Answer.{Answer, refused, isAccepted, Test, firstOf, answerOf}
+use Rattle.config.specs.Answer.{Answer, accepted, refused, isAccepted, Test, firstOf, answerOf}
 use Rattle.otp.specs.Table.{startTests}
-use Rattle.gates.specs.Gates.{gatesStored}
+use Rattle.gates_laws.specs.OneToOne.{gateOfRow}
 use Rattle.panel.specs.declared.Display.{Display}
 use Rattle.panel.specs.declared.Panel.{Panel}
 use Rattle.panel.specs.Start.{panelAtPowerOn, powerOn}
@@ -20,10 +20,12 @@ use Rattle.device.specs.declared.Power.the-variants.{Running}
 use Rattle.device.specs.declared.Current.the-variants.{Idle}
 use Rattle.device.specs.declared.Deadline.the-variants.{Never}
 use Rattle.device.specs.declared.Ssd1677.{Ssd1677}
+use Rattle.world.specs.World.{World, world}
 use Rattle.registers.specs.Reset.{resetOf}
 use Rattle.guard_lengths.specs.declared.Lengths.{Lengths}
 use Rattle.guard_lengths.specs.Lengths.{lengthsFit, allLent}
 use Rattle.power_on.specs.declared.StartError.{StartError}
+use Rattle.power_on.specs.declared.StartRefusal.{StartRefusal}
 use Rattle.power_on.specs.declared.StartError.the-variants.{Parameters, Buffer}
 
 -- all that is lent to a start but the table
@@ -57,6 +59,11 @@ allTests c otp l = startTests c otp ++ bufferTest (c .panel) l ∷ []
 unfoldable pub startAnswerOf : StartError → Answer
 startAnswerOf (Parameters error) = answerOf error
 startAnswerOf Buffer = refused 11 0
+
+-- an answer as its number and its value: 0 and 0 for an accepted start
+abbrev pub refusalOf : Answer → StartRefusal
+refusalOf accepted = record { number = 0; value = 0 }
+refusalOf (refused number value) = record { number = number; value = value }
 
 -- no display has been started
 abbrev pub noDisplay : Display
@@ -109,13 +116,13 @@ clean b r l = record { blackWhite = b; red = r; log = l }
 unfoldable pub cleared : ℕ → ℕ → ℕ → Clean
 cleared b r l = clean (tab b (λ _. 0)) (tab r (λ _. 0)) (tab l (λ _. 0))
 
--- buffers at power-on: planes and log 0x00, chosen LUTs 255, the rest as `Panel::new` (SCOPE, Buffers)
+-- buffers at power-on: planes and log 0x00, chosen LUTs 255, the gate of each row of the glass, the rest as `Panel::new` (SCOPE, Buffers)
 unfoldable pub filled : Ssd1677Config → Buffers → Buffers
 filled c b =
     let glass = powerOn (c .panel) (c .optics) (length (b .states)) (length (b .luts)) (length (b .pixels)) in
     let empty = cleared (length (b .blackWhite)) (length (b .red)) (length (b .log)) in
     buffers (glass .states) (glass .luts) (glass .pixels) (empty .blackWhite) (empty .red)
-    (gatesStored (c .panel) (c .panel .height) (b .gates))
+    (tab (c .panel .height) (gateOfRow (c .panel)))
     (empty .log)
 
 -- a state and all that it was lent
@@ -126,6 +133,12 @@ pub record Powered : Type 0 where
 -- the two as one
 abbrev pub powered : Ssd1677 → Buffers → Powered
 powered d b = record { device = d; buffers = b }
+
+-- the world that a start leaves
+abbrev pub worldOf : Powered → World
+worldOf p =
+    let b = p .buffers in
+    world (p .device) (b .states) (b .luts) (b .pixels) (b .blackWhite) (b .red) (b .gates) (b .log)
 
 -- the chip and its buffers at power-on
 unfoldable pub poweredUp : Ssd1677Config → Buffers → Powered

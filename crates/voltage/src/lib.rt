@@ -1,11 +1,21 @@
 // The voltage codes of commands 0x03, 0x04 and 0x2C (waveform.rs).
 ghost use mathlib.Core.Path.{_≡_};
-ghost use Rattle.voltage.specs.Codes.{sourceVoltage, vslVoltage, vcomVoltage, gateListed};
+ghost use Rattle.voltage.specs.Codes.{isVoltage, sourceVoltage, vslVoltage, vcomVoltage, gateListed};
 
 // What a code stands for, or that the datasheet does not list it.
 pub enum Millivolts {
     Listed(i64),
     Unlisted,
+}
+
+// Whether a code stands for a voltage.
+pub fn is_voltage(millivolts: Millivolts) -> bool
+    ensures { λ r. ⌜ r ≡ isVoltage millivolts ⌝ }
+{
+    match millivolts {
+        Millivolts::Listed(_) => true,
+        Millivolts::Unlisted => false,
+    }
 }
 
 // VSH1 or VSH2 (0x04, bytes A and B).
