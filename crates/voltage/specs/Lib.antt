@@ -1,2 +1,3 @@
 -- The root of voltage's specs.
 pub mod Codes
+pub mod Sheet

@@ -1,6 +1,9 @@
 // The voltage codes of commands 0x03, 0x04 and 0x2C (waveform.rs).
+mod sheet;
+
 ghost use mathlib.Core.Path.{_≡_};
 ghost use Rattle.voltage.specs.Codes.{isVoltage, sourceVoltage, vslVoltage, vcomVoltage, gateListed};
+ghost use Rattle.voltage.specs.Sheet.{figure};
 
 // What a code stands for, or that the datasheet does not list it.
 pub enum Millivolts {
@@ -18,15 +21,22 @@ pub fn is_voltage(millivolts: Millivolts) -> bool
     }
 }
 
+// The sheet's figure for a code of VSH1 or VSH2.
+fn look_up(code: u8) -> u16
+    ensures { λ r. ⌜ figure r ≡ sourceVoltage code ⌝ }
+{
+    sheet::SOURCE_MILLIVOLTS[code as usize]
+}
+
 // VSH1 or VSH2 (0x04, bytes A and B).
 pub fn source_millivolts(code: u8) -> Millivolts
     ensures { λ r. ⌜ r ≡ sourceVoltage code ⌝ }
 {
-    match code {
-        0x23..=0x4B => Millivolts::Listed((9000 + (code - 0x23) as u64 * 200) as i64),
-        0x8E..=0xCE => Millivolts::Listed((2400 + (code - 0x8E) as u64 * 100) as i64),
-        _ => Millivolts::Unlisted,
+    let found = look_up(code);
+    if found != sheet::UNLISTED {
+        return Millivolts::Listed(found as i64);
     }
+    Millivolts::Unlisted
 }
 
 // VSL (0x04, byte C).
