@@ -7,13 +7,17 @@ use glass::Optics;
 ghost use mathlib.Core.Path.{_≡_};
 ghost use Rattle.bench_device.specs.Whole.{configOf};
 
+// The frame period of every code in the reference that the device is held to (config.rs, `gdeq0426t82`); the default is another (#105).
+const FRAME_PERIOD: u64 = 20_000_000;
+
 // A panel of a size, wired as the GDEQ0426T82, at 25 °C on a 3.3 V supply.
 pub(crate) fn config_of(width: u16, height: u16) -> Ssd1677Config
     ensures { λ r. ⌜ r ≡ configOf width height ⌝ }
 {
     let panel = made::geometry_of(width, height, 0, false, true, false, true);
     let optics = Optics::default();
-    let timing = Ssd1677Timing::default();
+    let mut timing = Ssd1677Timing::default();
+    timing.frame_period = [FRAME_PERIOD; 16];
     Ssd1677Config {
         panel,
         optics,

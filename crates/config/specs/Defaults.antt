@@ -14,9 +14,9 @@ defaultGateScan = record { sm = false; gd = false }
 abbrev pub millisecond : ℕ
 millisecond = 1000000
 
--- a frame's period, of every code, in ns (SCOPE, Configuration)
+-- a frame's period, of every code, in ns (SCOPE, Configuration; #105, where the Rust has 20,000,000)
 abbrev pub defaultFramePeriod : ℕ
-defaultFramePeriod = 20000000
+defaultFramePeriod = 25000000
 
 -- about 100 ms to start the analog supplies and 200 ms to stop them; none of it measured
 abbrev pub defaultTiming : Ssd1677Timing

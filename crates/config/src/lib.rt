@@ -19,8 +19,9 @@ pub const RAM_GATES: u16 = 680;
 
 const MILLISECOND: u64 = 1_000_000;
 
-// ASSUMPTION: the datasheet does not tabulate the periods of the frame-rate codes.
-const FRAME_PERIOD: u64 = 20_000_000;
+// ASSUMPTION: the datasheet does not tabulate the periods of the frame-rate codes. 25 ms are those of the panels in use (#105); the Rust has
+// 20 ms.
+const FRAME_PERIOD: u64 = 25_000_000;
 
 // The gate-scan bits of command 0x01: SM (no left and right interlacing) and GD (the first output gate is G1). The datasheet's
 // Table 8-2 gives the RAM row each gate shows for each pair.

@@ -39,7 +39,7 @@ abbrev pub row : Row → List ℤ
 row (Is r) = pos r ∷ []
 row Nothing = []
 
--- 20,000,000 ns for every frame-rate code
+-- 20,000,000 ns for every frame-rate code, asked for by name: the default is another (#105)
 abbrev pub periods : List ℕ
 periods = replicate 16 20000000
 

@@ -14,7 +14,7 @@ use Rattle.waveform.specs.Phases.{joined, noGroup, phaseOf}
 use Rattle.waveform.specs.Duration.{durationOf}
 use Rattle.column.specs.Columns.{natural, whole, lineEnd, Buffer, buffer}
 
--- the period of every frame-rate code, in nanoseconds: the listing's own
+-- the period of every frame-rate code, in nanoseconds: the listing's own, which is not the default (SCOPE, Listing; #105)
 abbrev pub period : ℕ
 period = 20000000
 

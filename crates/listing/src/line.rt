@@ -10,7 +10,7 @@ ghost use Rattle.waveform.specs.Voltages.{AllListable};
 ghost use Rattle.column.specs.Columns.{buffer, appended};
 ghost use Rattle.listing.specs.Listing.{driveOf, drivesOf, headOf, lineOf, phaseText, groupText};
 
-// The period of every frame-rate code, in nanoseconds: the listing's own.
+// The period of every frame-rate code, in nanoseconds: the listing's own, which is not the default (#105).
 pub(crate) const PERIOD: u64 = 20_000_000;
 
 // Source less VCOM of a LUT in a phase, before the panel's sign.

@@ -14,7 +14,7 @@ default-requires-2 : tie.Need-default-requires-2
 default-requires-2 c κs = search needs
 
 returns : tie.Need-returns
-returns c = rw (c .before .before .geometry-of .ensures, c .before .default .ensures, c .default2 .ensures) refl
+returns c = rw (c .before .before .before .geometry-of .ensures, c .before .before .default .ensures, c .before .default2 .ensures) refl
 
 pub config-of-spec : {M : Type 1} → statement M
 config-of-spec = tie.close (tie.spec geometry-of-requires default-requires default-requires-2 returns)
