@@ -107,6 +107,13 @@ fn long_waveform() -> Ssd1677Config {
     config
 }
 
+/// The reference's waveforms over and over, so many.
+fn with_entries(count: usize) -> Ssd1677Config {
+    let mut config = Ssd1677Config::gdeq0426t82();
+    config.otp = config.otp.iter().cycle().take(count).cloned().collect();
+    config
+}
+
 pub(super) fn rows(table: &Table) {
     let random = &mut Random::of_place(3, 0);
     let sides = &mut Sides::new(Ssd1677Config::gdeq0426t82());
@@ -131,6 +138,14 @@ pub(super) fn rows(table: &Table) {
         }
     });
     row("a RAM byte of 0x24 alone, between clock moves", (ALONE, "byte"), beyond(sides, rounds, Some(&moves), &alone));
+
+    // 0x7F, which does nothing: what is left is the call, and 12's look at every entry (#106).
+    let commands = ready.then(|e| (0..ALONE).for_each(|_| e.command(0x7F, &[])));
+    for count in [3, 16, 64] {
+        let sides = &mut Sides::new(with_entries(count));
+        let what = format!("a command alone, table of {count} entries");
+        row(&what, (ALONE, "command"), beyond(sides, rounds, Some(&ready), &commands));
+    }
 
     let framed = ready.then(|e| frame(e, random));
     let frames = framed.then(|e| (0..FRAMES).for_each(|_| frame(e, random)));
