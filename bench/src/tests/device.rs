@@ -99,11 +99,7 @@ fn beyond(sides: &mut Sides, rounds: u32, base: Option<&Events>, more: &Events) 
 
 fn long_waveform() -> Ssd1677Config {
     let mut config = Ssd1677Config::gdeq0426t82();
-    let mut setting = longest();
-    // VGH and DCVCOM as in the reference settings.
-    setting[105] = 0x00;
-    setting[109] = 0x00;
-    config.otp[0].setting = setting;
+    config.otp[0].setting = longest();
     config
 }
 

@@ -11,15 +11,18 @@ use crate::ssd1677::waveform::{Drive, Waveform};
 pub(super) const SWING: i64 = 6_000_000_000_000;
 pub(super) const PERIODS: [u64; 16] = [20_000_000; 16];
 
-/// Ten groups of four phases of three frames, each run once and `more` times.
+/// Ten groups of four phases of three frames, each run once and `more` times. A pass goes three phases one way and one
+/// back, so that the count of passes shows wherever the swing has room for them; each group goes the other way than the
+/// one before. VGH and VCOM are those of the reference settings.
 fn ten_groups(more: u8) -> [u8; 112] {
-    let mut setting = [0x5A; 112];
-    setting[40..50].fill(0);
+    let mut setting = [0; 112];
     for group in 0..10 {
+        for lut in 0..4 {
+            setting[10 * lut + group] = if (lut + group) % 2 == 0 { 0x56 } else { 0xA9 };
+        }
         setting[50 + 5 * group..54 + 5 * group].fill(3);
         setting[54 + 5 * group] = more;
     }
-    setting[100..105].fill(0);
     setting[106..109].copy_from_slice(&[0x41, 0xA8, 0x32]);
     setting
 }
@@ -46,14 +49,14 @@ pub(super) fn transfers(table: &Table) {
 }
 
 fn walked(table: &Table, what: &str, setting: &[u8; 112], until: Option<u64>, count: usize) {
-    let proved = |setting: &_, lut| proved::transfer(setting, &PERIODS, lut, SWING, black_box(until));
+    let proved = |setting: &_, lut, swing| proved::transfer(setting, &PERIODS, lut, swing, black_box(until));
     row(table, what, setting, until, count, |numbers| numbers, proved);
 }
 
 fn combined(table: &Table, what: &str, setting: &[u8; 112], count: usize) {
     // A combined transfer adds nothing where its ends have met.
     let settled = |[add, lo, hi]: [i64; 3]| [if lo < hi { add } else { 0 }, lo, hi];
-    let proved = |setting: &_, lut| proved::combined(setting, &PERIODS, lut, SWING);
+    let proved = |setting: &_, lut, swing| proved::combined(setting, &PERIODS, lut, swing);
     row(table, what, setting, None, count, settled, proved);
 }
 
@@ -64,12 +67,13 @@ fn row(
     until: Option<u64>,
     count: usize,
     told: impl Fn([i64; 3]) -> [i64; 3],
-    proved: impl Fn(&[u8; 112], usize) -> [i64; 3],
+    proved: impl Fn(&[u8; 112], usize, i64) -> [i64; 3],
 ) {
-    for lut in 0..5 {
+    // The largest swing has room for all repeats: there every one of them counts.
+    for (lut, swing) in (0..5).flat_map(|lut| [(lut, SWING), (lut, i64::MAX)]) {
         let transfer =
-            Waveform::from_setting(setting, &PERIODS).transfer(Drive::Lut(lut), SWING, true, until);
-        assert_eq!(told(inside::transfer(transfer)), proved(setting, lut), "{what}");
+            Waveform::from_setting(setting, &PERIODS).transfer(Drive::Lut(lut), swing, true, until);
+        assert_eq!(told(inside::transfer(transfer)), proved(setting, lut, swing), "{what}");
     }
     table.row(
         what,
@@ -85,7 +89,7 @@ fn row(
         || {
             timed(|| {
                 for _ in 0..count {
-                    black_box(proved(black_box(setting), 1));
+                    black_box(proved(black_box(setting), 1, SWING));
                 }
             })
         },

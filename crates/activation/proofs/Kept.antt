@@ -15,26 +15,27 @@ use Rattle.diagnostic.specs.declared.DiagnosticKind.the-variants.{WithoutClock,
 use Rattle.diagnostic.specs.declared.Stage.the-variants as stage
 use Rattle.scan.specs.Luts.{lutOf}
 use Rattle.device.specs.declared.Ssd1677.{Ssd1677}
+use Rattle.world.specs.World.{WithGlass, withGlass, WithBuffers, Lent}
 use Rattle.moment.specs.Moments.{afterNs}
-use Rattle.clock.specs.Advance.{Ready, WithGlass, withGlass, endingOf, glassOf, isOver, ended, clocked, advanced}
+use Rattle.clock.specs.Advance.{Ready, endingOf, glassOf, isOver, ended, clocked, advanced}
 use Rattle.clock.specs.Advance as clock
 use Rattle.stages.specs.Run.{Step, noted}
 use Rattle.stages_laws.proofs.Kept.{either}
-use Rattle.activation.specs.Display.{Displayed, scanOf, displayOf, unchanged, begun, shown}
-use Rattle.activation.specs.Activation.{settled, WithLuts, withLuts, Lent, staged, WithBuffers, stagedIn, activated}
+use Rattle.activation.specs.Display.{Displayed, scanOf, displayOf, unchanged, displayBegun, displayShown}
+use Rattle.activation.specs.Activation.{runSettled, WithLuts, withLuts, staged, stagedIn, activated}
 
 -- the stages leave the configuration and the glass as they were
 pub ready-after : (k : Lent) (s z : WithLuts) (states : List ℤ) (pixels : List ℕ) → z ≡ staged k s → length (z .luts) ≡ length (s .luts)
     → Ready (s .device) states (s .luts) pixels → Ready (z .device) states (z .luts) pixels
-unfolding staged settled
+unfolding staged runSettled
 ready-after k s z states pixels e same h =
     subst (λ (x : WithLuts). Ready (x .device) states (z .luts) pixels) (sym e)
     (record { luts-long = same ∙ h .luts-long; pixels-long = h .pixels-long; some = h .some; lasting = h .lasting })
 
 -- finishing a display keeps what finishing the next one asks
 finished-ready : (e : Ending) (luts : List ℕ) (g : WithGlass) → Ready (g .device) (g .states) luts (g .pixels)
-    → Ready (clock.published g (finished e luts (glassOf g)) .device) (clock.published g (finished e luts (glassOf g)) .states) luts
-    (clock.published g (finished e luts (glassOf g)) .pixels)
+    → Ready (clock.glassPublished g (finished e luts (glassOf g)) .device) (clock.glassPublished g (finished e luts (glassOf g)) .states) luts
+    (clock.glassPublished g (finished e luts (glassOf g)) .pixels)
 unfolding finished published
 finished-ready e luts g h =
     record {
@@ -50,7 +51,7 @@ pub ready-advanced : (luts : List ℕ) (time : ℕ) (g : WithGlass) → Ready (g
 unfolding advanced ended
 ready-advanced luts time g h =
     either (λ (x : WithGlass). Ready (x .device) (x .states) luts (x .pixels)) (isOver (clocked time g .device))
-    (clock.published (clocked time g) (finished (endingOf (clocked time g .device) (g .device .display .ends) Whole) luts (glassOf (clocked time g))))
+    (clock.glassPublished (clocked time g) (finished (endingOf (clocked time g .device) (g .device .display .ends) Whole) luts (glassOf (clocked time g))))
     (clocked time g)
     (finished-ready (endingOf (clocked time g .device) (g .device .display .ends) Whole) luts (clocked time g) h)
     h
@@ -66,10 +67,10 @@ module _ (blackWhite red gates : List ℕ) (d : Ssd1677) (wanted two : Bool) (s 
   abbrev analogless : Displayed
   analogless = unchanged (d .display) luts (noted (d .now) (WithoutAnalog stage.Display) s)
 
-  luts-shown : length (shown blackWhite red gates d wanted two s luts .luts) ≡ length luts
-  unfolding shown begun
+  luts-shown : length (displayShown blackWhite red gates d wanted two s luts .luts) ≡ length luts
+  unfolding displayShown displayBegun
   luts-shown =
-      let x = begun blackWhite red gates d two s luts in
+      let x = displayBegun blackWhite red gates d two s luts in
       either long (wanted && s .run .«waveform_found») (pick (s .run .clock) (pick (s .run .analog) x analogless) clockless)
       (unchanged (d .display) luts s)
       (either long (s .run .clock) (pick (s .run .analog) x analogless) clockless
@@ -94,14 +95,14 @@ mux-advanced : (luts : List ℕ) (time : ℕ) (g : WithGlass) → advanced luts 
 unfolding advanced ended
 mux-advanced luts time g =
     either (λ (x : WithGlass). x .device .regs .mux ≡ g .device .regs .mux) (isOver (clocked time g .device))
-    (clock.published (clocked time g) (finished (endingOf (clocked time g .device) (g .device .display .ends) Whole) luts (glassOf (clocked time g))))
+    (clock.glassPublished (clocked time g) (finished (endingOf (clocked time g .device) (g .device .display .ends) Whole) luts (glassOf (clocked time g))))
     (clocked time g)
     refl
     refl
 
 -- 0x20 keeps MUX
 pub mux-activated : (k : Lent) (w : WithBuffers) → activated k w .device .regs .mux ≡ w .device .regs .mux
-unfolding activated staged settled
+unfolding activated staged runSettled
 mux-activated k w =
     let s = stagedIn k w in
     mux-advanced (s .luts) (s .device .now) (withGlass (s .device) (w .states) (w .pixels))
@@ -111,6 +112,6 @@ later time before ns most = omega arith
 
 -- a display that starts does not end before
 pub starts-before-end : (blackWhite red gates : List ℕ) (d : Ssd1677) (two : Bool) (s : Step) (luts : List ℕ)
-    → begun blackWhite red gates d two s luts .display .started ≤ begun blackWhite red gates d two s luts .display .ends
-unfolding begun displayOf afterNs
+    → displayBegun blackWhite red gates d two s luts .display .started ≤ displayBegun blackWhite red gates d two s luts .display .ends
+unfolding displayBegun displayOf afterNs
 starts-before-end blackWhite red gates d two s luts = later _ _ _ _

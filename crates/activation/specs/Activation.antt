@@ -7,13 +7,14 @@ use Rattle.numbers.specs.Choice.{pick}
 use Rattle.panel.specs.declared.Display.{Display}
 use Rattle.device.specs.declared.Ssd1677.{Ssd1677}
 use Rattle.device.specs.Parts.{withActivated, withLoaded}
+use Rattle.world.specs.World.{WithGlass, withGlass, WithBuffers, withBuffers, Lent}
 use Rattle.moment.specs.Moments.{busyFor}
-use Rattle.clock.specs.Advance.{Ready, WithGlass, withGlass, advanced}
+use Rattle.clock.specs.Advance.{Ready, advanced}
 use Rattle.stages.specs.declared.Control.{Control}
 use Rattle.stages.specs.declared.Run.{Run}
 use Rattle.stages.specs.Run.{controlOf, Step, step, withClock, withAnalog, waited}
 use Rattle.stages.specs.Stages.{loaded}
-use Rattle.activation.specs.Display.{Startable, Displayed, shown}
+use Rattle.activation.specs.Display.{Startable, Displayed, displayShown}
 
 -- bit 1: analog supplies that are on stop
 unfoldable pub analogOff : Bool → ℕ → Run → Run
@@ -37,8 +38,8 @@ runOf d =
     }
 
 -- and leave it there; BUSY is high for their time from now on
-unfoldable pub settled : Ssd1677 → Run → Display → Ssd1677
-settled d r display =
+unfoldable pub runSettled : Ssd1677 → Run → Display → Ssd1677
+runSettled d r display =
     withActivated d (withLoaded (d .regs) (r .temperature) (r .lut)) (busyFor (d .bus) (d .now) (r .ns)) (r .clock) (r .analog) display (r .journal)
 
 -- the state with the chosen LUTs and the log, which the stages change
@@ -51,17 +52,6 @@ pub record WithLuts : Type 0 where
 abbrev pub withLuts : Ssd1677 → List ℕ → List ℕ → WithLuts
 withLuts d u l = record { device = d; luts = u; log = l }
 
--- what is lent to an activation and stays as it is
-pub record Lent : Type 0 where
-  pub blackWhite : List ℕ
-  pub red : List ℕ
-  pub gates : List ℕ
-  pub otp : List ℕ
-
--- the four as one
-abbrev pub lent : List ℕ → List ℕ → List ℕ → List ℕ → Lent
-lent b r g o = record { blackWhite = b; red = r; gates = g; otp = o }
-
 module _ (k : Lent) (s : WithLuts) where
   -- the stages up to the LUT
   abbrev pub before : Control → Step
@@ -70,31 +60,19 @@ module _ (k : Lent) (s : WithLuts) where
   -- then the display
   abbrev pub during : Control → Displayed
   during control =
-      shown (k .blackWhite) (k .red) (k .gates) (s .device) (control .display) (control .«mode_two») (before control) (s .luts)
+      displayShown (k .blackWhite) (k .red) (k .gates) (s .device) (control .display) (control .«mode_two») (before control) (s .luts)
 
   -- then the supplies' end, and all of it back in the state
   abbrev pub after : Control → Displayed → WithLuts
   after control t =
       withLuts
-      (settled (s .device) (clockOff (control .«clock_off») (analogOff (control .«analog_off») (s .device .config .timing .«analog_off») (t .run))) (t .display))
+      (runSettled (s .device) (clockOff (control .«clock_off») (analogOff (control .«analog_off») (s .device .config .timing .«analog_off») (t .run))) (t .display))
       (t .luts)
       (t .log)
 
   -- all the stages that 0x22 enables
   unfoldable pub staged : WithLuts
   staged = after (controlOf (s .device .regs .«update_control_2»)) (during (controlOf (s .device .regs .«update_control_2»)))
-
--- the state with all the lent buffers that an activation may change
-pub record WithBuffers : Type 0 where
-  pub device : Ssd1677
-  pub states : List ℤ
-  pub luts : List ℕ
-  pub pixels : List ℕ
-  pub log : List ℕ
-
--- the five as one
-abbrev pub withBuffers : Ssd1677 → List ℤ → List ℕ → List ℕ → List ℕ → WithBuffers
-withBuffers d s u p l = record { device = d; states = s; luts = u; pixels = p; log = l }
 
 -- what the callers of an activation have once 13, 11 and 12 have refused all else
 pub record Activatable (d : Ssd1677) (states : List ℤ) (luts pixels blackWhite red gates log : List ℕ) : Type 0 where
@@ -110,9 +88,9 @@ abbrev pub arrived : WithBuffers → WithLuts → WithGlass
 arrived w s = advanced (s .luts) (s .device .now) (withGlass (s .device) (w .states) (w .pixels))
 
 -- the two put together
-abbrev pub joined : WithLuts → WithGlass → WithBuffers
-joined s g = withBuffers (g .device) (g .states) (s .luts) (g .pixels) (s .log)
+abbrev pub bothLeft : WithLuts → WithGlass → WithBuffers
+bothLeft s g = withBuffers (g .device) (g .states) (s .luts) (g .pixels) (s .log)
 
 -- 0x20
 unfoldable pub activated : Lent → WithBuffers → WithBuffers
-activated k w = joined (stagedIn k w) (arrived w (stagedIn k w))
+activated k w = bothLeft (stagedIn k w) (arrived w (stagedIn k w))

@@ -12,7 +12,8 @@ use Rattle.glass.specs.declared.RefreshKind.the-variants.{Full, Partial}
 use Rattle.waveform.specs.Setting.{waveformOf}
 use Rattle.waveform.specs.Duration.{durationOf}
 use Rattle.config.specs.declared.PanelGeometry.{PanelGeometry}
-use Rattle.diagnostic.specs.declared.DiagnosticKind.the-variants.{WithoutClock, WithoutAnalog, RamPingPong}
+use Rattle.diagnostic.specs.declared.DiagnosticKind.the-variants.{RamPingPong}
+use Rattle.diagnostic.specs.Power.{ifPowered}
 use Rattle.diagnostic.specs.declared.Stage.the-variants as stage
 use Rattle.scan.specs.declared.Scan.{Scan}
 use Rattle.scan.specs.Luts.{optionOf, lutOf}
@@ -34,9 +35,9 @@ pub record Startable (regs : Registers) (g : PanelGeometry) (luts blackWhite red
   pub log-long : length log ≡ 16384
 
 -- mode 2 is a partial refresh, mode 1 a full one (mod.rs, `start_display`)
-abbrev pub kindOf : Bool → RefreshKind
-kindOf true = Partial
-kindOf false = Full
+abbrev pub refreshKindOf : Bool → RefreshKind
+refreshKindOf true = Partial
+refreshKindOf false = Full
 
 -- MUX + 1 gates in the order of 0x01, and the RAM options of 0x21: the red plane's in the high nibble (mod.rs, `start_display`)
 abbrev pub scanOf : Registers → Scan
@@ -59,7 +60,7 @@ displayOf setting border time before ns two =
       running = true;
       started = afterNs time before;
       ends = afterNs time (min (before + ns) (largest 64));
-      kind = kindOf two;
+      kind = refreshKindOf two;
       setting = setting;
       border = border;
     }
@@ -81,18 +82,16 @@ unchanged d luts s = displayed (s .run) d luts (s .log)
 
 module _ (blackWhite red gates : List ℕ) (d : Ssd1677) where
   -- the display starts after the time so far, lasts as the LUT register says, and fixes the LUT of every pixel (mod.rs, `start_display`)
-  unfoldable pub begun : Bool → Step → List ℕ → Displayed
-  begun two s luts =
+  unfoldable pub displayBegun : Bool → Step → List ℕ → Displayed
+  displayBegun two s luts =
       let ns = durationOf (waveformOf (s .run .lut) (d .config .timing .«frame_period»)) in
       let a = warned (d .now) two (d .regs .«display_option») s in
       displayed (waited ns (a .run)) (displayOf (s .run .lut) (d .regs .border) (d .now) (s .run .ns) ns two)
       (tab (length luts) (lutOf gates red blackWhite (d .config .panel) (scanOf (d .regs)))) (a .log)
 
   -- bit 2: it starts unless a LUT load found no waveform; it needs the clock, else 33, and the analog supplies, else 34 (mod.rs, `powered`)
-  unfoldable pub shown : Bool → Bool → Step → List ℕ → Displayed
-  shown wanted two s luts =
+  unfoldable pub displayShown : Bool → Bool → Step → List ℕ → Displayed
+  displayShown wanted two s luts =
       pick (wanted && s .run .«waveform_found»)
-      (pick (s .run .clock)
-      (pick (s .run .analog) (begun two s luts) (unchanged (d .display) luts (noted (d .now) (WithoutAnalog stage.Display) s)))
-      (unchanged (d .display) luts (noted (d .now) (WithoutClock stage.Display) s)))
+      (ifPowered (s .run .clock) (s .run .analog) stage.Display (displayBegun two s luts) (λ kind. unchanged (d .display) luts (noted (d .now) kind s)))
       (unchanged (d .display) luts s)

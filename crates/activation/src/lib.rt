@@ -6,8 +6,9 @@ ghost use lib.ListN.{length};
 ghost use Rattle.waveform.specs.Setting.{waveformOf};
 ghost use Rattle.waveform.specs.Duration.{durationOf};
 ghost use Rattle.stages.specs.Run.{step};
-ghost use Rattle.activation.specs.Display.{kindOf, scanOf, warned, displayOf, displayed, Startable, begun, shown};
-ghost use Rattle.activation.specs.Activation.{analogOff, clockOff, runOf, settled, withLuts, staged, withBuffers, lent, Activatable, activated};
+ghost use Rattle.activation.specs.Display.{refreshKindOf, scanOf, warned, displayOf, displayed, Startable, displayBegun, displayShown};
+ghost use Rattle.world.specs.World.{withBuffers, lent};
+ghost use Rattle.activation.specs.Activation.{analogOff, clockOff, runOf, runSettled, withLuts, staged, Activatable, activated};
 use device::Registers;
 use device::Ssd1677;
 use device::part;
@@ -20,7 +21,7 @@ use scan::Scan;
 use stages::Run;
 
 fn kind_of(two: bool) -> RefreshKind
-    ensures { λ r. ⌜ r ≡ kindOf two ⌝ }
+    ensures { λ r. ⌜ r ≡ refreshKindOf two ⌝ }
 {
     if two {
         RefreshKind::Partial
@@ -99,7 +100,7 @@ fn start_display(
     two: bool,
 ) -> Shown
     requires { ⌜ Startable (state .regs) (state .config .panel) (now luts) (now «black_white») (now red) (now gates) (now log) ⌝ }
-    ensures { λ r. ⌜ displayed (r .run) (r .display) (now (luts .exit)) (now (log .exit)) ≡ begun (now («black_white» .entry)) (now (red .entry)) (now (gates .entry)) state two (step run (now (log .entry))) (now (luts .entry)) ⌝ }
+    ensures { λ r. ⌜ displayed (r .run) (r .display) (now (luts .exit)) (now (log .exit)) ≡ displayBegun (now («black_white» .entry)) (now (red .entry)) (now (gates .entry)) state two (step run (now (log .entry))) (now (luts .entry)) ⌝ }
 {
     let regs = state.regs;
     let config = state.config;
@@ -129,7 +130,7 @@ fn show(
     two: bool,
 ) -> Shown
     requires { ⌜ Startable (state .regs) (state .config .panel) (now luts) (now «black_white») (now red) (now gates) (now log) ⌝ }
-    ensures { λ r. ⌜ displayed (r .run) (r .display) (now (luts .exit)) (now (log .exit)) ≡ shown (now («black_white» .entry)) (now (red .entry)) (now (gates .entry)) state wanted two (step run (now (log .entry))) (now (luts .entry)) ⌝ }
+    ensures { λ r. ⌜ displayed (r .run) (r .display) (now (luts .exit)) (now (log .exit)) ≡ displayShown (now («black_white» .entry)) (now (red .entry)) (now (gates .entry)) state wanted two (step run (now (log .entry))) (now (luts .entry)) ⌝ }
 {
     let display = state.display;
     let stage = Stage::Display;
@@ -188,7 +189,7 @@ fn run_of(state: Ssd1677) -> Run
 
 // The run goes back into the state, which is busy for its time.
 fn settle(state: Ssd1677, run: Run, display: Display) -> Ssd1677
-    ensures { λ r. ⌜ r ≡ settled state run display ⌝ }
+    ensures { λ r. ⌜ r ≡ runSettled state run display ⌝ }
 {
     let lut = run.lut;
     let regs = part::set_loaded(state.regs, run.temperature, lut);

@@ -15,14 +15,14 @@ use Rattle.waveform.specs.Duration.{durationOf}
 use Rattle.device.specs.declared.Registers.{Registers}
 use Rattle.device.specs.declared.Ssd1677.{Ssd1677}
 use Rattle.device.specs.Parts.{withLoaded}
-use Rattle.clock.specs.Advance.{WithGlass, withGlass}
+use Rattle.world.specs.World.{WithGlass, withGlass, WithBuffers, Lent}
 use Rattle.moment.proofs.Current.{current-busy}
 use Rattle.clock.proofs.Arrived.{config-advanced, swing-advanced, regs-advanced, journal-advanced, current-advanced, states-advanced}
 use Rattle.stages.specs.declared.Run.{Run}
 use Rattle.stages.specs.Run.{controlOf, Step, step, noted, waited, withClock, withAnalog}
 use Rattle.stages_laws.proofs.Kept.{either, Holds, HoldsOf, noted-holds, waited-holds, loaded-holds}
-use Rattle.activation.specs.Display.{warned, Displayed, unchanged, begun, shown}
-use Rattle.activation.specs.Activation.{analogOff, clockOff, runOf, settled, withLuts, Lent, before, during, staged, WithBuffers, stagedIn, activated}
+use Rattle.activation.specs.Display.{warned, Displayed, unchanged, displayBegun, displayShown}
+use Rattle.activation.specs.Activation.{analogOff, clockOff, runOf, runSettled, withLuts, before, during, staged, stagedIn, activated}
 use Rattle.activation.proofs.Kept.{luts-staged}
 
 module _ (k : Lent) (w : WithBuffers) where
@@ -31,11 +31,11 @@ module _ (k : Lent) (w : WithBuffers) where
   glassThen = withGlass (stagedIn k w .device) (w .states) (w .pixels)
 
   pub config-activated : activated k w .device .config ≡ w .device .config
-  unfolding activated staged settled
+  unfolding activated staged runSettled
   config-activated = config-advanced (stagedIn k w .luts) (stagedIn k w .device .now) glassThen
 
   pub swing-activated : activated k w .device .panel .swing ≡ w .device .panel .swing
-  unfolding activated staged settled
+  unfolding activated staged runSettled
   swing-activated = swing-advanced (stagedIn k w .luts) (stagedIn k w .device .now) glassThen
 
   pub states-activated : length (activated k w .states) ≡ length (w .states)
@@ -47,7 +47,7 @@ module _ (k : Lent) (w : WithBuffers) where
   luts-activated = luts-staged k (withLuts (w .device) (w .luts) (w .log))
 
   current-staged : stagedIn k w .device .bus .current ≡ w .device .bus .current
-  unfolding staged settled
+  unfolding staged runSettled
   current-staged = current-busy (w .device .bus) (w .device .now) _
 
   pub current-activated : activated k w .device .bus .current ≡ w .device .bus .current
@@ -59,7 +59,7 @@ module _ (k : Lent) (w : WithBuffers) where
   regs-then = regs-advanced (stagedIn k w .luts) (stagedIn k w .device .now) glassThen
 
   regs-staged : stagedIn k w .device .regs ≡ withLoaded (w .device .regs) (stagedIn k w .device .regs .temperature) (stagedIn k w .device .regs .lut)
-  unfolding staged settled
+  unfolding staged runSettled
   regs-staged = refl
 
   -- of the registers it changes the temperature and the LUT alone
@@ -89,17 +89,17 @@ module _ (Q : ℕ → Entries → Type 0)
       either After (two && bitOf (getD options 5 0) 6) (noted time RamPingPong s) s (noted-holds Q reports loads time RamPingPong s h) h
 
   module _ (blackWhite red gates : List ℕ) (d : Ssd1677) where
-    begun-holds : (two : Bool) (s : Step) (luts : List ℕ) → After s → Shown (begun blackWhite red gates d two s luts)
-    unfolding begun
+    begun-holds : (two : Bool) (s : Step) (luts : List ℕ) → After s → Shown (displayBegun blackWhite red gates d two s luts)
+    unfolding displayBegun
     begun-holds two s luts h =
         let ns = durationOf (waveformOf (s .run .lut) (d .config .timing .«frame_period»)) in
         let a = warned (d .now) two (d .regs .«display_option») s in
         waited-holds Q reports loads ns (a .run) (a .log) (warned-holds (d .now) two (d .regs .«display_option») s h)
 
-    shown-holds : (wanted two : Bool) (s : Step) (luts : List ℕ) → After s → Shown (shown blackWhite red gates d wanted two s luts)
-    unfolding shown
+    shown-holds : (wanted two : Bool) (s : Step) (luts : List ℕ) → After s → Shown (displayShown blackWhite red gates d wanted two s luts)
+    unfolding displayShown
     shown-holds wanted two s luts h =
-        let x = begun blackWhite red gates d two s luts in
+        let x = displayBegun blackWhite red gates d two s luts in
         let unpowered = unchanged (d .display) luts (noted (d .now) (WithoutAnalog stage.Display) s) in
         let unclocked = unchanged (d .display) luts (noted (d .now) (WithoutClock stage.Display) s) in
         either Shown (wanted && s .run .«waveform_found») (pick (s .run .clock) (pick (s .run .analog) x unpowered) unclocked)
@@ -121,7 +121,7 @@ module _ (Q : ℕ → Entries → Type 0)
   module _ (k : Lent) (w : WithBuffers) where
     staged-holds : Q (w .device .regs .temperature) (entries (w .device .journal) (w .log))
         → Q (stagedIn k w .device .regs .temperature) (entries (stagedIn k w .device .journal) (stagedIn k w .log))
-    unfolding staged settled
+    unfolding staged runSettled
     staged-holds h =
         let s = withLuts (w .device) (w .luts) (w .log) in
         let control = controlOf (w .device .regs .«update_control_2») in

@@ -9,9 +9,9 @@ use Rattle.diagnostic.specs.Log.{Entries, reservedReported}
 use Rattle.diagnostic.specs.declared.Stage.the-variants.{HvReadyDetection, VciDetection}
 use Rattle.device.specs.declared.Ssd1677.{Ssd1677}
 use Rattle.device.specs.Parts.{withJournal}
-use Rattle.chip.specs.Close.{WithLog, withLog, entriesOf}
+use Rattle.world.specs.World.{WithLog, withLog, WithRam, withRam}
+use Rattle.chip.specs.Close.{entriesOf}
 use Rattle.start.specs.Start.{withBusyFor, isPowered, unpowered}
-use Rattle.acts.specs.Ram.{WithRam, withRam}
 use Rattle.acts.specs.Reserved.{reserved, checked}
 use Rattle.acts.specs.Acts.{asleep, zeros, sleeps, slept, withHvNotReady, hvDetected, hvReady, vciLevel, withVciLow, vciDetected, vciSensed}
 

@@ -11,9 +11,8 @@ use Rattle.device.specs.declared.Ssd1677.{Ssd1677}
 use Rattle.device.specs.declared.Power.the-variants.{Asleep}
 use Rattle.device.specs.declared.Deadline.the-variants.{Never}
 use Rattle.device.specs.Parts.{withSlept, withStatus}
-use Rattle.chip.specs.Close.{WithLog, withLog}
+use Rattle.world.specs.World.{WithLog, withLog, WithRam, withRam, on, deviceInRam, logInRam}
 use Rattle.start.specs.Start.{withBusyFor, isPowered, unpowered}
-use Rattle.acts.specs.Ram.{WithRam, withRam, onDevice, onLog}
 use Rattle.acts.specs.Reserved.{checked}
 
 -- asleep: the supplies off, and BUSY without an end
@@ -25,18 +24,18 @@ abbrev pub zeros : List ℕ → List ℕ
 zeros plane = tab (length plane) (λ _. 0)
 
 -- both planes lost
-abbrev pub emptied : WithRam → WithRam
-emptied w = withRam (w .device) (zeros (w .blackWhite)) (zeros (w .red)) (w .log)
+abbrev pub ramLost : WithRam → WithRam
+ramLost w = withRam (w .device) (zeros (w .blackWhite)) (zeros (w .red)) (w .log)
 
 -- bits 1:0 of 0x10: 00 stays awake; 11 sleeps with the RAM lost; the reserved 01 and 10 sleep with the RAM kept (ASSUMPTION of mod.rs)
 unfoldable pub sleeps : ℕ → WithRam → WithRam
 sleeps byte w =
     pick (eqb (byte % 4) 0) w
-    (pick (eqb (byte % 4) 3) (onDevice asleep (emptied w)) (onDevice asleep w))
+    (pick (eqb (byte % 4) 3) (on deviceInRam asleep (ramLost w)) (on deviceInRam asleep w))
 
 -- 0x10: 00h and 03h alone are listed
 unfoldable pub slept : ℕ → WithRam → WithRam
-slept byte w = sleeps byte (onLog (checked (eqb byte 0 || eqb byte 3) 0x10 byte) w)
+slept byte w = sleeps byte (on logInRam (checked (eqb byte 0 || eqb byte 3) 0x10 byte) w)
 
 -- bit 5 of the status byte: the HV is not ready
 abbrev pub withHvNotReady : Ssd1677 → Bool → Ssd1677

@@ -1,4 +1,3 @@
 -- The root of acts' specs.
-pub mod Ram
 pub mod Reserved
 pub mod Acts

@@ -3,7 +3,8 @@ use Prim.Native.Nat.{ℕ}
 use mathlib.Core.Bool.{Bool}
 use Rattle.numbers.specs.Choice.{pick}
 use Rattle.diagnostic.specs.Log.{reservedReported}
-use Rattle.chip.specs.Close.{WithLog, entriesOf}
+use Rattle.world.specs.World.{WithLog}
+use Rattle.chip.specs.Close.{entriesOf}
 use Rattle.chip.specs.Report.{withEntries}
 
 -- 30, unless the command has reported one before

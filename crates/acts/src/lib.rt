@@ -2,7 +2,7 @@
 // at once do is defined here too; the functions are in `deep_sleep` and `detection`.
 ghost use mathlib.Core.Path.{_≡_};
 ghost use lib.ListN.{length};
-ghost use Rattle.chip.specs.Close.{withLog};
+ghost use Rattle.world.specs.World.{withLog};
 ghost use Rattle.start.specs.Start.{withBusyFor};
 ghost use Rattle.acts.specs.Reserved.{reserved, checked};
 use device::Ssd1677;

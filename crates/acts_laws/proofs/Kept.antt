@@ -18,14 +18,14 @@ use Rattle.device.specs.declared.Status.{Status}
 use Rattle.device.specs.declared.Bus.{Bus}
 use Rattle.device.specs.declared.Deadline.the-variants.{At}
 use Rattle.device.specs.Parts.{withStatus, withUntil}
+use Rattle.world.specs.World.{WithLog, withLog, WithRam, on, deviceInRam, logInRam}
 use Rattle.registers.proofs.Bounds.{Bounded}
 use Rattle.moment.specs.Moments.{afterNs, busyFor}
-use Rattle.chip.specs.Close.{WithLog, withLog, entriesOf}
+use Rattle.chip.specs.Close.{entriesOf}
 use Rattle.chip.specs.Report.{logged}
 use Rattle.start.specs.Start.{withBusyFor, isPowered, unpowered}
-use Rattle.acts.specs.Ram.{WithRam, withRam, onDevice, onLog}
 use Rattle.acts.specs.Reserved.{reserved, checked}
-use Rattle.acts.specs.Acts.{asleep, emptied, sleeps, slept, withHvNotReady, hvDetected, hvReady, vciLevel, withVciLow, vciDetected, vciSensed}
+use Rattle.acts.specs.Acts.{asleep, ramLost, sleeps, slept, withHvNotReady, hvDetected, hvReady, vciLevel, withVciLow, vciDetected, vciSensed}
 
 -- what stays of the state
 pub record Same (d e : Ssd1677) : Type 0 where
@@ -82,7 +82,7 @@ ram-then u v w p q =
     }
 
 -- what leaves the planes
-pub on-log : (f : WithLog → WithLog) (w : WithRam) → Kept (withLog (w .device) (w .log)) (f (withLog (w .device) (w .log))) → KeptRam w (onLog f w)
+pub on-log : (f : WithLog → WithLog) (w : WithRam) → Kept (withLog (w .device) (w .log)) (f (withLog (w .device) (w .log))) → KeptRam w (on logInRam f w)
 on-log f w p = record { same = p .same; sound = p .sound; black-white-long = refl; red-long = refl }
 
 -- reports
@@ -192,7 +192,7 @@ module _ (byte : ℕ) (k : WithLog) where
       let j = checked (leb 3 byte && ltb byte 8) 0x15 byte k in
       kept-then k j (vciDetected byte j) (checked-kept (leb 3 byte && ltb byte 8) 0x15 byte k) (vci-detected-kept byte j)
 
-asleep-kept : (w : WithRam) → KeptRam w (onDevice asleep w)
+asleep-kept : (w : WithRam) → KeptRam w (on deviceInRam asleep w)
 unfolding asleep
 asleep-kept w =
     record {
@@ -202,7 +202,7 @@ asleep-kept w =
       red-long = refl;
     }
 
-emptied-kept : (w : WithRam) → KeptRam w (emptied w)
+emptied-kept : (w : WithRam) → KeptRam w (ramLost w)
 emptied-kept w =
     record {
       same = same-all (w .device);
@@ -218,15 +218,15 @@ sleeps-kept : (byte : ℕ) (w : WithRam) → KeptRam w (sleeps byte w)
 unfolding sleeps
 sleeps-kept byte w = by (eqb (byte % 4) 0) (eqb (byte % 4) 3)
   where
-    by : (b c : Bool) → KeptRam w (pick b w (pick c (onDevice asleep (emptied w)) (onDevice asleep w)))
+    by : (b c : Bool) → KeptRam w (pick b w (pick c (on deviceInRam asleep (ramLost w)) (on deviceInRam asleep w)))
     by true c = ram-all w
-    by false true = ram-then w (emptied w) (onDevice asleep (emptied w)) (emptied-kept w) (asleep-kept (emptied w))
+    by false true = ram-then w (ramLost w) (on deviceInRam asleep (ramLost w)) (emptied-kept w) (asleep-kept (ramLost w))
     by false false = asleep-kept w
 
 pub slept-kept : (byte : ℕ) (w : WithRam) → KeptRam w (slept byte w)
 unfolding slept
 slept-kept byte w =
     let f = checked (eqb byte 0 || eqb byte 3) 0x10 byte in
-    ram-then w (onLog f w) (sleeps byte (onLog f w))
+    ram-then w (on logInRam f w) (sleeps byte (on logInRam f w))
     (on-log f w (checked-kept (eqb byte 0 || eqb byte 3) 0x10 byte (withLog (w .device) (w .log))))
-    (sleeps-kept byte (onLog f w))
+    (sleeps-kept byte (on logInRam f w))

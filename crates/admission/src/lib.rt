@@ -1,6 +1,7 @@
 // A command byte, once the clock has moved and the last command is closed: whether the chip hears it (mod.rs, `write_command`).
 ghost use mathlib.Core.Path.{_≡_};
-ghost use Rattle.activation.specs.Activation.{Activatable, withBuffers, lent};
+ghost use Rattle.world.specs.World.{withBuffers, lent};
+ghost use Rattle.activation.specs.Activation.{Activatable};
 ghost use Rattle.begin.specs.Begin.{begun};
 use device::Power;
 use device::Ssd1677;

@@ -5,7 +5,7 @@ use mathlib.Core.List.{List}
 use Prim.Native.Nat.{ℕ}
 use Rattle.config.specs.declared.Ssd1677Config.{Ssd1677Config}
 use Rattle.config.specs.Answer.{accepted, refused, firstOf}
-use Rattle.otp.specs.Table.{entriesOf, badTable}
+use Rattle.otp.specs.Table.{entryCount, badTable}
 use Rattle.otp.specs.Search.{anyOf}
 use Rattle.approximation.specs.Approximation.{approximate, approximateEntry, approximated}
 
@@ -15,7 +15,7 @@ module _ (config : Ssd1677Config) (otp : List ℕ) where
   refused-is h = rw h
 
   pub answered-is : (glass durations entries : Bool) → badTable otp ≡ false → glass ≡ approximate (config .optics .provenance)
-      → durations ≡ approximate (config .timing .provenance) → entries ≡ anyOf (approximateEntry otp) (entriesOf otp)
+      → durations ≡ approximate (config .timing .provenance) → entries ≡ anyOf (approximateEntry otp) (entryCount otp)
       → record { told = accepted; approximation = glass || durations || entries } ≡ approximated config otp
   unfolding approximated firstOf
   answered-is glass durations entries h g d e = rw (h, g, d, e)

@@ -10,7 +10,7 @@ use Rattle.config.specs.declared.Ssd1677Config.{Ssd1677Config}
 use Rattle.config.specs.Answer.{Answer, accepted, refused, firstOf}
 use Rattle.approximation.specs.declared.IsApproximation.{IsApproximation}
 use Rattle.approximation.specs.declared.IsApproximation.the-variants.{Is, BadTable}
-use Rattle.otp.specs.Table.{entriesOf, provenanceAt, badTable, tableTest}
+use Rattle.otp.specs.Table.{entryCount, provenanceAt, badTable, tableTest}
 use Rattle.otp.specs.Search.{anyOf}
 
 -- a provenance that is not measured
@@ -38,5 +38,5 @@ approximated config otp =
     record {
       told = firstOf (tableTest otp ∷ []);
       approximation = pick (badTable otp) false
-          (approximate (config .optics .provenance) || approximate (config .timing .provenance) || anyOf (approximateEntry otp) (entriesOf otp));
+          (approximate (config .optics .provenance) || approximate (config .timing .provenance) || anyOf (approximateEntry otp) (entryCount otp));
     }

@@ -1,7 +1,7 @@
 // Whether what the model shows rests on values not measured on a device (config.rs, `is_approximation`).
 ghost use mathlib.Core.Path.{_≡_};
 ghost use Prim.Native.Nat.{_<_};
-ghost use Rattle.otp.specs.Table.{entriesOf};
+ghost use Rattle.otp.specs.Table.{entryCount};
 ghost use Rattle.otp.specs.Search.{anyOf};
 ghost use Rattle.approximation.specs.Approximation.{approximate, approximateEntry, approximated, outcomeOf};
 use config::Ssd1677Config;
@@ -18,14 +18,14 @@ fn is_approximate(provenance: Provenance) -> bool
 }
 
 fn is_approximate_entry(otp: &[u8], entry: usize) -> bool
-    requires { ⌜ entry < entriesOf (now otp) ⌝ }
+    requires { ⌜ entry < entryCount (now otp) ⌝ }
     ensures { λ r. ⌜ r ≡ approximateEntry (now (otp .entry)) entry ⌝ }
 {
     otp[ENTRY_BYTES * entry + 1] == 0
 }
 
 fn any_approximate_entry(otp: &[u8]) -> bool
-    ensures { λ r. ⌜ r ≡ anyOf (approximateEntry (now (otp .entry))) (entriesOf (now (otp .entry))) ⌝ }
+    ensures { λ r. ⌜ r ≡ anyOf (approximateEntry (now (otp .entry))) (entryCount (now (otp .entry))) ⌝ }
 {
     let entries = otp.len() / ENTRY_BYTES;
     let mut entry: usize = 0;

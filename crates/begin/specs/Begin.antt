@@ -12,30 +12,18 @@ use Rattle.device.specs.declared.Power.the-variants.{Running, Asleep, InReset}
 use Rattle.device.specs.declared.Current.the-variants.{Active}
 use Rattle.device.specs.declared.Ssd1677.{Ssd1677}
 use Rattle.device.specs.Parts.{withBus, withCurrent}
+use Rattle.world.specs.World.{WithBuffers, Lent, on, deviceInBuffers, logInBuffers}
 use Rattle.command.specs.declared.Known.{Known}
 use Rattle.command.specs.declared.Known.the-variants.{Of, Unknown}
 use Rattle.command.specs.Table.{kindOf}
 use Rattle.busy.specs.Busy.{pending}
-use Rattle.chip.specs.Close.{WithLog, withLog}
 use Rattle.chip.specs.Report.{logged}
 use Rattle.start.specs.Start.{softReset, vcomSensed, pointed}
-use Rattle.activation.specs.Activation.{WithBuffers, withBuffers, Lent, activated}
-
--- what concerns the state alone
-abbrev pub onDevice : (Ssd1677 → Ssd1677) → WithBuffers → WithBuffers
-onDevice f w = withBuffers (f (w .device)) (w .states) (w .luts) (w .pixels) (w .log)
-
--- the state and the log put back
-abbrev pub putLog : WithBuffers → WithLog → WithBuffers
-putLog w k = withBuffers (k .device) (w .states) (w .luts) (w .pixels) (k .log)
-
--- what concerns the state and the log
-abbrev pub onLog : (WithLog → WithLog) → WithBuffers → WithBuffers
-onLog f w = putLog w (f (withLog (w .device) (w .log)))
+use Rattle.activation.specs.Activation.{activated}
 
 -- the command is the current one, with nothing written, read or reported
-unfoldable pub made : ℕ → Kind → Ssd1677 → Ssd1677
-made command kind d =
+unfoldable pub commandMade : ℕ → Kind → Ssd1677 → Ssd1677
+commandMade command kind d =
     withBus d
     (withCurrent (d .bus)
     (Active
@@ -52,18 +40,18 @@ made command kind d =
 -- what a command does when its byte arrives (mod.rs, `start_command`)
 unfoldable pub run : Lent → ℕ → WithBuffers → WithBuffers
 run k command w =
-    pick (eqb command 0x12) (onDevice softReset w)
+    pick (eqb command 0x12) (on deviceInBuffers softReset w)
     (pick (eqb command 0x20) (activated k w)
-    (pick (eqb command 0x28) (onLog vcomSensed w)
-    (pick (eqb command 0x24 || eqb command 0x26 || eqb command 0x27) (onLog (pointed command) w) w)))
+    (pick (eqb command 0x28) (on logInBuffers vcomSensed w)
+    (pick (eqb command 0x24 || eqb command 0x26 || eqb command 0x27) (on logInBuffers (pointed command) w) w)))
 
 -- by what Table 7-1 has for the command: 21, 22 and 23 leave it without data
-unfoldable pub byKind : Lent → ℕ → WithBuffers → Known → WithBuffers
-byKind k command w Unknown = onLog (logged (UnknownCommand command)) w
-byKind k command w (Of Reserved) = onLog (logged (ReservedCommand command)) w
-byKind k command w (Of Unsupported) = onLog (logged (UnsupportedCommand command)) w
-byKind k command w (Of (Write params)) = run k command (onDevice (made command (Write params)) w)
-byKind k command w (Of Read) = run k command (onDevice (made command Read) w)
+unfoldable pub commandByKind : Lent → ℕ → WithBuffers → Known → WithBuffers
+commandByKind k command w Unknown = on logInBuffers (logged (UnknownCommand command)) w
+commandByKind k command w (Of Reserved) = on logInBuffers (logged (ReservedCommand command)) w
+commandByKind k command w (Of Unsupported) = on logInBuffers (logged (UnsupportedCommand command)) w
+commandByKind k command w (Of (Write params)) = run k command (on deviceInBuffers (commandMade command (Write params)) w)
+commandByKind k command w (Of Read) = run k command (on deviceInBuffers (commandMade command Read) w)
 
 -- BUSY is high and the command is not the status read, 0x2F, which a busy chip takes
 abbrev pub isHeldOff : ℕ → Ssd1677 → Bool
@@ -71,6 +59,6 @@ isHeldOff command d = pending (d .bus .«busy_until») (d .now) && not (eqb comm
 
 -- by the supply and reset state: 29, 28, then 27
 unfoldable pub begun : Lent → ℕ → WithBuffers → Power → WithBuffers
-begun k command w InReset = onLog (logged (WhileInReset command)) w
-begun k command w Asleep = onLog (logged (WhileAsleep command)) w
-begun k command w Running = pick (isHeldOff command (w .device)) (onLog (logged (WhileBusy command)) w) (byKind k command w (kindOf command))
+begun k command w InReset = on logInBuffers (logged (WhileInReset command)) w
+begun k command w Asleep = on logInBuffers (logged (WhileAsleep command)) w
+begun k command w Running = pick (isHeldOff command (w .device)) (on logInBuffers (logged (WhileBusy command)) w) (commandByKind k command w (kindOf command))

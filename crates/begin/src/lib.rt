@@ -1,8 +1,9 @@
 // A command that the chip hears, by Table 7-1 (mod.rs, `write_command` and `start_command`).
 ghost use mathlib.Core.Path.{_≡_};
 ghost use Rattle.command.specs.Table.{kindOf};
-ghost use Rattle.activation.specs.Activation.{Activatable, withBuffers, lent};
-ghost use Rattle.begin.specs.Begin.{onDevice, made, run, byKind};
+ghost use Rattle.world.specs.World.{withBuffers, lent, on, deviceInBuffers};
+ghost use Rattle.activation.specs.Activation.{Activatable};
+ghost use Rattle.begin.specs.Begin.{commandMade, run, commandByKind};
 use command::Known;
 use device::Active;
 use device::Current;
@@ -13,7 +14,7 @@ use diagnostic::DiagnosticKind;
 
 // The command that later data belong to.
 fn make_current(state: Ssd1677, command: u8, kind: Kind) -> Ssd1677
-    ensures { λ r. ⌜ r ≡ made command kind state ⌝ }
+    ensures { λ r. ⌜ r ≡ commandMade command kind state ⌝ }
 {
     let active = Active {
         command,
@@ -84,7 +85,7 @@ fn accept(
     kind: Kind,
 ) -> Ssd1677
     requires { ⌜ Activatable state (now states) (now luts) (now pixels) (now «black_white») (now red) (now gates) (now log) ⌝ }
-    ensures { λ r. ⌜ withBuffers r (now (states .exit)) (now (luts .exit)) (now (pixels .exit)) (now (log .exit)) ≡ run (lent (now («black_white» .entry)) (now (red .entry)) (now (gates .entry)) (now (otp .entry))) command (onDevice (made command kind) (withBuffers state (now (states .entry)) (now (luts .entry)) (now (pixels .entry)) (now (log .entry)))) ⌝ }
+    ensures { λ r. ⌜ withBuffers r (now (states .exit)) (now (luts .exit)) (now (pixels .exit)) (now (log .exit)) ≡ run (lent (now («black_white» .entry)) (now (red .entry)) (now (gates .entry)) (now (otp .entry))) command (on deviceInBuffers (commandMade command kind) (withBuffers state (now (states .entry)) (now (luts .entry)) (now (pixels .entry)) (now (log .entry)))) ⌝ }
 {
     let current = make_current(state, command, kind);
     start_command(
@@ -115,9 +116,10 @@ pub fn decode(
     command: u8,
 ) -> Ssd1677
     requires { ⌜ Activatable state (now states) (now luts) (now pixels) (now «black_white») (now red) (now gates) (now log) ⌝ }
-    ensures { λ r. ⌜ withBuffers r (now (states .exit)) (now (luts .exit)) (now (pixels .exit)) (now (log .exit)) ≡ byKind (lent (now («black_white» .entry)) (now (red .entry)) (now (gates .entry)) (now (otp .entry))) command (withBuffers state (now (states .entry)) (now (luts .entry)) (now (pixels .entry)) (now (log .entry))) (kindOf command) ⌝ }
+    ensures { λ r. ⌜ withBuffers r (now (states .exit)) (now (luts .exit)) (now (pixels .exit)) (now (log .exit)) ≡ commandByKind (lent (now («black_white» .entry)) (now (red .entry)) (now (gates .entry)) (now (otp .entry))) command (withBuffers state (now (states .entry)) (now (luts .entry)) (now (pixels .entry)) (now (log .entry))) (kindOf command) ⌝ }
 {
     let known = command::kind(command);
+    // The last command was closed before this byte was looked at, so that data which follow are ignored: there is no more to do than to log.
     let Known::Of(kind) = known else {
         return chip::report(state, log, DiagnosticKind::UnknownCommand { command });
     };

@@ -17,6 +17,7 @@ use Rattle.device.specs.declared.Kind.the-variants.{Write, Read, Unsupported, R
 use Rattle.device.specs.declared.Power.{Power}
 use Rattle.device.specs.declared.Power.the-variants.{Running, Asleep, InReset}
 use Rattle.device.specs.declared.Ssd1677.{Ssd1677}
+use Rattle.world.specs.World.{WithLog, withLog, WithBuffers, Lent, on, deviceInBuffers, logInBuffers}
 use Rattle.command.specs.declared.Known.{Known}
 use Rattle.command.specs.declared.Known.the-variants.{Of, Unknown}
 use Rattle.command.specs.Table.{kindOf}
@@ -24,30 +25,29 @@ use Rattle.registers.proofs.Bounds.{Bounded, reset-bounded}
 use Rattle.guard_kinds.specs.Kinds.{currentFine}
 use Rattle.guard_kinds.proofs.SameKind.{active-fine}
 use Rattle.clock.specs.Advance.{Ready}
-use Rattle.chip.specs.Close.{WithLog, withLog}
 use Rattle.chip.specs.Report.{logged}
 use Rattle.moment.proofs.Current.{current-busy}
 use Rattle.reset.specs.Reset.{restored}
 use Rattle.start.specs.Start.{withBusyFor, softReset, isPowered, unpowered, sensingTime, vcomSensed, pointed}
 use Rattle.stages_laws.proofs.Kept.{either}
-use Rattle.activation.specs.Activation.{WithBuffers, Lent, activated}
+use Rattle.activation.specs.Activation.{activated}
 use Rattle.activation.proofs.Kept.{ready-activated}
 use Rattle.activation_laws.proofs.Parts.{config-activated, swing-activated, states-activated, luts-activated, current-activated, regs-activated, activated-holds}
-use Rattle.begin.specs.Begin.{onDevice, putLog, onLog, made, run, byKind, isHeldOff, begun}
+use Rattle.begin.specs.Begin.{commandMade, run, commandByKind, isHeldOff, begun}
 
 -- BUSY high for a span
 abbrev busyThen : ℕ → WithBuffers → WithBuffers
-busyThen ns w = onDevice (λ (d : Ssd1677). withBusyFor d ns) w
+busyThen ns w = on deviceInBuffers (λ (d : Ssd1677). withBusyFor d ns) w
 
 module _ (P : WithBuffers → Type 0)
-    (reports : (kind : DiagnosticKind) (w : WithBuffers) → P w → P (onLog (logged kind) w))
-    (makes : (command : ℕ) (kind : Kind) (w : WithBuffers) → kindOf command ≡ Of kind → P w → P (onDevice (made command kind) w))
-    (restores : (w : WithBuffers) → P w → P (onDevice restored w))
+    (reports : (kind : DiagnosticKind) (w : WithBuffers) → P w → P (on logInBuffers (logged kind) w))
+    (makes : (command : ℕ) (kind : Kind) (w : WithBuffers) → kindOf command ≡ Of kind → P w → P (on deviceInBuffers (commandMade command kind) w))
+    (restores : (w : WithBuffers) → P w → P (on deviceInBuffers restored w))
     (waits : (ns : ℕ) (w : WithBuffers) → P w → P (busyThen ns w))
     (activates : (k : Lent) (w : WithBuffers) → P w → P (activated k w)) where
-  reset-keeps : (w : WithBuffers) → P w → P (onDevice softReset w)
+  reset-keeps : (w : WithBuffers) → P w → P (on deviceInBuffers softReset w)
   unfolding softReset
-  reset-keeps w h = waits (restored (w .device) .config .timing .«soft_reset») (onDevice restored w) (restores w h)
+  reset-keeps w h = waits (restored (w .device) .config .timing .«soft_reset») (on deviceInBuffers restored w) (restores w h)
 
   module _ (w : WithBuffers) (h : P w) where
     -- the state and the log, and what is kept of them
@@ -55,7 +55,7 @@ module _ (P : WithBuffers → Type 0)
     entry = withLog (w .device) (w .log)
 
     abbrev Put : WithLog → Type 0
-    Put x = P (putLog w x)
+    Put x = P (logInBuffers .put w x)
 
     unpowered-keeps : Put (unpowered VcomSense entry)
     unfolding unpowered
@@ -88,11 +88,11 @@ module _ (P : WithBuffers → Type 0)
         (either P (eqb command 0x24 || eqb command 0x26 || eqb command 0x27) _ _ (pointed-keeps command) h)))
 
   module _ (k : Lent) (command : ℕ) (w : WithBuffers) (h : P w) where
-    accepted-keeps : (kind : Kind) → kindOf command ≡ Of kind → P (run k command (onDevice (made command kind) w))
-    accepted-keeps kind e = run-keeps (onDevice (made command kind) w) (makes command kind w e h) k command
+    accepted-keeps : (kind : Kind) → kindOf command ≡ Of kind → P (run k command (on deviceInBuffers (commandMade command kind) w))
+    accepted-keeps kind e = run-keeps (on deviceInBuffers (commandMade command kind) w) (makes command kind w e h) k command
 
-    kind-keeps : (known : Known) → kindOf command ≡ known → P (byKind k command w known)
-    unfolding byKind
+    kind-keeps : (known : Known) → kindOf command ≡ known → P (commandByKind k command w known)
+    unfolding commandByKind
     kind-keeps Unknown e = reports (UnknownCommand command) w h
     kind-keeps (Of Reserved) e = reports (ReservedCommand command) w h
     kind-keeps (Of Unsupported) e = reports (UnsupportedCommand command) w h
@@ -111,19 +111,19 @@ abbrev pub ReadyWith : WithBuffers → Type 0
 ReadyWith w = Ready (w .device) (w .states) (w .luts) (w .pixels)
 
 pub ready-begun : (k : Lent) (command : ℕ) (w : WithBuffers) (p : Power) → ReadyWith w → ReadyWith (begun k command w p)
-unfolding logged made restored
+unfolding logged commandMade restored
 ready-begun k command w p h = begun-keeps ReadyWith (λ kind w h. h) (λ command kind w e h. h) (λ w h. h) (λ ns w h. h) ready-activated k command w h p
 
 -- ---- the configuration and the swing
 pub config-begun : (k : Lent) (command : ℕ) (w : WithBuffers) (p : Power) → begun k command w p .device .config ≡ w .device .config
-unfolding logged made restored
+unfolding logged commandMade restored
 config-begun k command w p =
     begun-keeps (λ (x : WithBuffers). x .device .config ≡ w .device .config) (λ kind x h. h) (λ command kind x e h. h) (λ x h. h) (λ ns x h. h)
     (λ k x h. config-activated k x ∙ h)
     k command w refl p
 
 pub swing-begun : (k : Lent) (command : ℕ) (w : WithBuffers) (p : Power) → begun k command w p .device .panel .swing ≡ w .device .panel .swing
-unfolding logged made restored
+unfolding logged commandMade restored
 swing-begun k command w p =
     begun-keeps (λ (x : WithBuffers). x .device .panel .swing ≡ w .device .panel .swing) (λ kind x h. h) (λ command kind x e h. h) (λ x h. h) (λ ns x h. h)
     (λ k x h. swing-activated k x ∙ h)
@@ -148,7 +148,7 @@ pixels-begun k command w p h =
     ready-begun k command w p h .pixels-long ∙ states-begun k command w p ∙ sym (h .pixels-long)
 
 pub log-begun : (k : Lent) (command : ℕ) (w : WithBuffers) (p : Power) → length (w .log) ≡ 16384 → length (begun k command w p .log) ≡ 16384
-unfolding logged made restored
+unfolding logged commandMade restored
 log-begun k command w p h =
     begun-keeps (λ (x : WithBuffers). length (x .log) ≡ 16384)
     (λ kind x h. reported-length (entries (x .device .journal) (x .log)) (x .device .now) kind h)
@@ -159,7 +159,7 @@ log-begun k command w p h =
 -- ---- what refusal 13 asks of registers, log count and current command
 pub count-begun : (k : Lent) (command : ℕ) (w : WithBuffers) (p : Power) → w .device .journal .count ≤ 1024
     → begun k command w p .device .journal .count ≤ 1024
-unfolding logged made restored
+unfolding logged commandMade restored
 count-begun k command w p h =
     begun-keeps (λ (x : WithBuffers). x .device .journal .count ≤ 1024)
     (λ kind x h. reported-count (entries (x .device .journal) (x .log)) (x .device .now) kind h)
@@ -183,7 +183,7 @@ bounded-activated k w h =
     })
 
 pub bounded-begun : (k : Lent) (command : ℕ) (w : WithBuffers) (p : Power) → Bounded (w .device .regs) → Bounded (begun k command w p .device .regs)
-unfolding logged made restored
+unfolding logged commandMade restored
 bounded-begun k command w p h =
     begun-keeps (λ (x : WithBuffers). Bounded (x .device .regs)) (λ kind x h. h) (λ command kind x e h. h)
     (λ x h. reset-bounded (x .device .config .«user_id»)) (λ ns x h. h) bounded-activated
@@ -191,7 +191,7 @@ bounded-begun k command w p h =
 
 pub current-begun : (k : Lent) (command : ℕ) (w : WithBuffers) (p : Power) → currentFine (w .device .bus .current) ≡ true
     → currentFine (begun k command w p .device .bus .current) ≡ true
-unfolding logged made restored
+unfolding logged commandMade restored
 current-begun k command w p h =
     begun-keeps (λ (x : WithBuffers). currentFine (x .device .bus .current) ≡ true) (λ kind x h. h)
     (λ command kind x e h. active-fine _ e) (λ x h. h)

@@ -4,16 +4,16 @@ use mathlib.Core.List.{List}
 use Prim.Native.Nat.{ℕ}
 use Rattle.event.specs.declared.Event.{Event}
 use Rattle.power_on.specs.Start.{buffers, Powered}
-use Rattle.dispatch.specs.Dispatch.{World}
+use Rattle.world.specs.World.{World}
 use Rattle.traffic.specs.Traffic.{fed, made, feeding}
 use Rattle.bench.specs.Made.{headerOf}
 use Rattle.bench_device.specs.Whole.{ran, worldOf, ranOf, ranFrom}
 
 pub ran-on : (otp : List ℕ) (event : ℕ → Event) (n : ℕ) (p q : Powered) (left : World) {number count : ℕ} {header : List ℕ}
-    → q ≡ p → fed number count left ≡ feeding (made (q .buffers .gates) otp event) n 0 (worldOf q) → header ≡ headerOf (left .device .panel .image)
-    → ran count header (buffers (left .states) (left .luts) (left .pixels) (left .blackWhite) (left .red) (q .buffers .gates) (left .log)) ≡ ranFrom otp event n p
+    → q ≡ p → fed number count left ≡ feeding (made otp event) n 0 (worldOf q) → header ≡ headerOf (left .device .panel .image)
+    → ran count header (buffers (left .states) (left .luts) (left .pixels) (left .blackWhite) (left .red) (left .gates) (left .log)) ≡ ranFrom otp event n p
 unfolding ranFrom
 ran-on otp event n p q left {count = count} f e h =
-    (λ i. ran count (h i) (buffers (left .states) (left .luts) (left .pixels) (left .blackWhite) (left .red) (q .buffers .gates) (left .log)))
-    ∙ ap (ranOf (q .buffers .gates)) e
+    (λ i. ran count (h i) (buffers (left .states) (left .luts) (left .pixels) (left .blackWhite) (left .red) (left .gates) (left .log)))
+    ∙ ap ranOf e
     ∙ ap (ranFrom otp event n) f

@@ -10,7 +10,7 @@ use Rattle.config.specs.declared.Ssd1677Config.{Ssd1677Config}
 use Rattle.config.specs.declared.Ssd1677Timing.{Ssd1677Timing}
 use Rattle.event.specs.declared.Event.{Event}
 use Rattle.power_on.specs.Start.{Buffers, buffers, Powered}
-use Rattle.dispatch.specs.Dispatch.{World, world}
+use Rattle.world.specs.World.{World, world}
 use Rattle.traffic.specs.Traffic.{Fed, made, feeding}
 use Rattle.bench.specs.Made.{geometryOf, headerOf}
 
@@ -56,17 +56,18 @@ pub record Ran : Type 0 where
 abbrev pub ran : ℕ → List ℕ → Buffers → Ran
 ran made header b = record { made = made; header = header; buffers = b }
 
--- what a start leaves, but the gates
+-- what a start leaves
 abbrev pub worldOf : Powered → World
 worldOf p =
-    world (p .device) (p .buffers .states) (p .buffers .luts) (p .buffers .pixels) (p .buffers .blackWhite) (p .buffers .red) (p .buffers .log)
+    let b = p .buffers in
+    world (p .device) (b .states) (b .luts) (b .pixels) (b .blackWhite) (b .red) (b .gates) (b .log)
 
--- what events leave, beside the gates that no event changes
-abbrev pub ranOf : List ℕ → Fed World → Ran
-ranOf gates f =
+-- what events leave
+abbrev pub ranOf : Fed World → Ran
+ranOf f =
     ran (f .made) (headerOf (f .left .device .panel .image))
-    (buffers (f .left .states) (f .left .luts) (f .left .pixels) (f .left .blackWhite) (f .left .red) gates (f .left .log))
+    (buffers (f .left .states) (f .left .luts) (f .left .pixels) (f .left .blackWhite) (f .left .red) (f .left .gates) (f .left .log))
 
 -- n events from a start on
 unfoldable pub ranFrom : List ℕ → (ℕ → Event) → ℕ → Powered → Ran
-ranFrom otp event n p = ranOf (p .buffers .gates) (feeding (made (p .buffers .gates) otp event) n 0 (worldOf p))
+ranFrom otp event n p = ranOf (feeding (made otp event) n 0 (worldOf p))

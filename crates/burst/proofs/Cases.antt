@@ -14,19 +14,15 @@ use Rattle.device.specs.declared.Current.{Current}
 use Rattle.device.specs.declared.Current.the-variants as current
 use Rattle.device.specs.declared.Ssd1677.{Ssd1677}
 use Rattle.device.specs.Parts.{withNow, withCurrent, withPointed}
-use Rattle.moment.specs.Moments.{hasCome}
+use Rattle.moment.specs.Moments.{quietAt}
 use Rattle.data.specs.Most.{isStream}
 use Rattle.burst.specs.declared.Course.{Course}
 use Rattle.burst.specs.declared.Reached.{Reached}
-use Rattle.burst.specs.Running.{quietAt, step, taking, Ran, running}
+use Rattle.burst.specs.Running.{step, taking, Ran, running}
 use Rattle.burst.specs.Burst.{courseOf, startOf, receivedAs, reachedBy, Into, into, putBack, bursted, ranInto, burstOf}
 
-pub quiet-or-not : (c : Course) (moment : ℕ) (falls : Bool) → falls ≡ hasCome (c .«busy_until») moment
-    → (not (c .running && leb (c .ends) moment) && not falls) ≡ quietAt c moment
-quiet-or-not c moment falls e = rw e
-
 module _ (c : Course) (kind time byte latest : ℕ) (s : Reached) (plane : List ℕ) (quiet : Bool)
-    (later : latest ≡ max (s .latest) time) (tells : quiet ≡ quietAt c latest) where
+    (later : latest ≡ max (s .latest) time) (tells : quiet ≡ quietAt (c .running) (c .ends) (c .«busy_until») latest) where
   -- the byte was taken
   pub takes-it : (wrote : Bool) (counter : Counter) (received : ℕ) {p : List ℕ} → (eqb kind 2 && quiet) ≡ true → wrote ≡ true
       → wrote ≡ wroteAt plane (s .counter) → p ≡ writtenAt plane (s .counter) byte

@@ -1,24 +1,20 @@
 -- Bytes of RAM data one after the other, up to the first event that is more than such a byte (mod.rs, `write_data` and `write_ram`).
 use Prim.Native.Nat.{ℕ, zero, suc, _+_, min, max}
-use mathlib.Core.Bool.{Bool, _&&_, not}
+use mathlib.Core.Bool.{Bool, _&&_}
 use mathlib.Core.List.{List}
-use lib.Dec.{eqb, leb}
+use lib.Dec.{eqb}
 use lib.ListN.{getD}
 use Rattle.numbers.specs.Choice.{pick}
 use Rattle.numbers.specs.Saturation.{largest}
 use Rattle.counter.specs.Counter.{advancedOf}
 use Rattle.ram.specs.Plane.{wroteAt, writtenAt}
-use Rattle.moment.specs.Moments.{hasCome}
+use Rattle.moment.specs.Moments.{quietAt}
 use Rattle.burst.specs.declared.Course.{Course}
 use Rattle.burst.specs.declared.Reached.{Reached}
 
--- at a moment no display ends and BUSY does not fall
-abbrev pub quietAt : Course → ℕ → Bool
-quietAt c moment = not (c .running && leb (c .ends) moment) && not (hasCome (c .«busy_until») moment)
-
 -- the event is a data byte (docs/replay-format.md, kind 2), nothing else comes about at its time, and the plane has the counter's byte
 abbrev pub takes : Course → ℕ → ℕ → Reached → List ℕ → Bool
-takes c kind time s plane = (eqb kind 2 && quietAt c (max (s .latest) time)) && wroteAt plane (s .counter)
+takes c kind time s plane = (eqb kind 2 && quietAt (c .running) (c .ends) (c .«busy_until») (max (s .latest) time)) && wroteAt plane (s .counter)
 
 -- after the byte: the later clock, the counter's step, and one byte more, the count stopping at 65,535 (mod.rs)
 abbrev pub onward : Course → ℕ → Reached → Reached

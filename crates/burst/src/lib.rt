@@ -3,7 +3,7 @@
 ghost use mathlib.Core.Path.{_≡_};
 ghost use Prim.Native.Nat.{_-_, _≤_};
 ghost use lib.ListN.{length};
-ghost use Rattle.burst.specs.Running.{quietAt, step, taking, ran, running};
+ghost use Rattle.burst.specs.Running.{step, taking, ran, running};
 ghost use Rattle.burst.specs.Burst.{courseOf, reachedBy, into, ranInto, bursted, burstOf};
 use device::Active;
 use device::Current;
@@ -54,21 +54,13 @@ pub struct Burst {
     pub state: Ssd1677,
 }
 
-fn is_quiet(course: Course, latest: u64) -> bool
-    ensures { λ r. ⌜ r ≡ quietAt course latest ⌝ }
-{
-    let over = course.running & (course.ends <= latest);
-    let busy_until = course.busy_until;
-    let falls = moment::has_come(busy_until, latest);
-    !over & !falls
-}
-
 // One event, where it is a byte of RAM data and nothing more.
 fn take(plane: &mut [u8], course: Course, reached: Reached, kind: u8, time: u64, byte: u8) -> Taken
     ensures { λ r. ⌜ step (r .done) (r .reached) (now (plane .exit)) ≡ taking course kind time byte reached (now (plane .entry)) ⌝ }
 {
     let latest = numbers::max_u64(reached.latest, time);
-    let quiet = is_quiet(course, latest);
+    let busy_until = course.busy_until;
+    let quiet = moment::is_quiet(course.running, course.ends, busy_until, latest);
     if (kind == DATA) & quiet {
         let at = reached.counter;
         if ram::write(plane, at, byte) {

@@ -50,12 +50,7 @@ fn earlier_of(one: Deadline, other: Deadline) -> Deadline
         Deadline::Never => other,
         Deadline::At(a) => match other {
             Deadline::Never => Deadline::At(a),
-            Deadline::At(b) => {
-                if a < b {
-                    return Deadline::At(a);
-                }
-                Deadline::At(b)
-            }
+            Deadline::At(b) => Deadline::At(numbers::min_u64(a, b)),
         },
     }
 }

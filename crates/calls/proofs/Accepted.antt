@@ -8,6 +8,7 @@ use Rattle.otp.specs.Table.{badTable}
 use Rattle.ram.specs.declared.Byte.the-variants.{Nothing as none}
 use Rattle.device.specs.declared.Ssd1677.{Ssd1677}
 use Rattle.device.specs.Parts.{withConfig, withJournal}
+use Rattle.world.specs.World.{World, lentOf, deviceInWorld, glassInWorld, glassLogInWorld, buffersInWorld, planesInWorld}
 use Rattle.clock.specs.Advance.{advanced}
 use Rattle.guard_lengths.specs.declared.Lengths.{Lengths}
 use Rattle.guard_lengths.specs.declared.Lent.{Lent}
@@ -18,14 +19,14 @@ use Rattle.guard_lengths.specs.Lengths.{planeBytes, logBytes, fits, lengthsFit,
 use Rattle.guard.specs.Refusals.{guarded, guardedWithTable}
 use Rattle.guard_state.specs.State.{stateFine}
 use Rattle.query.specs.Outcome.{outcome, unless, stateGuarded}
-use Rattle.query.specs.Queries.{withAmbient, ambientSet, WithCount, withCount, emptied, diagnosticsTaken}
+use Rattle.query.specs.Queries.{withAmbient, ambientSet, WithCount, withCount, journalEmptied, diagnosticsTaken}
 use Rattle.wait.specs.Wait.{clockMoved}
 use Rattle.res.specs.Line.{lineTaken, lineMoved}
 use Rattle.low.specs.Command.{commandTaken, commandWritten}
 use Rattle.high.specs.Data.{dataIn, dataWritten}
 use Rattle.driven.specs.Read.{WithRead, withRead, readIn, dataRead}
-use Rattle.calls.specs.World.{World, Call, advance, set-reset, write-command, write-data, read-data, set-ambient, take-diagnostics, putDevice, putGlass, putGlassLog, putBuffers, putPlanes, glassOf, glassLogOf, buffersOf, planesOf, lentOf, back, called, taken}
-use Rattle.calls.specs.Sound.{lengthsIn, Sound}
+use Rattle.calls.specs.World.{Call, advance, set-reset, write-command, write-data, read-data, set-ambient, take-diagnostics, back, called, taken}
+use Rattle.calls.specs.Sound.{lengthsInWorld, Sound}
 use Rattle.calls.proofs.Parts.{lengths-pass, has, sound-long}
 
 -- ---- the guards let pass
@@ -79,20 +80,20 @@ module _ (otp : List ℕ) (w : World) (s : Sound otp w) where
   -- every call is accepted
   pub accepted-takes : (call : Call) → called otp w call ≡ outcome 0 (taken otp w call)
   unfolding clockMoved lineMoved commandWritten dataWritten dataRead ambientSet diagnosticsTaken
-  accepted-takes (advance time) = ap (back (putGlass w)) (granted _ (glassOf w) (advanced (w .luts) time (glassOf w)) glass-passes)
-  accepted-takes (set-reset time low) = ap (back (putGlassLog w)) (granted _ (glassLogOf w) (lineTaken (w .luts) time low (glassLogOf w)) log-passes)
+  accepted-takes (advance time) = ap (back (glassInWorld .put w)) (granted _ (glassInWorld .get w) (advanced (w .luts) time (glassInWorld .get w)) glass-passes)
+  accepted-takes (set-reset time low) = ap (back (glassLogInWorld .put w)) (granted _ (glassLogInWorld .get w) (lineTaken (w .luts) time low (glassLogInWorld .get w)) log-passes)
   accepted-takes (write-command time command) =
-      ap (back (putBuffers w))
-      (granted _ (buffersOf w) (commandTaken (lentOf otp w) time command (buffersOf w))
-      (three-pass (w .device) (lengthsIn w) otp (s .state) (s .lengths) (s .table)))
-  accepted-takes (write-data time byte) = ap (back (putPlanes w)) (granted _ (planesOf w) (dataIn (w .luts) time byte (planesOf w)) planes-pass)
+      ap (back (buffersInWorld .put w))
+      (granted _ (buffersInWorld .get w) (commandTaken (lentOf otp w) time command (buffersInWorld .get w))
+      (three-pass (w .device) (lengthsInWorld w) otp (s .state) (s .lengths) (s .table)))
+  accepted-takes (write-data time byte) = ap (back (planesInWorld .put w)) (granted _ (planesInWorld .get w) (dataIn (w .luts) time byte (planesInWorld .get w)) planes-pass)
   accepted-takes (read-data time) =
-      ap (back (λ (r : WithRead). putGlassLog w (r .left)))
-      (granted _ (withRead (glassLogOf w) none) (readIn (w .luts) (w .blackWhite) (w .red) time (glassLogOf w)) planes-pass)
+      ap (back (λ (r : WithRead). glassLogInWorld .put w (r .left)))
+      (granted _ (withRead (glassLogInWorld .get w) none) (readIn (w .luts) (w .blackWhite) (w .red) time (glassLogInWorld .get w)) planes-pass)
   accepted-takes (set-ambient register) =
-      ap (back (putDevice w))
+      ap (back (deviceInWorld .put w))
       (granted _ (w .device) (withConfig (w .device) (withAmbient (w .device .config) register)) (state-passes (w .device) (s .state)))
   accepted-takes take-diagnostics =
-      ap (back (λ (t : WithCount). putDevice w (t .device)))
-      (granted _ (withCount (w .device) 0) (withCount (withJournal (w .device) (emptied (w .device .journal))) (w .device .journal .count))
+      ap (back (λ (t : WithCount). deviceInWorld .put w (t .device)))
+      (granted _ (withCount (w .device) 0) (withCount (withJournal (w .device) (journalEmptied (w .device .journal))) (w .device .journal .count))
       (state-passes (w .device) (s .state)))

@@ -19,13 +19,13 @@ use Rattle.device.specs.declared.Deadline.the-variants.{At}
 use Rattle.device.specs.declared.Power.the-variants.{Running}
 use Rattle.device.specs.declared.Ssd1677.{Ssd1677}
 use Rattle.device.specs.Parts.{withUntil, withLoaded, withActivated}
+use Rattle.world.specs.World.{withGlass, WithBuffers, Lent}
 use Rattle.moment.specs.Moments.{afterNs, busyFor}
-use Rattle.clock.specs.Advance.{withGlass}
 use Rattle.stages.specs.declared.Run.{Run}
 use Rattle.stages.specs.Run.{controlOf, Step, noted, waited, withClock, withAnalog}
 use Rattle.stages_laws.proofs.Kept.{either}
-use Rattle.activation.specs.Display.{warned, displayOf, Displayed, unchanged, begun, shown}
-use Rattle.activation.specs.Activation.{analogOff, clockOff, settled, withLuts, Lent, before, during, staged, WithBuffers, stagedIn, activated}
+use Rattle.activation.specs.Display.{warned, displayOf, Displayed, unchanged, displayBegun, displayShown}
+use Rattle.activation.specs.Activation.{analogOff, clockOff, runSettled, withLuts, before, during, staged, stagedIn, activated}
 use Rattle.calls.specs.Sound.{inert, UnderWay, Held}
 use Rattle.calls.proofs.Clock.{Due, held-advanced}
 
@@ -61,8 +61,8 @@ same-end : (moment x y : ℕ) → y ≡ x → afterNs moment x ≤ afterNs momen
 same-end moment x y e = rw e (omega arith)
 
 module _ (blackWhite red gates : List ℕ) (d : Ssd1677) (two : Bool) (s : Step) (luts : List ℕ) where
-  begun-timed : Timed (d .now) (begun blackWhite red gates d two s luts)
-  unfolding begun displayOf waited
+  begun-timed : Timed (d .now) (displayBegun blackWhite red gates d two s luts)
+  unfolding displayBegun displayOf waited
   begun-timed run =
       let ns = durationOf (waveformOf (s .run .lut) (d .config .timing .«frame_period»)) in
       let a = warned (d .now) two (d .regs .«display_option») s in
@@ -70,10 +70,10 @@ module _ (blackWhite red gates : List ℕ) (d : Ssd1677) (two : Bool) (s : Step)
       (ap (λ (n : ℕ). min (n + ns) (largest 64)) (warned-ns (d .now) two (d .regs .«display_option») s))
 
   -- none runs but one that this activation starts
-  shown-timed : (wanted : Bool) → d .display .running ≡ false → Timed (d .now) (shown blackWhite red gates d wanted two s luts)
-  unfolding shown
+  shown-timed : (wanted : Bool) → d .display .running ≡ false → Timed (d .now) (displayShown blackWhite red gates d wanted two s luts)
+  unfolding displayShown
   shown-timed wanted still =
-      let x = begun blackWhite red gates d two s luts in
+      let x = displayBegun blackWhite red gates d two s luts in
       let unpowered = unchanged (d .display) luts (noted (d .now) (WithoutAnalog stage.Display) s) in
       let unclocked = unchanged (d .display) luts (noted (d .now) (WithoutClock stage.Display) s) in
       either (Timed (d .now)) (wanted && s .run .«waveform_found») (pick (s .run .clock) (pick (s .run .analog) x unpowered) unclocked)
@@ -100,8 +100,8 @@ off-longer moment analog clock ns r = rw (clock-ns clock (analogOff analog ns r)
 
 -- ---- BUSY
 settled-due : (d : Ssd1677) (r : Run) (display : Display) → d .bus .power ≡ Running → inert (d .bus .current) ≡ true
-    → (display .running ≡ true → display .ends ≤ afterNs (d .now) (r .ns)) → Due (settled d r display)
-unfolding settled
+    → (display .running ≡ true → display .ends ≤ afterNs (d .now) (r .ns)) → Due (runSettled d r display)
+unfolding runSettled
 settled-due d r display power current timed run ahead =
     let ends = timed run in
     let high = rises (d .bus) (d .now) (r .ns) (some-span (d .now) (r .ns) (omega arith)) in

@@ -16,17 +16,18 @@ use Rattle.device.specs.declared.Kind.the-variants.{Write, Read, Unsupported, R
 use Rattle.device.specs.declared.Power.{Power}
 use Rattle.device.specs.declared.Power.the-variants.{Running, Asleep, InReset}
 use Rattle.device.specs.declared.Ssd1677.{Ssd1677}
+use Rattle.world.specs.World.{WithLog, withLog, WithBuffers, Lent, on, deviceInBuffers, logInBuffers}
 use Rattle.command.specs.declared.Known.{Known}
 use Rattle.command.specs.declared.Known.the-variants.{Of, Unknown}
 use Rattle.command.specs.Table.{rows, kindOf}
 use Rattle.busy.specs.Busy.{pending}
-use Rattle.chip.specs.Close.{WithLog, withLog, closed}
+use Rattle.chip.specs.Close.{closed}
 use Rattle.chip.specs.Report.{logged}
 use Rattle.reset.specs.Reset.{restored}
 use Rattle.start.specs.Start.{withBusyFor, softReset, isPowered, unpowered, sensingTime, vcomSensed, pointed}
 use Rattle.stages_laws.proofs.Kept.{either}
-use Rattle.activation.specs.Activation.{WithBuffers, Lent, activated}
-use Rattle.begin.specs.Begin.{onDevice, onLog, made, run, byKind, isHeldOff, begun}
+use Rattle.activation.specs.Activation.{activated}
+use Rattle.begin.specs.Begin.{commandMade, run, commandByKind, isHeldOff, begun}
 use Rattle.calls.specs.Sound.{takesNone, UnderWay, Held}
 use Rattle.calls.proofs.Clock.{held-still, under-way-kept}
 use Rattle.calls.proofs.Activated.{held-activated}
@@ -87,28 +88,28 @@ HeldWith w = Held (w .device)
 
 -- ---- no display runs
 module _ (k : Lent) (command : ℕ) (w : WithBuffers) (still : w .device .display .running ≡ false) where
-  made-activated : (kind : Kind) → w .device .bus .power ≡ Running → takesNone kind ≡ true → HeldWith (activated k (onDevice (made command kind) w))
-  unfolding made
-  made-activated kind power none = held-activated k (onDevice (made command kind) w) power none still
+  made-activated : (kind : Kind) → w .device .bus .power ≡ Running → takesNone kind ≡ true → HeldWith (activated k (on deviceInBuffers (commandMade command kind) w))
+  unfolding commandMade
+  made-activated kind power none = held-activated k (on deviceInBuffers (commandMade command kind) w) power none still
 
-  made-still : (kind : Kind) → onDevice (made command kind) w .device .display .running ≡ false
-  unfolding made
+  made-still : (kind : Kind) → on deviceInBuffers (commandMade command kind) w .device .display .running ≡ false
+  unfolding commandMade
   made-still kind = still
 
-  run-held : (kind : Kind) → w .device .bus .power ≡ Running → kindOf command ≡ Of kind → HeldWith (run k command (onDevice (made command kind) w))
+  run-held : (kind : Kind) → w .device .bus .power ≡ Running → kindOf command ≡ Of kind → HeldWith (run k command (on deviceInBuffers (commandMade command kind) w))
   unfolding run
   run-held kind power e =
-      let v = onDevice (made command kind) w in
+      let v = on deviceInBuffers (commandMade command kind) w in
       let entry = withLog (v .device) (v .log) in
-      either HeldWith (eqb command 0x12) (onDevice softReset v) _ (held-still _ (reset-same (v .device) ∙ made-still kind))
+      either HeldWith (eqb command 0x12) (on deviceInBuffers softReset v) _ (held-still _ (reset-same (v .device) ∙ made-still kind))
       (when HeldWith (eqb command 0x20) (activated k v) _
       (λ is. made-activated kind power (activation-kind command kind (eqb-true command 0x20 is) e))
-      (either HeldWith (eqb command 0x28) (onLog vcomSensed v) _ (held-still _ (sensed-same entry ∙ made-still kind))
-      (either HeldWith (eqb command 0x24 || eqb command 0x26 || eqb command 0x27) (onLog (pointed command) v) v
+      (either HeldWith (eqb command 0x28) (on logInBuffers vcomSensed v) _ (held-still _ (sensed-same entry ∙ made-still kind))
+      (either HeldWith (eqb command 0x24 || eqb command 0x26 || eqb command 0x27) (on logInBuffers (pointed command) v) v
       (held-still _ (pointed-same entry command ∙ made-still kind)) (held-still _ (made-still kind)))))
 
-  kind-held : (known : Known) → w .device .bus .power ≡ Running → kindOf command ≡ known → HeldWith (byKind k command w known)
-  unfolding byKind logged
+  kind-held : (known : Known) → w .device .bus .power ≡ Running → kindOf command ≡ known → HeldWith (commandByKind k command w known)
+  unfolding commandByKind logged
   kind-held Unknown power e = held-still _ still
   kind-held (Of Reserved) power e = held-still _ still
   kind-held (Of Unsupported) power e = held-still _ still
@@ -120,7 +121,7 @@ module _ (k : Lent) (command : ℕ) (w : WithBuffers) (still : w .device .displa
   begun-still InReset power = held-still _ still
   begun-still Asleep power = held-still _ still
   begun-still Running power =
-      either HeldWith (isHeldOff command (w .device)) (onLog (logged (WhileBusy command)) w) (byKind k command w (kindOf command)) (held-still _ still)
+      either HeldWith (isHeldOff command (w .device)) (on logInBuffers (logged (WhileBusy command)) w) (commandByKind k command w (kindOf command)) (held-still _ still)
       (kind-held (kindOf command) power refl)
 
 -- ---- one runs
@@ -134,10 +135,10 @@ module _ (k : Lent) (w : WithBuffers) (u : UnderWay (w .device)) where
 
   -- 0x2F is taken: its data bytes are read
   status-under-way : UnderWay (begun k 0x2F w Running .device)
-  unfolding begun byKind run made kindOf lookup rows
+  unfolding begun commandByKind run commandMade kindOf lookup rows
   status-under-way = by (pending (w .device .bus .«busy_until») (w .device .now))
     where
-      by : (b : Bool) → UnderWay (pick (b && not (eqb 0x2F 0x2F)) (onLog (logged (WhileBusy 0x2F)) w) (onDevice (made 0x2F Read) w) .device)
+      by : (b : Bool) → UnderWay (pick (b && not (eqb 0x2F 0x2F)) (on logInBuffers (logged (WhileBusy 0x2F)) w) (on deviceInBuffers (commandMade 0x2F Read) w) .device)
       by true = under-way-kept (w .device) _ refl refl refl refl refl u
       by false = under-way-kept (w .device) _ refl refl refl refl refl u
 

@@ -14,8 +14,9 @@ use Rattle.device.specs.declared.Deadline.{Deadline}
 use Rattle.device.specs.declared.Deadline.the-variants.{At}
 use Rattle.device.specs.declared.Ssd1677.{Ssd1677}
 use Rattle.device.specs.Parts.{withNow, withBus}
+use Rattle.world.specs.World.{WithGlass}
 use Rattle.moment.specs.Moments.{lowered}
-use Rattle.clock.specs.Advance.{WithGlass, endingOf, glassOf, published, isOver, ended, quieted, clocked, advanced}
+use Rattle.clock.specs.Advance.{endingOf, glassOf, glassPublished, isOver, ended, quieted, clocked, advanced}
 use Rattle.calls.specs.Sound.{inert, UnderWay, Held}
 
 never : false ≡ true → ⊥
@@ -85,6 +86,6 @@ module _ (luts : List ℕ) (time : ℕ) (g : WithGlass) (due : Due (g .device)) 
   held-advanced = by (isOver (moved .device)) refl
     where
       by : (b : Bool) → isOver (moved .device) ≡ b
-          → Held (quieted (pick b (published moved (finished (endingOf (moved .device) (moved .device .display .ends) Whole) luts (glassOf moved))) moved) .device)
+          → Held (quieted (pick b (glassPublished moved (finished (endingOf (moved .device) (moved .device .display .ends) Whole) luts (glassOf moved))) moved) .device)
       by true e = held-still _ refl
       by false e = still-due e

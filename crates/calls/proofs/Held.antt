@@ -13,13 +13,12 @@ use Rattle.device.specs.declared.Deadline.the-variants.{At}
 use Rattle.device.specs.declared.Power.{Power}
 use Rattle.device.specs.declared.Power.the-variants.{Running, Asleep, InReset}
 use Rattle.device.specs.declared.Ssd1677.{Ssd1677}
+use Rattle.world.specs.World.{World, WithLog, withLog, WithGlass, WithGlassLog, withGlassLog, withRam, withBuffers, lentOf, on, deviceInGlassLog, logInGlassLog, glassInGlassLog, glassInWorld}
 use Rattle.busy.specs.Busy.{pending, busyIn, busyAt, earlier, displayEnd, deadlineOf}
-use Rattle.clock.specs.Advance.{WithGlass, advanced}
-use Rattle.chip.specs.Close.{WithLog, withLog, closed}
+use Rattle.clock.specs.Advance.{advanced}
+use Rattle.chip.specs.Close.{closed}
 use Rattle.chip.specs.Report.{logged}
-use Rattle.reset.specs.Reset.{restored, WithGlassLog, withGlassLog, onDevice, onLog, onGlass, isDriving, cutShort, dropped, cut, inReset, asserted, released, byLine}
-use Rattle.activation.specs.Activation.{withBuffers}
-use Rattle.acts.specs.Ram.{withRam}
+use Rattle.reset.specs.Reset.{restored, isDriving, displayCut, displayDropped, cut, inReset, asserted, released, byLine}
 use Rattle.reading.specs.Reading.{readTaken}
 use Rattle.reading_laws.proofs.Kept.{read-leaves, current-read}
 use Rattle.power_on.specs.Start.{Buffers, poweredOn, unstarted, Powered, powered, poweredUp, started}
@@ -29,7 +28,7 @@ use Rattle.low.specs.Command.{commandTaken}
 use Rattle.high.specs.Data.{dataIn}
 use Rattle.driven.specs.Read.{readIn}
 use Rattle.stages_laws.proofs.Kept.{either}
-use Rattle.calls.specs.World.{World, Call, advance, set-reset, write-command, write-data, read-data, set-ambient, take-diagnostics, glassOf, lentOf, taken, Typed}
+use Rattle.calls.specs.World.{Call, advance, set-reset, write-command, write-data, read-data, set-ambient, take-diagnostics, taken, Typed}
 use Rattle.calls.specs.Sound.{inert, UnderWay, Held}
 use Rattle.calls.proofs.Clock.{held-still, under-way-kept, held-advanced}
 use Rattle.calls.proofs.Begun.{held-closed, held-begun}
@@ -38,14 +37,14 @@ use Rattle.calls.proofs.Written.{held-data}
 -- ---- the reset line stops the display
 module _ (luts : List ℕ) where
   cut-still : (w : WithGlassLog) → cut luts w .device .display .running ≡ false
-  unfolding cut cutShort
+  unfolding cut displayCut
   cut-still w =
       either (λ (x : WithGlassLog). x .device .display .running ≡ false) (isDriving (w .device))
-      (onGlass (cutShort luts) (onLog (logged ResetDuringDisplay) w)) (onDevice dropped w) refl refl
+      (on glassInGlassLog (displayCut luts) (on logInGlassLog (logged ResetDuringDisplay) w)) (on deviceInGlassLog displayDropped w) refl refl
 
   asserted-still : (w : WithGlassLog) → asserted luts w .device .display .running ≡ false
   unfolding asserted inReset restored
-  asserted-still w = cut-still (onLog closed w)
+  asserted-still w = cut-still (on logInGlassLog closed w)
 
   -- none runs in reset
   none-in-reset : (d : Ssd1677) → Held d → d .bus .power ≡ InReset → (b : Bool) → d .display .running ≡ b → d .display .running ≡ false
@@ -76,8 +75,8 @@ module _ (luts : List ℕ) where
 held-read : (blackWhite red : List ℕ) (k : WithLog) (p : Power) → Held (k .device) → Held (readTaken blackWhite red k p .left .device)
 held-read blackWhite red k p h run =
     let l = read-leaves blackWhite red k p in
-    let u = h (ap (λ (x : Display). x .running) (sym (l .same-display)) ∙ run) in
-    under-way-kept (k .device) (readTaken blackWhite red k p .left .device) (l .same-display) (l .same-now) (l .same-power) (l .same-until)
+    let u = h (ap (λ (x : Display). x .running) (sym (l .rests .same-display)) ∙ run) in
+    under-way-kept (k .device) (readTaken blackWhite red k p .left .device) (l .rests .same-display) (l .rests .same-now) (l .same-power) (l .same-until)
     (current-read (λ (c : Current). inert c ≡ true) (λ a range nothing e. e) blackWhite red k p (u .inert-command)) u
 
 -- ---- every call
@@ -85,10 +84,10 @@ module _ (otp : List ℕ) (w : World) (h : Held (w .device)) where
   module _ (time : ℕ) where
     -- the clock has moved
     abbrev moved : WithGlass
-    moved = advanced (w .luts) time (glassOf w)
+    moved = advanced (w .luts) time (glassInWorld .get w)
 
     held-moved : Held (moved .device)
-    held-moved = held-advanced (w .luts) time (glassOf w) (λ run ahead. h run)
+    held-moved = held-advanced (w .luts) time (glassInWorld .get w) (λ run ahead. h run)
 
     line-holds : (low : Bool) → Held (taken otp w (set-reset time low) .device)
     unfolding lineTaken

@@ -9,28 +9,26 @@ use Rattle.diagnostic.specs.declared.Journal.{Journal}
 use Rattle.device.specs.declared.Active as the
 use Rattle.device.specs.declared.Current.{Current}
 use Rattle.device.specs.declared.Current.the-variants.{Ignoring, Active}
+use Rattle.world.specs.World.{World, withLog, WithGlass, withGlassLog, withRam, withBuffers, lentOf, glassInWorld}
 use Rattle.registers.proofs.Bounds.{Bounded}
 use Rattle.guard_lengths.specs.declared.Lent.the-variants.{Of}
 use Rattle.guard_kinds.specs.Kinds.{currentFine}
-use Rattle.clock.specs.Advance.{Ready, WithGlass, advanced}
-use Rattle.chip.specs.Close.{withLog, closed}
+use Rattle.clock.specs.Advance.{Ready, advanced}
+use Rattle.chip.specs.Close.{closed}
 use Rattle.clock.proofs.Arrived.{config-advanced, swing-advanced, regs-advanced, journal-advanced, current-advanced, states-advanced}
-use Rattle.reset.specs.Reset.{withGlassLog}
 use Rattle.reset.proofs.Kept.{ready-closed, ready-line}
-use Rattle.activation.specs.Activation.{withBuffers}
 use Rattle.activation.proofs.Kept.{ready-advanced}
 use Rattle.begin_laws.proofs.Kept.{config-begun, swing-begun, states-begun, luts-begun, pixels-begun, log-begun, count-begun, bounded-begun, current-begun}
-use Rattle.acts.specs.Ram.{withRam}
-use Rattle.data.specs.Data.{counted}
+use Rattle.data.specs.Data.{oneByteMore}
 use Rattle.data_laws.proofs.Kept.{data-leaves, current-kept}
-use Rattle.reading.specs.Reading.{counted as countedRead}
+use Rattle.reading.specs.Reading.{oneByteMore as countedRead}
 use Rattle.reading_laws.proofs.Kept.{read-leaves, current-read}
 use Rattle.res.specs.Line.{lineTaken}
 use Rattle.low.specs.Command.{commandTaken}
 use Rattle.high.specs.Data.{dataIn}
 use Rattle.driven.specs.Read.{readIn}
 use Rattle.entry_laws.proofs.Passed.{ready-fine}
-use Rattle.calls.specs.World.{World, Call, advance, set-reset, write-command, write-data, read-data, set-ambient, take-diagnostics, glassOf, lentOf, taken, Typed}
+use Rattle.calls.specs.World.{Call, advance, set-reset, write-command, write-data, read-data, set-ambient, take-diagnostics, taken, Typed}
 use Rattle.calls.specs.Sound.{Sound}
 use Rattle.calls.proofs.Parts.{fine-kept, long-kept, sound-fine, sound-long, is-sound}
 use Rattle.calls.proofs.Line.{closed-count, closed-length, closed-regs, closed-config, closed-swing, closed-current, line-leaves, current-line}
@@ -40,7 +38,7 @@ ignored : currentFine Ignoring ≡ true
 unfolding currentFine
 ignored = refl
 
-goes-on : (a : the.Active) (extra range : Bool) → currentFine (Active a) ≡ true → currentFine (Active (counted a extra range)) ≡ true
+goes-on : (a : the.Active) (extra range : Bool) → currentFine (Active a) ≡ true → currentFine (Active (oneByteMore a extra range)) ≡ true
 unfolding currentFine
 goes-on a extra range h = h
 
@@ -51,18 +49,18 @@ reads-on a range nothing h = h
 -- a call hands back as many states as it was lent
 pub states-kept : (otp : List ℕ) (w : World) (call : Call) → length (taken otp w call .states) ≡ length (w .states)
 unfolding lineTaken commandTaken dataIn readIn
-states-kept otp w (advance time) = states-advanced (w .luts) time (glassOf w)
+states-kept otp w (advance time) = states-advanced (w .luts) time (glassInWorld .get w)
 states-kept otp w (set-reset time low) =
-    let g = advanced (w .luts) time (glassOf w) in
+    let g = advanced (w .luts) time (glassInWorld .get w) in
     line-leaves (w .luts) low (withGlassLog (g .device) (g .states) (g .pixels) (w .log)) (g .device .bus .power) .states-long
-    ∙ states-advanced (w .luts) time (glassOf w)
+    ∙ states-advanced (w .luts) time (glassInWorld .get w)
 states-kept otp w (write-command time command) =
-    let g = advanced (w .luts) time (glassOf w) in
+    let g = advanced (w .luts) time (glassInWorld .get w) in
     let c = closed (withLog (g .device) (w .log)) in
     states-begun (lentOf otp w) command (withBuffers (c .device) (g .states) (w .luts) (g .pixels) (c .log)) (c .device .bus .power)
-    ∙ states-advanced (w .luts) time (glassOf w)
-states-kept otp w (write-data time byte) = states-advanced (w .luts) time (glassOf w)
-states-kept otp w (read-data time) = states-advanced (w .luts) time (glassOf w)
+    ∙ states-advanced (w .luts) time (glassInWorld .get w)
+states-kept otp w (write-data time byte) = states-advanced (w .luts) time (glassInWorld .get w)
+states-kept otp w (read-data time) = states-advanced (w .luts) time (glassInWorld .get w)
 states-kept otp w (set-ambient register) = refl
 states-kept otp w take-diagnostics = refl
 
@@ -76,29 +74,29 @@ module _ (otp : List ℕ) (w : World) (s : Sound otp w) where
   module _ (time : ℕ) where
     -- the clock has moved
     abbrev moved : WithGlass
-    moved = advanced (w .luts) time (glassOf w)
+    moved = advanced (w .luts) time (glassInWorld .get w)
 
     moved-ready : Ready (moved .device) (moved .states) (w .luts) (moved .pixels)
-    moved-ready = ready-advanced (w .luts) time (glassOf w) ready
+    moved-ready = ready-advanced (w .luts) time (glassInWorld .get w) ready
 
     moved-pixels : length (moved .pixels) ≡ length (w .pixels)
-    moved-pixels = moved-ready .pixels-long ∙ states-advanced (w .luts) time (glassOf w) ∙ sym (ready .pixels-long)
+    moved-pixels = moved-ready .pixels-long ∙ states-advanced (w .luts) time (glassInWorld .get w) ∙ sym (ready .pixels-long)
 
     moved-config : moved .device .config ≡ w .device .config
-    moved-config = config-advanced (w .luts) time (glassOf w)
+    moved-config = config-advanced (w .luts) time (glassInWorld .get w)
 
     moved-swing : moved .device .panel .swing ≡ w .device .panel .swing
-    moved-swing = swing-advanced (w .luts) time (glassOf w)
+    moved-swing = swing-advanced (w .luts) time (glassInWorld .get w)
 
     moved-bounded : Bounded (moved .device .regs)
-    moved-bounded = subst Bounded (sym (regs-advanced (w .luts) time (glassOf w))) (sound-fine otp w s .bounded)
+    moved-bounded = subst Bounded (sym (regs-advanced (w .luts) time (glassInWorld .get w))) (sound-fine otp w s .bounded)
 
     moved-count : moved .device .journal .count ≤ 1024
     moved-count =
-        subst (λ (j : Journal). j .count ≤ 1024) (sym (journal-advanced (w .luts) time (glassOf w))) (sound-fine otp w s .count)
+        subst (λ (j : Journal). j .count ≤ 1024) (sym (journal-advanced (w .luts) time (glassInWorld .get w))) (sound-fine otp w s .count)
 
     moved-current : currentFine (moved .device .bus .current) ≡ true
-    moved-current = ap currentFine (current-advanced (w .luts) time (glassOf w)) ∙ sound-fine otp w s .current
+    moved-current = ap currentFine (current-advanced (w .luts) time (glassInWorld .get w)) ∙ sound-fine otp w s .current
 
     -- a later state of the same configuration and swing, with its buffers
     later-sound : (v : World) → v .device .config ≡ moved .device .config → v .device .panel .swing ≡ moved .device .panel .swing
@@ -112,7 +110,7 @@ module _ (otp : List ℕ) (w : World) (s : Sound otp w) where
         (fine-kept (w .device) (v .device) (sound-fine otp w s) (ap (λ (c : Ssd1677Config). c .panel) same) (ap (λ (c : Ssd1677Config). c .timing) same)
         (swing ∙ moved-swing) bounded count current)
         (long-kept (w .device .config .panel) (v .device .config .panel) w v (sound-long otp w s) (ap (λ (c : Ssd1677Config). c .panel) same)
-        (states ∙ states-advanced (w .luts) time (glassOf w)) luts (pixels ∙ moved-pixels) log black-white red gates)
+        (states ∙ states-advanced (w .luts) time (glassInWorld .get w)) luts (pixels ∙ moved-pixels) log black-white red gates)
 
     clock-keeps : Sound otp (taken otp w (advance time))
     clock-keeps =
@@ -151,8 +149,8 @@ module _ (otp : List ℕ) (w : World) (s : Sound otp w) where
         let r = withRam (moved .device) (w .blackWhite) (w .red) (w .log) in
         let c = moved .device .bus .current in
         let l = data-leaves byte r c small in
-        let kept = l .sound (record { bounded = moved-bounded; room = moved-count; long = sound-long otp w s .log }) in
-        later-sound (taken otp w (write-data time byte)) (l .same-config) (ap (λ x. x .swing) (l .same-panel)) (kept .bounded) (kept .room)
+        let kept = l .rests .sound (record { bounded = moved-bounded; room = moved-count; long = sound-long otp w s .log }) in
+        later-sound (taken otp w (write-data time byte)) (l .rests .same-config) (ap (λ x. x .swing) (l .rests .same-panel)) (kept .bounded) (kept .room)
         (current-kept (λ (x : Current). currentFine x ≡ true) ignored goes-on byte r c refl moved-current) refl refl refl (kept .long)
         (l .black-white-long) (l .red-long) refl
 
@@ -162,8 +160,8 @@ module _ (otp : List ℕ) (w : World) (s : Sound otp w) where
         let k = withLog (moved .device) (w .log) in
         let p = moved .device .bus .power in
         let l = read-leaves (w .blackWhite) (w .red) k p in
-        let kept = l .sound (record { bounded = moved-bounded; room = moved-count; long = sound-long otp w s .log }) in
-        later-sound (taken otp w (read-data time)) (l .same-config) (ap (λ x. x .swing) (l .same-panel)) (kept .bounded) (kept .room)
+        let kept = l .rests .sound (record { bounded = moved-bounded; room = moved-count; long = sound-long otp w s .log }) in
+        later-sound (taken otp w (read-data time)) (l .rests .same-config) (ap (λ x. x .swing) (l .rests .same-panel)) (kept .bounded) (kept .room)
         (current-read (λ (x : Current). currentFine x ≡ true) reads-on (w .blackWhite) (w .red) k p moved-current) refl refl refl (kept .long)
         refl refl refl
 

@@ -16,12 +16,13 @@ use Rattle.device.specs.declared.Current.{Current}
 use Rattle.device.specs.declared.Current.the-variants.{Idle, Ignoring, Active}
 use Rattle.device.specs.declared.Power.{Power}
 use Rattle.device.specs.declared.Power.the-variants.{Running, Asleep, InReset}
+use Rattle.world.specs.World.{WithLog, withLog, WithGlassLog, on, deviceInGlassLog, logInGlassLog, glassInGlassLog}
 use Rattle.registers.proofs.Bounds.{Bounded, reset-bounded}
 use Rattle.guard_kinds.specs.Kinds.{currentFine}
-use Rattle.chip.specs.Close.{expectedOf, missing, WithLog, withLog, entriesOf, closed}
+use Rattle.chip.specs.Close.{expectedOf, missing, entriesOf, closed}
 use Rattle.chip.specs.Report.{logged}
 use Rattle.moment.proofs.Current.{current-busy}
-use Rattle.reset.specs.Reset.{restored, WithGlassLog, onDevice, onLog, onGlass, isDriving, cutShort, dropped, cut, inReset, asserted, released, byLine}
+use Rattle.reset.specs.Reset.{restored, isDriving, displayCut, displayDropped, cut, inReset, asserted, released, byLine}
 
 -- ---- 26 if parameters lack
 module _ (time : ℕ) (e : Entries) where
@@ -73,7 +74,7 @@ module _ (k : WithLog) where
 
 -- ---- the line
 -- what a step on the state, the glass and the log leaves
-pub record Leaves (w v : WithGlassLog) : Type 0 where
+pub record LineLeaves (w v : WithGlassLog) : Type 0 where
   pub same-config : v .device .config ≡ w .device .config
   pub same-swing : v .device .panel .swing ≡ w .device .panel .swing
   pub bounded : Bounded (w .device .regs) → Bounded (v .device .regs)
@@ -81,11 +82,11 @@ pub record Leaves (w v : WithGlassLog) : Type 0 where
   pub states-long : length (v .states) ≡ length (w .states)
   pub log-long : length (w .log) ≡ 16384 → length (v .log) ≡ 16384
 
-leaves-all : (w : WithGlassLog) → Leaves w w
+leaves-all : (w : WithGlassLog) → LineLeaves w w
 leaves-all w =
     record { same-config = refl; same-swing = refl; bounded = λ h. h; count = λ h. h; states-long = refl; log-long = λ h. h }
 
-leaves-then : (u v w : WithGlassLog) → Leaves u v → Leaves v w → Leaves u w
+leaves-then : (u v w : WithGlassLog) → LineLeaves u v → LineLeaves v w → LineLeaves u w
 leaves-then u v w p q =
     record {
       same-config = q .same-config ∙ p .same-config;
@@ -96,7 +97,7 @@ leaves-then u v w p q =
       log-long = λ h. q .log-long (p .log-long h);
     }
 
-leaves-closed : (w : WithGlassLog) → Leaves w (onLog closed w)
+leaves-closed : (w : WithGlassLog) → LineLeaves w (on logInGlassLog closed w)
 unfolding closed
 leaves-closed w =
     let k = withLog (w .device) (w .log) in
@@ -109,7 +110,7 @@ leaves-closed w =
       log-long = missing-length (w .device .now) (entriesOf k) (w .device .bus .current);
     }
 
-leaves-logged : (w : WithGlassLog) → Leaves w (onLog (logged ResetDuringDisplay) w)
+leaves-logged : (w : WithGlassLog) → LineLeaves w (on logInGlassLog (logged ResetDuringDisplay) w)
 unfolding logged
 leaves-logged w =
     let k = withLog (w .device) (w .log) in
@@ -122,8 +123,8 @@ leaves-logged w =
       log-long = reported-length (entriesOf k) (w .device .now) ResetDuringDisplay;
     }
 
-leaves-shortened : (luts : List ℕ) (w : WithGlassLog) → Leaves w (onGlass (cutShort luts) w)
-unfolding cutShort finished published
+leaves-shortened : (luts : List ℕ) (w : WithGlassLog) → LineLeaves w (on glassInGlassLog (displayCut luts) w)
+unfolding displayCut finished published
 leaves-shortened luts w =
     record {
       same-config = refl;
@@ -134,21 +135,21 @@ leaves-shortened luts w =
       log-long = λ h. h;
     }
 
-leaves-dropped : (w : WithGlassLog) → Leaves w (onDevice dropped w)
+leaves-dropped : (w : WithGlassLog) → LineLeaves w (on deviceInGlassLog displayDropped w)
 leaves-dropped w =
     record { same-config = refl; same-swing = refl; bounded = λ h. h; count = λ h. h; states-long = refl; log-long = λ h. h }
 
-leaves-cut : (luts : List ℕ) (w : WithGlassLog) → Leaves w (cut luts w)
+leaves-cut : (luts : List ℕ) (w : WithGlassLog) → LineLeaves w (cut luts w)
 unfolding cut
 leaves-cut luts w = by (isDriving (w .device))
   where
-    by : (b : Bool) → Leaves w (pick b (onGlass (cutShort luts) (onLog (logged ResetDuringDisplay) w)) (onDevice dropped w))
+    by : (b : Bool) → LineLeaves w (pick b (on glassInGlassLog (displayCut luts) (on logInGlassLog (logged ResetDuringDisplay) w)) (on deviceInGlassLog displayDropped w))
     by true =
-        let v = onLog (logged ResetDuringDisplay) w in
-        leaves-then w v (onGlass (cutShort luts) v) (leaves-logged w) (leaves-shortened luts v)
+        let v = on logInGlassLog (logged ResetDuringDisplay) w in
+        leaves-then w v (on glassInGlassLog (displayCut luts) v) (leaves-logged w) (leaves-shortened luts v)
     by false = leaves-dropped w
 
-leaves-restored : (w : WithGlassLog) → Leaves w (onDevice inReset (onDevice restored w))
+leaves-restored : (w : WithGlassLog) → LineLeaves w (on deviceInGlassLog inReset (on deviceInGlassLog restored w))
 unfolding inReset restored
 leaves-restored w =
     record {
@@ -160,21 +161,21 @@ leaves-restored w =
       log-long = λ h. h;
     }
 
-leaves-asserted : (luts : List ℕ) (w : WithGlassLog) → Leaves w (asserted luts w)
+leaves-asserted : (luts : List ℕ) (w : WithGlassLog) → LineLeaves w (asserted luts w)
 unfolding asserted
 leaves-asserted luts w =
-    let u = onLog closed w in
+    let u = on logInGlassLog closed w in
     let v = cut luts u in
-    leaves-then w u (onDevice inReset (onDevice restored v)) (leaves-closed w)
-    (leaves-then u v (onDevice inReset (onDevice restored v)) (leaves-cut luts u) (leaves-restored v))
+    leaves-then w u (on deviceInGlassLog inReset (on deviceInGlassLog restored v)) (leaves-closed w)
+    (leaves-then u v (on deviceInGlassLog inReset (on deviceInGlassLog restored v)) (leaves-cut luts u) (leaves-restored v))
 
-leaves-released : (w : WithGlassLog) → Leaves w (onDevice released w)
+leaves-released : (w : WithGlassLog) → LineLeaves w (on deviceInGlassLog released w)
 unfolding released
 leaves-released w =
     record { same-config = refl; same-swing = refl; bounded = λ h. h; count = λ h. h; states-long = refl; log-long = λ h. h }
 
 module _ (luts : List ℕ) where
-  pub line-leaves : (low : Bool) (w : WithGlassLog) (p : Power) → Leaves w (byLine luts low w p)
+  pub line-leaves : (low : Bool) (w : WithGlassLog) (p : Power) → LineLeaves w (byLine luts low w p)
   unfolding byLine
   line-leaves true w InReset = leaves-all w
   line-leaves true w Running = leaves-asserted luts w

@@ -9,6 +9,7 @@ use Rattle.config.specs.declared.PanelGeometry.{PanelGeometry}
 use Rattle.config.specs.declared.Ssd1677Timing.{Ssd1677Timing}
 use Rattle.otp.specs.Table.{badTable}
 use Rattle.device.specs.declared.Ssd1677.{Ssd1677}
+use Rattle.world.specs.World.{World}
 use Rattle.registers.proofs.Bounds.{Bounded}
 use Rattle.guard_lengths.specs.declared.Lent.{Lent}
 use Rattle.guard_lengths.specs.declared.Lent.the-variants.{Of}
@@ -18,8 +19,7 @@ use Rattle.guard_state.specs.State.{panelFine, swingFine, periodsFine, register
 use Rattle.guard_laws.proofs.Joined.{each}
 use Rattle.guard_laws.proofs.Accepted.{fine-registers, fine-lengths}
 use Rattle.guard_laws.proofs.Kept.{registers-pass, state-passes}
-use Rattle.calls.specs.World.{World}
-use Rattle.calls.specs.Sound.{lengthsIn, Sound}
+use Rattle.calls.specs.Sound.{lengthsInWorld, Sound}
 
 -- what 13 asks
 pub record Fine (d : Ssd1677) : Type 0 where
@@ -38,41 +38,18 @@ fine-parts d e =
     (swingFine (d .panel .swing) ∷ periodsFine (d .config .timing .«frame_period») ∷ registersFine (d .regs) ∷ countFine (d .journal .count)
     ∷ currentFine (d .bus .current) ∷ [])
     e in
-    let r = fine-registers (d .regs) (at 3) in
     record {
       panel = at 0;
       swing = at 1;
       periods = at 2;
-      bounded =
-          record {
-            mux-ten = r .mux;
-            entry-three = r .entry;
-            window-ten = record { x-start-ten = r .x-start; x-end-ten = r .x-end; y-start-ten = r .y-start; y-end-ten = r .y-end };
-            counter-ten = record { x-ten = r .x; y-ten = r .y };
-            temperature-twelve = r .temperature;
-          };
+      bounded = fine-registers (d .regs) (at 3);
       count = leb-true (d .journal .count) 1024 (at 4);
       current = at 5;
     }
 
 pub fine-passes : (d : Ssd1677) → Fine d → stateFine d ≡ true
 fine-passes d f =
-    let b = f .bounded in
-    state-passes d (f .panel) (f .swing) (f .periods)
-    (registers-pass (d .regs)
-    (record {
-      mux = b .mux-ten;
-      x-start = b .window-ten .x-start-ten;
-      x-end = b .window-ten .x-end-ten;
-      y-start = b .window-ten .y-start-ten;
-      y-end = b .window-ten .y-end-ten;
-      x = b .counter-ten .x-ten;
-      y = b .counter-ten .y-ten;
-      entry = b .entry-three;
-      temperature = b .temperature-twelve;
-    }))
-    (le-leb (d .journal .count) 1024 (f .count))
-    (f .current)
+    state-passes d (f .panel) (f .swing) (f .periods) (registers-pass (d .regs) (f .bounded)) (le-leb (d .journal .count) 1024 (f .count)) (f .current)
 
 -- another state of the same panel, timing and swing
 pub fine-kept : (d e : Ssd1677) → Fine d → e .config .panel ≡ d .config .panel → e .config .timing ≡ d .config .timing
@@ -97,9 +74,9 @@ pub record Long (p : PanelGeometry) (w : World) : Type 0 where
   pub red : length (w .red) ≡ 81600
   pub gates : length (w .gates) ≡ p .height
 
-pub long-parts : (p : PanelGeometry) (w : World) → lengthsFit p (lengthsIn w) ≡ true → Long p w
+pub long-parts : (p : PanelGeometry) (w : World) → lengthsFit p (lengthsInWorld w) ≡ true → Long p w
 long-parts p w e =
-    let f = fine-lengths p (lengthsIn w) e in
+    let f = fine-lengths p (lengthsInWorld w) e in
     record {
       states = f .states;
       luts = f .luts;
@@ -122,7 +99,7 @@ pub has : (n size : ℕ) → n ≡ size → fits (Of n) size ≡ true
 unfolding fits
 has n size e = eq-eqb n size e
 
-pub long-passes : (p : PanelGeometry) (w : World) → Long p w → lengthsFit p (lengthsIn w) ≡ true
+pub long-passes : (p : PanelGeometry) (w : World) → Long p w → lengthsFit p (lengthsInWorld w) ≡ true
 long-passes p w l =
     lengths-pass p (length (w .states)) (length (w .luts)) (length (w .pixels)) (Of (length (w .log))) (Of (length (w .blackWhite)))
     (Of (length (w .red))) (Of (length (w .gates))) (l .states) (l .luts) (l .pixels) (has (length (w .log)) logBytes (l .log))

@@ -7,11 +7,12 @@ use mathlib.Core.List.{List, [], _∷_}
 use Rattle.config.specs.declared.Ssd1677Config.{Ssd1677Config}
 use Rattle.config.specs.Answer.{isAccepted}
 use Rattle.device.specs.declared.Deadline.the-variants.{At}
+use Rattle.world.specs.World.{World}
 use Rattle.busy.specs.Busy.{busyAt, deadlineOf}
 use Rattle.guard.specs.declared.Refusal.the-variants.{Accepted}
 use Rattle.query.specs.Outcome.{Outcome, outcome, stateGuarded}
 use Rattle.power_on.specs.Start.{Buffers, started}
-use Rattle.calls.specs.World.{World, worldOf, Call, set-reset, called, taken, leftBy, AllTyped}
+use Rattle.calls.specs.World.{worldOf, Call, set-reset, called, taken, leftBy, AllTyped}
 use Rattle.calls.specs.Sound.{Sound, Held}
 use Rattle.calls.proofs.Accepted.{accepted-takes, state-passes}
 use Rattle.calls.proofs.Kept.{sound-kept}

@@ -1,12 +1,11 @@
 -- An accepted start leaves a sound state and sound buffers; the state that a refused one hands back, every call refuses with 13.
 -- Assumes nothing.
-use Prim.Native.Nat.{ℕ, zero, suc, zero-le, _≤_}
+use Prim.Native.Nat.{ℕ, zero-le, _≤_}
 use mathlib.Core.Path.{_≡_, refl, sym, ap, subst, _∙_}
 use mathlib.Core.Bool.{true, false}
-use mathlib.Core.List.{List, [], _∷_}
+use mathlib.Core.List.{List}
 use lib.IntN.{pos}
-use lib.ListN.{length, length-set}
-use borrow.Author.Tests.{not-false}
+use lib.ListN.{length}
 use Rattle.numbers.specs.Saturation.{satZ, least, most}
 use Rattle.numbers.proofs.Hold.{at-most}
 use Rattle.numbers.proofs.Lin.{is-le, le-out, whole}
@@ -15,31 +14,31 @@ use Rattle.config.specs.declared.PanelGeometry.{PanelGeometry}
 use Rattle.config.specs.declared.Ssd1677Config.{Ssd1677Config}
 use Rattle.config.specs.Answer.{isAccepted, firstOf}
 use Rattle.otp.specs.Table.{startTests}
-use Rattle.gates.specs.Gates.{physicalRow, gatesStored}
 use Rattle.panel.specs.Start.{panelAtPowerOn, powerOn}
 use Rattle.panel_laws.proofs.Start.{some-swing}
 use Rattle.device.specs.declared.Current.the-variants.{Idle}
 use Rattle.device.specs.declared.Ssd1677.{Ssd1677}
+use Rattle.world.specs.World.{World, deviceInWorld, glassInWorld, glassLogInWorld, buffersInWorld, planesInWorld}
 use Rattle.registers.proofs.Bounds.{reset-bounded}
 use Rattle.guard.specs.declared.Refusal.{Refusal}
 use Rattle.guard.specs.declared.Refusal.the-variants.{State}
 use Rattle.guard_lengths.specs.declared.Lengths.{Lengths}
 use Rattle.guard_kinds.specs.Kinds.{currentFine}
-use Rattle.guard_lengths.specs.Lengths.{lengthsFit}
 use Rattle.guard.specs.Refusals.{guarded, guardedWithTable}
 use Rattle.guard_state.specs.State.{swingFine, stateFine}
-use Rattle.guard_laws.proofs.Accepted.{none-refuses, FineLengths, fine-lengths}
-use Rattle.guard_laws.proofs.Started.{both, started-panel, started-swing, started-periods, started-table}
+use Rattle.guard_laws.proofs.Accepted.{FineLengths}
+use Rattle.guard_laws.proofs.Started.{started-panel, started-swing, started-periods, started-table}
 use Rattle.query.specs.Outcome.{outcome, unless, stateGuarded}
 use Rattle.query.specs.Queries.{WithCount, ambientSet, diagnosticsTaken}
-use Rattle.power_on.specs.Start.{Buffers, lengthsIn, bufferTest, allTests, poweredOn, cleared, filled, Powered, poweredUp, unstarted, started}
+use Rattle.power_on.specs.Start.{Buffers, lengthsIn, allTests, poweredOn, cleared, filled, Powered, poweredUp, unstarted, started}
+use Rattle.power_on.proofs.Accepted.{parameters, lengths, passed, left-is}
 use Rattle.power_on.proofs.Refused.{unstarted-refused}
 use Rattle.wait.specs.Wait.{clockMoved}
 use Rattle.res.specs.Line.{lineMoved}
 use Rattle.low.specs.Command.{commandWritten}
 use Rattle.high.specs.Data.{dataWritten}
 use Rattle.driven.specs.Read.{WithRead, dataRead}
-use Rattle.calls.specs.World.{World, worldOf, Call, advance, set-reset, write-command, write-data, read-data, set-ambient, take-diagnostics, putDevice, putGlass, putGlassLog, putBuffers, putPlanes, back, called}
+use Rattle.calls.specs.World.{worldOf, Call, advance, set-reset, write-command, write-data, read-data, set-ambient, take-diagnostics, back, called}
 use Rattle.calls.specs.Sound.{Sound}
 use Rattle.calls.proofs.Parts.{Fine, Long, is-sound}
 
@@ -52,23 +51,13 @@ idle : currentFine Idle ≡ true
 unfolding currentFine
 idle = refl
 
-gates-length : (g : PanelGeometry) (n : ℕ) (rows : List ℕ) → length (gatesStored g n rows) ≡ length rows
-unfolding gatesStored
-gates-length g zero rows = refl
-gates-length g (suc n) rows = length-set (gatesStored g n rows) (physicalRow g n) n ∙ gates-length g n rows
-
 module _ (c : Ssd1677Config) (otp : List ℕ) (b : Buffers) where
   module _ (accepts : isAccepted (firstOf (allTests c otp (lengthsIn b))) ≡ true) where
     tests : isAccepted (firstOf (startTests c otp)) ≡ true
-    tests = both (startTests c otp) (bufferTest (c .panel) (lengthsIn b) ∷ []) accepts .0
+    tests = parameters c otp (lengthsIn b) accepts
 
-    fit : lengthsFit (c .panel) (lengthsIn b) ≡ true
-    fit =
-        not-false (lengthsFit (c .panel) (lengthsIn b))
-        (none-refuses (bufferTest (c .panel) (lengthsIn b)) [] (both (startTests c otp) (bufferTest (c .panel) (lengthsIn b) ∷ []) accepts .1) .0)
-
-    lengths : FineLengths (c .panel) (lengthsIn b)
-    lengths = fine-lengths (c .panel) (lengthsIn b) fit
+    long : FineLengths (c .panel) (lengthsIn b)
+    long = lengths c otp (lengthsIn b) accepts
 
     powered-fine : Fine (poweredUp c b .device)
     unfolding poweredUp poweredOn panelAtPowerOn
@@ -86,13 +75,13 @@ module _ (c : Ssd1677Config) (otp : List ℕ) (b : Buffers) where
     unfolding poweredUp filled powerOn cleared
     powered-long =
         record {
-          states = length-tab (length (b .states)) _ ∙ lengths .states;
-          luts = length-tab (length (b .luts)) _ ∙ lengths .luts;
-          pixels = length-tab (length (b .pixels)) _ ∙ lengths .pixels;
-          log = length-tab (length (b .log)) _ ∙ lengths .log (length (b .log)) refl;
-          black-white = length-tab (length (b .blackWhite)) _ ∙ lengths .black-white (length (b .blackWhite)) refl;
-          red = length-tab (length (b .red)) _ ∙ lengths .red (length (b .red)) refl;
-          gates = gates-length (c .panel) (c .panel .height) (b .gates) ∙ lengths .gates (length (b .gates)) refl;
+          states = length-tab (length (b .states)) _ ∙ long .states;
+          luts = length-tab (length (b .luts)) _ ∙ long .luts;
+          pixels = length-tab (length (b .pixels)) _ ∙ long .pixels;
+          log = length-tab (length (b .log)) _ ∙ long .log (length (b .log)) refl;
+          black-white = length-tab (length (b .blackWhite)) _ ∙ long .black-white (length (b .blackWhite)) refl;
+          red = length-tab (length (b .red)) _ ∙ long .red (length (b .red)) refl;
+          gates = length-tab (c .panel .height) _;
         }
 
     same-panel : poweredUp c b .device .config .panel ≡ c .panel
@@ -104,16 +93,8 @@ module _ (c : Ssd1677Config) (otp : List ℕ) (b : Buffers) where
         is-sound otp (worldOf (poweredUp c b)) (started-table c otp tests) powered-fine
         (subst (λ (p : PanelGeometry). Long p (worldOf (poweredUp c b))) (sym same-panel) powered-long)
 
-  accepted-left : isAccepted (started c otp b .answer) ≡ true → started c otp b .left ≡ poweredUp c b
-  unfolding started
-  accepted-left h = rw h
-
-  accepted-tests : isAccepted (started c otp b .answer) ≡ true → isAccepted (firstOf (allTests c otp (lengthsIn b))) ≡ true
-  unfolding started
-  accepted-tests h = h
-
   pub started-sound : isAccepted (started c otp b .answer) ≡ true → Sound otp (worldOf (started c otp b .left))
-  started-sound h = subst (λ (p : Powered). Sound otp (worldOf p)) (sym (accepted-left h)) (powered-sound (accepted-tests h))
+  started-sound h = subst (λ (p : Powered). Sound otp (worldOf p)) (sym (left-is c otp b h)) (powered-sound (passed c otp b h))
 
   pub refused-start : isAccepted (started c otp b .answer) ≡ false → stateFine (started c otp b .left .device) ≡ false
   unfolding started
@@ -138,15 +119,15 @@ three-refuse d l otp e = rw e
 -- and leaves the world as given
 pub unfine-refused : (otp : List ℕ) (w : World) → stateFine (w .device) ≡ false → (call : Call) → called otp w call ≡ outcome 13 w
 unfolding clockMoved lineMoved commandWritten dataWritten dataRead ambientSet diagnosticsTaken
-unfine-refused otp w e (advance time) = ap (back (putGlass w)) (refused-13 _ _ _ (two-refuse (w .device) _ e))
-unfine-refused otp w e (set-reset time low) = ap (back (putGlassLog w)) (refused-13 _ _ _ (two-refuse (w .device) _ e))
-unfine-refused otp w e (write-command time command) = ap (back (putBuffers w)) (refused-13 _ _ _ (three-refuse (w .device) _ otp e))
-unfine-refused otp w e (write-data time byte) = ap (back (putPlanes w)) (refused-13 _ _ _ (two-refuse (w .device) _ e))
+unfine-refused otp w e (advance time) = ap (back (glassInWorld .put w)) (refused-13 _ _ _ (two-refuse (w .device) _ e))
+unfine-refused otp w e (set-reset time low) = ap (back (glassLogInWorld .put w)) (refused-13 _ _ _ (two-refuse (w .device) _ e))
+unfine-refused otp w e (write-command time command) = ap (back (buffersInWorld .put w)) (refused-13 _ _ _ (three-refuse (w .device) _ otp e))
+unfine-refused otp w e (write-data time byte) = ap (back (planesInWorld .put w)) (refused-13 _ _ _ (two-refuse (w .device) _ e))
 unfine-refused otp w e (read-data time) =
-    ap (back (λ (r : WithRead). putGlassLog w (r .left))) (refused-13 _ _ _ (two-refuse (w .device) _ e))
-unfine-refused otp w e (set-ambient register) = ap (back (putDevice w)) (refused-13 _ _ _ (alone-refuses (w .device) e))
+    ap (back (λ (r : WithRead). glassLogInWorld .put w (r .left))) (refused-13 _ _ _ (two-refuse (w .device) _ e))
+unfine-refused otp w e (set-ambient register) = ap (back (deviceInWorld .put w)) (refused-13 _ _ _ (alone-refuses (w .device) e))
 unfine-refused otp w e take-diagnostics =
-    ap (back (λ (t : WithCount). putDevice w (t .device))) (refused-13 _ _ _ (alone-refuses (w .device) e))
+    ap (back (λ (t : WithCount). deviceInWorld .put w (t .device))) (refused-13 _ _ _ (alone-refuses (w .device) e))
 
 -- what a refused start hands back, 13 refuses also where it is only asked (is_busy, busy_pin, next_deadline, config, panel_image,
 -- dropped_diagnostics)

@@ -12,7 +12,8 @@ use Rattle.device.specs.declared.Active as the
 use Rattle.device.specs.declared.Current.{Current}
 use Rattle.device.specs.declared.Current.the-variants.{Ignoring, Active}
 use Rattle.device.specs.Parts.{withBus, withCurrent, withJournal}
-use Rattle.chip.specs.Close.{WithLog, withLog, entriesOf, expectedOf, missing, fresh, closed}
+use Rattle.world.specs.World.{WithLog, withLog}
+use Rattle.chip.specs.Close.{entriesOf, expectedOf, missing, reservedUnreported, closed}
 use Rattle.chip.specs.Report.{logged}
 
 module _ (time : ℕ) (e : Entries) (current : Current) (a : the.Active) (want : ℕ) (is : current ≡ Active a) (wants : want ≡ expectedOf (a .kind)) where
@@ -25,7 +26,7 @@ module _ (time : ℕ) (e : Entries) (current : Current) (a : the.Active) (want :
   lacks-none h = rw (is, ← wants, le-ltb (a .received) want h)
 
 pub closes : (k : WithLog) (e : Entries) (j : Journal) (d : Ssd1677) (bus : Bus) (r : Ssd1677)
-    → e ≡ missing (k .device .now) (entriesOf k) (k .device .bus .current) → j ≡ fresh (e .journal) → d ≡ withJournal (k .device) j
+    → e ≡ missing (k .device .now) (entriesOf k) (k .device .bus .current) → j ≡ reservedUnreported (e .journal) → d ≡ withJournal (k .device) j
     → bus ≡ withCurrent (k .device .bus) Ignoring → r ≡ withBus d bus → withLog r (e .log) ≡ closed k
 unfolding closed
 closes k e j d bus r e₁ e₂ e₃ e₄ e₅ = rw (e₅, e₄, e₃, e₂, e₁)

@@ -1,19 +1,18 @@
 -- Closing the current command (mod.rs, `close_command`; SCOPE, Commands: 26 if parameters lack).
 use Prim.Native.Nat.{ℕ}
 use mathlib.Core.Bool.{false}
-use mathlib.Core.List.{List}
 use lib.Dec.{ltb}
 use Rattle.numbers.specs.Choice.{pick}
 use Rattle.diagnostic.specs.declared.Journal.{Journal}
 use Rattle.diagnostic.specs.declared.DiagnosticKind.the-variants.{MissingData}
 use Rattle.diagnostic.specs.Log.{Entries, entries, reported}
-use Rattle.device.specs.declared.Ssd1677.{Ssd1677}
 use Rattle.device.specs.declared.Kind.{Kind}
 use Rattle.device.specs.declared.Kind.the-variants.{Write, Read, Unsupported, Reserved}
 use Rattle.device.specs.declared.Params.the-variants.{Exactly, Between, Stream}
 use Rattle.device.specs.declared.Current.{Current}
 use Rattle.device.specs.declared.Current.the-variants.{Idle, Ignoring, Active}
 use Rattle.device.specs.Parts.{withBus, withCurrent, withJournal}
+use Rattle.world.specs.World.{WithLog, withLog}
 
 -- the fewest parameters that a command of the kind takes
 abbrev pub expectedOf : Kind → ℕ
@@ -33,26 +32,17 @@ missing time e (Active a) =
     (reported e time (MissingData (a .command) (expectedOf (a .kind)) (a .received)))
     e
 
--- the state with its log
-pub record WithLog : Type 0 where
-  pub device : Ssd1677
-  pub log : List ℕ
-
--- the two as one
-abbrev pub withLog : Ssd1677 → List ℕ → WithLog
-withLog d l = record { device = d; log = l }
-
 -- the journal and the log
 abbrev pub entriesOf : WithLog → Entries
 entriesOf k = entries (k .device .journal) (k .log)
 
 -- the next command may report a reserved value again
-abbrev pub fresh : Journal → Journal
-fresh j = record { count = j .count; dropped = j .dropped; «reserved_reported» = false }
+abbrev pub reservedUnreported : Journal → Journal
+reservedUnreported j = record { count = j .count; dropped = j .dropped; «reserved_reported» = false }
 
 -- the entries put back, and later data ignored
 abbrev pub ignoring : WithLog → Entries → WithLog
-ignoring k e = withLog (withBus (withJournal (k .device) (fresh (e .journal))) (withCurrent (k .device .bus) Ignoring)) (e .log)
+ignoring k e = withLog (withBus (withJournal (k .device) (reservedUnreported (e .journal))) (withCurrent (k .device .bus) Ignoring)) (e .log)
 
 -- 26 if parameters lack; then no command is current
 unfoldable pub closed : WithLog → WithLog

@@ -2,7 +2,8 @@
 use Rattle.diagnostic.specs.declared.DiagnosticKind.{DiagnosticKind}
 use Rattle.diagnostic.specs.Log.{Entries, reported}
 use Rattle.device.specs.Parts.{withJournal}
-use Rattle.chip.specs.Close.{WithLog, withLog, entriesOf}
+use Rattle.world.specs.World.{WithLog, withLog}
+use Rattle.chip.specs.Close.{entriesOf}
 
 -- the journal and the log put back
 abbrev pub withEntries : WithLog → Entries → WithLog

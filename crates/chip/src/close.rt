@@ -2,7 +2,8 @@
 ghost use mathlib.Core.Path.{_≡_};
 ghost use lib.ListN.{length};
 ghost use Rattle.diagnostic.specs.Log.{entries};
-ghost use Rattle.chip.specs.Close.{expectedOf, missing, fresh, withLog, closed};
+ghost use Rattle.world.specs.World.{withLog};
+ghost use Rattle.chip.specs.Close.{expectedOf, missing, reservedUnreported, closed};
 use device::Current;
 use device::Kind;
 use device::Params;
@@ -60,7 +61,7 @@ pub fn report_missing(journal: Journal, log: &mut [u8], current: Current, time: 
 
 // The next command may report a reserved value again.
 fn fresh_command(journal: Journal) -> Journal
-    ensures { λ r. ⌜ r ≡ fresh journal ⌝ }
+    ensures { λ r. ⌜ r ≡ reservedUnreported journal ⌝ }
 {
     let mut next = journal;
     next.reserved_reported = false;

@@ -1,7 +1,7 @@
 // The end of a command, and a report (mod.rs, `close_command`, `report`).
 ghost use mathlib.Core.Path.{_≡_};
 ghost use lib.ListN.{length};
-ghost use Rattle.chip.specs.Close.{withLog};
+ghost use Rattle.world.specs.World.{withLog};
 ghost use Rattle.chip.specs.Report.{logged};
 use device::Ssd1677;
 use device::part;

@@ -10,15 +10,16 @@ use Rattle.panel.specs.Finish.{finished}
 use Rattle.panel.specs.Finish as glass
 use Rattle.panel_laws.proofs.Exactly.{states-length}
 use Rattle.moment.proofs.Current.{current-lowered}
-use Rattle.clock.specs.Advance.{WithGlass, endingOf, glassOf, published, isOver, ended, clocked, advanced}
+use Rattle.world.specs.World.{WithGlass}
+use Rattle.clock.specs.Advance.{endingOf, glassOf, glassPublished, isOver, ended, clocked, advanced}
 
 -- what the end of a display leaves, whether it has come or not
 ended-leaves : {A : Type 0} (f : WithGlass → A) (luts : List ℕ) (g : WithGlass)
-    → f (published g (finished (endingOf (g .device) (g .device .display .ends) Whole) luts (glassOf g))) ≡ f g → f (ended luts g) ≡ f g
+    → f (glassPublished g (finished (endingOf (g .device) (g .device .display .ends) Whole) luts (glassOf g))) ≡ f g → f (ended luts g) ≡ f g
 unfolding ended
 ended-leaves f luts g e = by (isOver (g .device))
   where
-    by : (b : Bool) → f (pick b (published g (finished (endingOf (g .device) (g .device .display .ends) Whole) luts (glassOf g))) g) ≡ f g
+    by : (b : Bool) → f (pick b (glassPublished g (finished (endingOf (g .device) (g .device .display .ends) Whole) luts (glassOf g))) g) ≡ f g
     by true = e
     by false = refl
 

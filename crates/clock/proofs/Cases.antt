@@ -13,13 +13,14 @@ use Rattle.device.specs.declared.Deadline.{Deadline}
 use Rattle.device.specs.declared.Deadline.the-variants.{Never, At}
 use Rattle.device.specs.Parts.{withNow, withBus}
 use Rattle.device.specs.Parts as part
+use Rattle.world.specs.World.{WithGlass, withGlass}
 use Rattle.moment.specs.Moments.{hasCome, lowered}
-use Rattle.clock.specs.Advance.{WithGlass, withGlass, stopped, endingOf, glassOf, isOver, isQuiet, ended, quieted, clocked, advanced}
+use Rattle.clock.specs.Advance.{stopped, endingOf, glassOf, isOver, isQuiet, ended, quieted, clocked, advanced}
 
 module _ (luts : List ℕ) (g : WithGlass) where
   pub ends : (after : Glass) (off : Display) (r : Ssd1677) → isOver (g .device) ≡ true
       → after ≡ finished (endingOf (g .device) (g .device .display .ends) Whole) luts (glassOf g)
-      → off ≡ stopped (g .device .display) → r ≡ part.withGlass (g .device) (after .panel) off
+      → off ≡ stopped (g .device .display) → r ≡ part.withPanelAndDisplay (g .device) (after .panel) off
       → withGlass r (after .states) (after .pixels) ≡ ended luts g
   unfolding ended
   ends after off r h e f k = rw (h, ← e, k, f)
@@ -36,8 +37,7 @@ neither false false e = (refl, refl)
 
 -- before its time BUSY does not fall
 still : (until : Deadline) (bus : Bus) (moment : ℕ) → hasCome until moment ≡ false → lowered until bus moment ≡ bus
-still Never bus moment h = refl
-still (At until) bus moment h = rw h
+still until bus moment h = rw h
 
 settled : (g : WithGlass) → hasCome (g .device .bus .«busy_until») (g .device .now) ≡ false → quieted g ≡ g
 settled g h = rw (still (g .device .bus .«busy_until») (g .device .bus) (g .device .now) h)
@@ -60,6 +60,3 @@ module _ (luts : List ℕ) (time : ℕ) (g : WithGlass) where
 
 pub moves : (d r : Ssd1677) (time n : ℕ) → n ≡ max (d .now) time → r ≡ withNow d n → r ≡ withNow d (max (d .now) time)
 moves d r time n e f = rw (f, e)
-
-pub rests-or-not : (d : Ssd1677) (come : Bool) → come ≡ hasCome (d .bus .«busy_until») (d .now) → (not (isOver d) && not come) ≡ isQuiet d
-rests-or-not d come e = rw e

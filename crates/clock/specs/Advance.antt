@@ -1,6 +1,6 @@
 -- What the clock's move does (mod.rs, `advance`; SCOPE, Time: time never goes back, the later clock counts).
 use Prim.Native.Nat.{ℕ, max}
-use mathlib.Core.Bool.{Bool, false, _&&_, not}
+use mathlib.Core.Bool.{Bool, false, _&&_}
 use mathlib.Core.List.{List}
 use lib.Dec.{leb}
 use lib.IntN.{ℤ}
@@ -12,21 +12,12 @@ use Rattle.waveform.specs.declared.Until.{Until}
 use Rattle.device.specs.declared.Ssd1677.{Ssd1677}
 use Rattle.device.specs.Parts.{withNow, withBus}
 use Rattle.device.specs.Parts as part
-use Rattle.moment.specs.Moments.{hasCome, lowered}
+use Rattle.world.specs.World.{WithGlass, withGlass}
+use Rattle.moment.specs.Moments.{lowered, quietAt}
 
 -- what finishing a display asks of the state and its buffers; 13 and 11 refuse all else
 abbrev pub Ready : Ssd1677 → List ℤ → List ℕ → List ℕ → Type 0
 Ready d states luts pixels = Finishable (d .config .timing .«frame_period») (d .panel .swing) states luts pixels
-
--- the state with the lent states and pixels
-pub record WithGlass : Type 0 where
-  pub device : Ssd1677
-  pub states : List ℤ
-  pub pixels : List ℕ
-
--- the three as one
-abbrev pub withGlass : Ssd1677 → List ℤ → List ℕ → WithGlass
-withGlass d s p = record { device = d; states = s; pixels = p }
 
 -- a display that no longer runs
 abbrev pub stopped : Display → Display
@@ -41,8 +32,8 @@ abbrev pub glassOf : WithGlass → Glass
 glassOf g = glass (g .device .panel) (g .states) (g .pixels)
 
 -- the glass that a display left, and the display stopped
-abbrev pub published : WithGlass → Glass → WithGlass
-published g after = withGlass (part.withGlass (g .device) (after .panel) (stopped (g .device .display))) (after .states) (after .pixels)
+abbrev pub glassPublished : WithGlass → Glass → WithGlass
+glassPublished g after = withGlass (part.withPanelAndDisplay (g .device) (after .panel) (stopped (g .device .display))) (after .states) (after .pixels)
 
 -- the display runs and the clock has reached its end
 abbrev pub isOver : Ssd1677 → Bool
@@ -50,13 +41,13 @@ isOver d = d .display .running && leb (d .display .ends) (d .now)
 
 -- at the clock no display ends and BUSY does not fall
 abbrev pub isQuiet : Ssd1677 → Bool
-isQuiet d = not (isOver d) && not (hasCome (d .bus .«busy_until») (d .now))
+isQuiet d = quietAt (d .display .running) (d .display .ends) (d .bus .«busy_until») (d .now)
 
 -- a display whose end has come is finished whole, dated its end
 unfoldable pub ended : List ℕ → WithGlass → WithGlass
 ended luts g =
     pick (isOver (g .device))
-    (published g (finished (endingOf (g .device) (g .device .display .ends) Whole) luts (glassOf g)))
+    (glassPublished g (finished (endingOf (g .device) (g .device .display .ends) Whole) luts (glassOf g)))
     g
 
 -- BUSY, at the clock

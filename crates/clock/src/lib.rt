@@ -2,7 +2,8 @@
 ghost use mathlib.Core.Path.{_≡_};
 ghost use Prim.Native.Nat.{max};
 ghost use Rattle.device.specs.Parts.{withNow};
-ghost use Rattle.clock.specs.Advance.{Ready, withGlass, stopped, ended, isQuiet, advanced};
+ghost use Rattle.world.specs.World.{withGlass};
+ghost use Rattle.clock.specs.Advance.{Ready, stopped, ended, isQuiet, advanced};
 use device::Ssd1677;
 use device::part;
 use panel::Display;
@@ -59,11 +60,10 @@ pub fn move_clock(state: Ssd1677, time: u64) -> Ssd1677
 pub fn is_quiet(state: Ssd1677) -> bool
     ensures { λ r. ⌜ r ≡ isQuiet state ⌝ }
 {
-    let over = state.display.running & (state.display.ends <= state.now);
+    let display = state.display;
     let bus = state.bus;
     let busy_until = bus.busy_until;
-    let falls = moment::has_come(busy_until, state.now);
-    !over & !falls
+    moment::is_quiet(display.running, display.ends, busy_until, state.now)
 }
 
 // Brings the chip to a moment; an earlier one than the latest seen counts as the latest.

@@ -4,8 +4,6 @@ pub mod read;
 ghost use mathlib.Core.Path.{_≡_};
 ghost use Prim.Native.Nat.{_+_, _^_, _<_, _≤_};
 ghost use lib.ListN.{length};
-ghost use lib.Signed.{ltZ};
-ghost use lib.IntN.{pos};
 ghost use Rattle.column.specs.Columns.{hasDigit, symbolAt, columnOf, whole, buffer, appended, lineEnd};
 
 const POWERS_OF_TEN: [u64; 20] = [
@@ -81,19 +79,13 @@ pub fn put(out: &mut [u8], at: usize, width: usize, negative: bool, n: u64) -> u
     at + width
 }
 
-fn is_negative(z: i64) -> bool
-    ensures { λ r. ⌜ r ≡ ltZ z (pos 0) ⌝ }
-{
-    z < 0
-}
-
 // The same of a whole number, in millivolts.
 pub fn put_millivolts(out: &mut [u8], at: usize, millivolts: i64) -> usize
     requires room { ⌜ at + 7 ≤ length (now out) ⌝ }
     ensures text { λ r. ⌜ buffer r (now (out .exit)) ≡ appended (buffer at (now (out .entry))) (whole 7 millivolts) ⌝ }
     ensures end { λ r. ⌜ r ≡ at + 7 ⌝ }
 {
-    let negative = is_negative(millivolts);
+    let negative = numbers::is_negative(millivolts);
     let n = numbers::magnitude_i64(millivolts);
     put(out, at, 7, negative, n)
 }

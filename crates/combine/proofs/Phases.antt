@@ -15,7 +15,7 @@ use Rattle.waveform.specs.Walks.{saturatedDrive, pushed, wholeStep}
 use Rattle.waveform.specs.Exact.{framesDrive, allDrives}
 use Rattle.waveform_laws.proofs.Products.{drive-like}
 use Rattle.combine.specs.Acts.{ActsAs, again, Extends, swingIn, drivenBy}
-use Rattle.combine.proofs.Powers.{Swing, acts-then, acts-start, acts-as}
+use Rattle.combine.proofs.Powers.{Swing, acts-then, acts-start}
 
 -- what a phase adds, in 64 bits and exactly
 abbrev added : Driving → Phase → ℤ

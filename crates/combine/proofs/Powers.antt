@@ -11,7 +11,7 @@ use Rattle.numbers.proofs.Lin.{whole, le-in, le-out}
 use Rattle.glass.specs.declared.Transfer.{Transfer}
 use Rattle.glass.specs.Transfers.{applyT, thenT, identityT}
 use Rattle.glass.proofs.Compose.{Sane, then-apply, apply-mono}
-use Rattle.glass.proofs.Exactly.{At, Moves, moves-start}
+use Rattle.glass.proofs.Exactly.{Moves, moves-start}
 use Rattle.combine.specs.Acts.{ActsAs, again, Repeated}
 
 -- ---- one after the other

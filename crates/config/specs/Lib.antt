@@ -1,5 +1,6 @@
 -- The root of config's specs.
 pub mod Temperature
+pub mod Mode
 pub mod Defaults
 pub mod Lowest
 pub mod Answer

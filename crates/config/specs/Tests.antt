@@ -1,5 +1,5 @@
--- Tests of a configuration that need no table: 1 to 5 (SCOPE, Refusals; config.rs, `validate`).
-use mathlib.Core.Bool.{_&&_, _||_}
+-- Tests of a configuration that need no table, 1 to 5, and the test of a lent buffer, 11 (SCOPE, Refusals; config.rs, `validate`).
+use mathlib.Core.Bool.{not, _&&_, _||_}
 use mathlib.Core.List.{List, [], _∷_, _++_}
 use Prim.Native.Nat.{ℕ, _+_, _%_}
 use lib.Dec.{eqb, ltb}
@@ -49,3 +49,7 @@ periodsTest periods = record { number = 5; value = zeroPeriod periods; refuses =
 -- 1, 2, 3, 4, 5
 abbrev pub configTests : Ssd1677Config → List Test
 configTests c = geometryTests (c .panel) ++ swingTest (c .optics) ∷ periodsTest (c .timing .«frame_period») ∷ []
+
+-- 11: a lent buffer's length is not the one asked
+abbrev pub lentTest : ℕ → ℕ → Test
+lentTest lent asked = record { number = 11; value = 0; refuses = not (eqb lent asked) }

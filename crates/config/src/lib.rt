@@ -7,6 +7,7 @@ ghost use Rattle.config.specs.Temperature.{coldest, warmest, sixteenthsO
 ghost use Rattle.config.specs.Answer.{isAccepted, firstOf, answerOf};
 ghost use Rattle.config.specs.Tests.{geometryTests, swingTest, periodsTest, configTests};
 ghost use Rattle.config.specs.Defaults.{defaultGateScan, defaultTiming};
+ghost use Rattle.config.specs.Mode.{modeNumber};
 use glass::Optics;
 use glass::Provenance;
 
@@ -176,6 +177,15 @@ pub enum DisplayMode {
     One,
     // Mode 2: the fast, differential waveform on the X4 (0xFC) and the custom-LUT one (0xCC).
     Two,
+}
+
+pub fn mode_number(mode: DisplayMode) -> u8
+    ensures { λ r. ⌜ r ≡ modeNumber mode ⌝ }
+{
+    match mode {
+        DisplayMode::One => 0,
+        DisplayMode::Two => 1,
+    }
 }
 
 // A sensor on the controller's own I2C, with the register it reads, of which the low twelve bits count.

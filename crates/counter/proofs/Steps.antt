@@ -10,16 +10,14 @@ use Rattle.numbers.specs.Choice.{pick, bitOf}
 use Rattle.counter.specs.declared.Window.{Window}
 use Rattle.counter.specs.declared.Counter.{Counter}
 use Rattle.counter.specs.declared.Entry.{Entry}
-use Rattle.counter.specs.declared.Next.{Next}
-use Rattle.counter.specs.declared.Next.the-variants.{To, Past}
-use Rattle.counter.specs.Counter.{stepOf, isPast, byteStep, rowStep, rowAfter, pixelAfter, xFirst, yFirst, advancedOf}
+use Rattle.counter.specs.Counter.{Next, To, Past, axisStep, isPast, byteStep, rowStep, rowAfter, pixelAfter, xFirst, yFirst, advancedOf}
 
 never : {n : ℕ} → To n ≡ Past → ⊥
 never e = let z : _≡_ {A = ℕ} 0 1 = cc in omega arith
 
 module _ (at end bound n : ℕ) (p : at ≤ bound) (q : end ≤ bound) where
-  pub step-below : (increments : Bool) → To n ≡ stepOf increments at end → n ≤ bound
-  unfolding stepOf
+  pub step-below : (increments : Bool) → To n ≡ axisStep increments at end → n ≤ bound
+  unfolding axisStep
   step-below true h = by (ltb at end) refl h
     where
       by : (t : Bool) → ltb at end ≡ t → To n ≡ pick t (To (at + 1)) Past → n ≤ bound
@@ -33,16 +31,16 @@ module _ (at end bound n : ℕ) (p : at ≤ bound) (q : end ≤ bound) where
 
 -- the test of an axis' end, by its direction
 module _ (at end : ℕ) where
-  pub past-up : leb end at ≡ isPast (stepOf true at end)
-  unfolding stepOf
+  pub past-up : leb end at ≡ isPast (axisStep true at end)
+  unfolding axisStep
   past-up = by (ltb at end) refl
     where
       by : (t : Bool) → ltb at end ≡ t → leb end at ≡ isPast (pick t (To (at + 1)) Past)
       by true e = lt-leb end at (ltb-true at end e)
       by false e = le-leb end at (ltb-false at end e)
 
-  pub past-down : leb at end ≡ isPast (stepOf false at end)
-  unfolding stepOf
+  pub past-down : leb at end ≡ isPast (axisStep false at end)
+  unfolding axisStep
   past-down = by (ltb end at) refl
     where
       by : (t : Bool) → ltb end at ≡ t → leb at end ≡ isPast (pick t (To (at - 1)) Past)
@@ -50,18 +48,18 @@ module _ (at end : ℕ) where
       by false e = le-leb at end (ltb-false end at e)
 
   -- an axis that is not past its end has room for a step, which is one more or one less
-  pub room-up : isPast (stepOf true at end) ≡ false → at < end
+  pub room-up : isPast (axisStep true at end) ≡ false → at < end
   room-up e = let h = leb-false end at (past-up ∙ e) in omega (arith, h)
 
-  pub room-down : isPast (stepOf false at end) ≡ false → end < at
+  pub room-down : isPast (axisStep false at end) ≡ false → end < at
   room-down e = let h = leb-false at end (past-down ∙ e) in omega (arith, h)
 
-  pub step-up : isPast (stepOf true at end) ≡ false → To (at + 1) ≡ stepOf true at end
-  unfolding stepOf
+  pub step-up : isPast (axisStep true at end) ≡ false → To (at + 1) ≡ axisStep true at end
+  unfolding axisStep
   step-up e = let h = lt-ltb at end (room-up e) in simp h
 
-  pub step-down : isPast (stepOf false at end) ≡ false → To (at - 1) ≡ stepOf false at end
-  unfolding stepOf
+  pub step-down : isPast (axisStep false at end) ≡ false → To (at - 1) ≡ axisStep false at end
+  unfolding axisStep
   step-down e = let h = lt-ltb end at (room-down e) in simp h
 
 not-true : false ≡ true → ⊥

@@ -6,8 +6,6 @@ use Rattle.numbers.specs.Choice.{pick, bitOf}
 use Rattle.counter.specs.declared.Window.{Window}
 use Rattle.counter.specs.declared.Counter.{Counter}
 use Rattle.counter.specs.declared.Entry.{Entry}
-use Rattle.counter.specs.declared.Next.{Next}
-use Rattle.counter.specs.declared.Next.the-variants.{To, Past}
 
 -- the window after reset: the whole RAM, 000h–3BFh by 000h–2A7h (ram.rs, `Window::RESET`)
 abbrev pub resetWindow : Window
@@ -17,10 +15,15 @@ resetWindow = record { «x_start» = 0; «x_end» = 959; «y_start» = 0; «y_en
 abbrev pub resetEntry : Entry
 resetEntry = record { 0 = 3 }
 
+-- where one step along an axis leads: to a place, or past the window's end
+pub data Next : Type 0 where
+  To : ℕ → Next
+  Past : Next
+
 -- a step along an axis towards the window's end: at or past the end there is none, otherwise it is one more or one less (§8.2–8.5)
-unfoldable pub stepOf : Bool → ℕ → ℕ → Next
-stepOf true at end = pick (ltb at end) (To (at + 1)) Past
-stepOf false at end = pick (ltb end at) (To (at - 1)) Past
+unfoldable pub axisStep : Bool → ℕ → ℕ → Next
+axisStep true at end = pick (ltb at end) (To (at + 1)) Past
+axisStep false at end = pick (ltb end at) (To (at - 1)) Past
 
 -- a step that is not there
 abbrev pub isPast : Next → Bool
@@ -29,11 +32,11 @@ isPast Past = true
 
 -- the counter's step in x, in bytes of eight pixels; ID0, bit 0 of the mode, says whether x increments (§8.2–8.5)
 abbrev pub byteStep : Counter → Window → Entry → Next
-byteStep c w e = stepOf (bitOf (e .0) 0) (c .x / 8) (w .«x_end» / 8)
+byteStep c w e = axisStep (bitOf (e .0) 0) (c .x / 8) (w .«x_end» / 8)
 
 -- the counter's step in y, in rows; ID1, bit 1 of the mode, says whether y increments (§8.2–8.5)
 abbrev pub rowStep : Counter → Window → Entry → Next
-rowStep c w e = stepOf (bitOf (e .0) 1) (c .y) (w .«y_end»)
+rowStep c w e = axisStep (bitOf (e .0) 1) (c .y) (w .«y_end»)
 
 -- the row after a step in y: past the end the window's start (§8.2–8.5)
 abbrev pub rowAfter : Next → ℕ → ℕ

@@ -69,13 +69,6 @@ impl Entry {
     }
 }
 
-// Where one step along an axis leads, as the counter's definitions have it.
-pub enum Next {
-    To(u16),
-    // At or past the window's end.
-    Past,
-}
-
 // Whether `at` lies between `a` and `b`, whatever their order.
 fn inside(at: u16, a: u16, b: u16) -> bool
     ensures { λ r. ⌜ r ≡ between at a b ⌝ }

@@ -4,12 +4,11 @@ use crate::Entry;
 use crate::Window;
 ghost use mathlib.Core.Path.{_≡_};
 ghost use mathlib.Core.Bool.{false};
-ghost use Rattle.counter.specs.Counter.{stepOf, isPast, byteStep, rowStep, rowAfter, pixelAfter};
-ghost use Rattle.counter.specs.declared.Next.the-variants.{To};
+ghost use Rattle.counter.specs.Counter.{To, axisStep, isPast, byteStep, rowStep, rowAfter, pixelAfter};
 
 // Whether one step along an axis is past the window's end.
 fn is_past(at: u16, end: u16, increments: bool) -> bool
-    ensures { λ r. ⌜ r ≡ isPast (stepOf increments at end) ⌝ }
+    ensures { λ r. ⌜ r ≡ isPast (axisStep increments at end) ⌝ }
 {
     if increments {
         return end <= at;
@@ -19,8 +18,8 @@ fn is_past(at: u16, end: u16, increments: bool) -> bool
 
 // One step along an axis that is not past its end.
 fn stepped(at: u16, end: u16, increments: bool) -> u16
-    requires { ⌜ isPast (stepOf increments at end) ≡ false ⌝ }
-    ensures { λ r. ⌜ To r ≡ stepOf increments at end ⌝ }
+    requires { ⌜ isPast (axisStep increments at end) ≡ false ⌝ }
+    ensures { λ r. ⌜ To r ≡ axisStep increments at end ⌝ }
 {
     if increments {
         return at + 1;

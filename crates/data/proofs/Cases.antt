@@ -26,13 +26,12 @@ use Rattle.device.specs.declared.Power.{Power}
 use Rattle.device.specs.declared.Power.the-variants.{Running, Asleep, InReset}
 use Rattle.device.specs.declared.Ssd1677.{Ssd1677}
 use Rattle.device.specs.Parts.{withBus, withCurrent, withPointed}
-use Rattle.chip.specs.Close.{WithLog, withLog}
+use Rattle.world.specs.World.{WithLog, withLog, WithRam, withRam, on, deviceInRam, logInRam}
 use Rattle.chip.specs.Report.{logged}
-use Rattle.acts.specs.Ram.{WithRam, withRam, onDevice}
 use Rattle.parameter.specs.Parameter.{parameterTaken}
 use Rattle.data.specs.declared.Streamed.{Streamed}
 use Rattle.data.specs.Most.{isStream, mostOf}
-use Rattle.data.specs.Data.{counted, made, going, surplus, upTo, planeFor, put, isInside, stepped, outOfRange, ramWritten, byKind, unasked, dataTaken}
+use Rattle.data.specs.Data.{oneByteMore, made, writingOn, surplus, upTo, planeFor, planeWritten, isInside, counterStepped, outOfRange, ramWritten, dataByKind, unasked, dataTaken}
 use Rattle.data.specs.Stream.{leftAs, isStreamed, streamed}
 
 pub goes-on : (d r : Ssd1677) (a b : Active) (bus : Bus) → b ≡ a → bus ≡ withCurrent (d .bus) (current.Active b) → r ≡ withBus d bus
@@ -42,13 +41,13 @@ goes-on d r a b bus e₁ e₂ e₃ = rw (e₃, e₂, e₁)
 module _ (a : Active) (w : WithRam) where
   pub is-surplus : (k : WithLog) (r : Ssd1677)
       → k ≡ pick (a .«extra_reported») (withLog (w .device) (w .log)) (logged (ExtraData (a .command)) (withLog (w .device) (w .log)))
-      → r ≡ made (current.Active (counted a true (a .«range_reported»))) (k .device) → withRam r (w .blackWhite) (w .red) (k .log) ≡ surplus a w
+      → r ≡ made (current.Active (oneByteMore a true (a .«range_reported»))) (k .device) → withRam r (w .blackWhite) (w .red) (k .log) ≡ surplus a w
   unfolding surplus
   is-surplus k r e f = by (a .«extra_reported») e
     where
       by : (b : Bool) → k ≡ pick b (withLog (w .device) (w .log)) (logged (ExtraData (a .command)) (withLog (w .device) (w .log)))
           → withRam r (w .blackWhite) (w .red) (k .log)
-          ≡ going a true (a .«range_reported»)
+          ≡ writingOn a true (a .«range_reported»)
           (pick b w
           (withRam
           (logged (ExtraData (a .command)) (withLog (w .device) (w .log)) .device)
@@ -59,7 +58,7 @@ module _ (a : Active) (w : WithRam) where
       by false e = rw (f, e)
 
   pub takes : (most byte : ℕ) (t : WithRam) (r : Ssd1677) → a .received < most → t ≡ parameterTaken (a .command) (a .received) byte w
-      → r ≡ made (current.Active (counted a (a .«extra_reported») (a .«range_reported»))) (t .device)
+      → r ≡ made (current.Active (oneByteMore a (a .«extra_reported») (a .«range_reported»))) (t .device)
       → withRam r (t .blackWhite) (t .red) (t .log) ≡ upTo most byte a w
   unfolding upTo
   takes most byte t r h e f = rw (lt-ltb (a .received) most h, f, e)
@@ -68,23 +67,23 @@ module _ (a : Active) (w : WithRam) where
   unfolding upTo
   takes-not most byte z h e = rw (le-ltb (a .received) most h) e
 
-  pub past : a .«range_reported» ≡ true → w ≡ outOfRange a w
+  pub steps-outside : (n : WithLog) (r : Ssd1677) → n ≡ outOfRange a (withLog (w .device) (w .log))
+      → r ≡ made (current.Active (oneByteMore a (a .«extra_reported») true)) (counterStepped (n .device))
+      → withRam r (w .blackWhite) (w .red) (n .log) ≡ writingOn a (a .«extra_reported») true (on deviceInRam counterStepped (on logInRam (outOfRange a) w))
+  steps-outside n r e f = rw (f, e)
+
+module _ (a : Active) (k : WithLog) where
+  pub past : a .«range_reported» ≡ true → k ≡ outOfRange a k
   unfolding outOfRange
   past h = rw h
 
-  pub past-first : (k : WithLog) → a .«range_reported» ≡ false
-      → k ≡ logged (RamOutOfRange (a .command) (w .device .regs .counter .x) (w .device .regs .counter .y)) (withLog (w .device) (w .log))
-      → withRam (k .device) (w .blackWhite) (w .red) (k .log) ≡ outOfRange a w
+  pub past-first : (n : WithLog) → a .«range_reported» ≡ false
+      → n ≡ logged (RamOutOfRange (a .command) (k .device .regs .counter .x) (k .device .regs .counter .y)) k → n ≡ outOfRange a k
   unfolding outOfRange
-  past-first k h e = rw (h, e)
-
-  pub steps-outside : (v : WithRam) (r : Ssd1677) → v ≡ outOfRange a w
-      → r ≡ made (current.Active (counted a (a .«extra_reported») true)) (stepped (v .device))
-      → withRam r (v .blackWhite) (v .red) (v .log) ≡ going a (a .«extra_reported») true (onDevice stepped (outOfRange a w))
-  steps-outside v r e f = rw (f, e)
+  past-first n h e = rw h e
 
 pub steps : (d r : Ssd1677) (c : Counter) (a b : Active) (bus : Bus) → c ≡ advancedOf (d .regs .counter) (d .regs .window) (d .regs .entry) → b ≡ a
-    → bus ≡ withCurrent (d .bus) (current.Active b) → r ≡ withPointed d c bus → r ≡ made (current.Active a) (stepped d)
+    → bus ≡ withCurrent (d .bus) (current.Active b) → r ≡ withPointed d c bus → r ≡ made (current.Active a) (counterStepped d)
 steps d r c a b bus e₁ e₂ e₃ e₄ = rw (e₄, e₃, e₂, e₁)
 
 -- a write that does not find its byte leaves the plane
@@ -103,14 +102,14 @@ module _ (byte : ℕ) (a : Active) (w : WithRam) (wrote : Bool) (b d : List ℕ)
     (red : d ≡ pick (eqb (a .command) 0x24) (w .red) (writtenAt (w .red) (w .device .regs .counter) byte)) where
   pub puts : (c : Counter) (n : Active) (bus : Bus) (r : Ssd1677) → wrote ≡ true
       → c ≡ advancedOf (w .device .regs .counter) (w .device .regs .window) (w .device .regs .entry)
-      → n ≡ counted a (a .«extra_reported») (a .«range_reported») → bus ≡ withCurrent (w .device .bus) (current.Active n)
+      → n ≡ oneByteMore a (a .«extra_reported») (a .«range_reported») → bus ≡ withCurrent (w .device .bus) (current.Active n)
       → r ≡ withPointed (w .device) c bus → withRam r b d (w .log) ≡ ramWritten byte a w
   unfolding ramWritten
   puts c n bus r h e₁ e₂ e₃ e₄ = rw (← found, h) (by (eqb (a .command) 0x24) black-white red)
     where
       by : (t : Bool) → b ≡ pick t (writtenAt (w .blackWhite) (w .device .regs .counter) byte) (w .blackWhite)
           → d ≡ pick t (w .red) (writtenAt (w .red) (w .device .regs .counter) byte)
-          → withRam r b d (w .log) ≡ going a (a .«extra_reported») (a .«range_reported») (onDevice stepped (put (pick t BlackWhite Red) byte w))
+          → withRam r b d (w .log) ≡ writingOn a (a .«extra_reported») (a .«range_reported») (on deviceInRam counterStepped (planeWritten (pick t BlackWhite Red) byte w))
       by true p q = rw (e₄, e₃, e₂, e₁, p, q)
       by false p q = rw (e₄, e₃, e₂, e₁, p, q)
 
@@ -125,7 +124,7 @@ module _ (byte : ℕ) (a : Active) (w : WithRam) (wrote : Bool) (b d : List ℕ)
 
 -- past the RAM
 pub outside : (byte : ℕ) (a : Active) (w z : WithRam) → isInside (planeFor (a .command)) w ≡ false
-    → z ≡ going a (a .«extra_reported») true (onDevice stepped (outOfRange a w)) → z ≡ ramWritten byte a w
+    → z ≡ writingOn a (a .«extra_reported») true (on deviceInRam counterStepped (on logInRam (outOfRange a) w)) → z ≡ ramWritten byte a w
 unfolding ramWritten
 outside byte a w z h e = passed _ _ _ _ h e
 
@@ -154,8 +153,8 @@ none-taken : (byte : ℕ) (a : Active) (w : WithRam) → upTo 0 byte a w ≡ sur
 unfolding upTo
 none-taken byte a w = rw (le-ltb (a .received) 0 zero-le)
 
-by-kind : (byte : ℕ) (a : Active) (w z : WithRam) (k : Kind) → z ≡ pick (isStream k) (ramWritten byte a w) (upTo (mostOf k) byte a w) → z ≡ byKind byte a w k
-unfolding byKind
+by-kind : (byte : ℕ) (a : Active) (w z : WithRam) (k : Kind) → z ≡ pick (isStream k) (ramWritten byte a w) (upTo (mostOf k) byte a w) → z ≡ dataByKind byte a w k
+unfolding dataByKind
 by-kind byte a w z (Write (Exactly count)) e = e
 by-kind byte a w z (Write (Between least most)) e = e
 by-kind byte a w z (Write Stream) e = e

@@ -6,7 +6,7 @@ use mathlib.Core.List.{List, []}
 use Rattle.numbers.proofs.Cases.{took, passed}
 use Rattle.device.specs.declared.Ssd1677.{Ssd1677}
 use Rattle.device.specs.Parts.{withPointed}
-use Rattle.acts.specs.Ram.{WithRam, withRam}
+use Rattle.world.specs.World.{WithRam, withRam}
 use Rattle.data.specs.declared.Streamed.{Streamed}
 use Rattle.data.specs.Data.{dataTaken}
 use Rattle.data.specs.Stream.{isStreamed, streamed}

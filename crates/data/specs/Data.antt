@@ -20,13 +20,13 @@ use Rattle.device.specs.declared.Power.{Power}
 use Rattle.device.specs.declared.Power.the-variants.{Running, Asleep, InReset}
 use Rattle.device.specs.declared.Ssd1677.{Ssd1677}
 use Rattle.device.specs.Parts.{withBus, withCurrent, withCounter, withRegs}
+use Rattle.world.specs.World.{WithLog, WithRam, withRam, on, deviceInRam, logInRam}
 use Rattle.chip.specs.Report.{logged}
-use Rattle.acts.specs.Ram.{WithRam, withRam, onDevice, onLog}
 use Rattle.parameter.specs.Parameter.{parameterTaken}
 
 -- the command with one byte more, the count stopping at 65,535 (mod.rs), and what it has reported
-abbrev pub counted : Active → Bool → Bool → Active
-counted a extra range =
+abbrev pub oneByteMore : Active → Bool → Bool → Active
+oneByteMore a extra range =
     record {
       command = a .command;
       kind = a .kind;
@@ -42,19 +42,19 @@ abbrev pub made : Current → Ssd1677 → Ssd1677
 made c d = withBus d (withCurrent (d .bus) c)
 
 -- a command that a byte more has come to
-abbrev pub going : Active → Bool → Bool → WithRam → WithRam
-going a extra range w = onDevice (made (current.Active (counted a extra range))) w
+abbrev pub writingOn : Active → Bool → Bool → WithRam → WithRam
+writingOn a extra range w = on deviceInRam (made (current.Active (oneByteMore a extra range))) w
 
 -- 25 for more bytes than the command takes, once a command
 unfoldable pub surplus : Active → WithRam → WithRam
 surplus a w =
-    going a true (a .«range_reported») (pick (a .«extra_reported») w (onLog (logged (ExtraData (a .command))) w))
+    writingOn a true (a .«range_reported») (pick (a .«extra_reported») w (on logInRam (logged (ExtraData (a .command))) w))
 
 -- a byte of a command that takes so many at most
 unfoldable pub upTo : ℕ → ℕ → Active → WithRam → WithRam
 upTo most byte a w =
     pick (ltb (a .received) most)
-    (going a (a .«extra_reported») (a .«range_reported») (parameterTaken (a .command) (a .received) byte w))
+    (writingOn a (a .«extra_reported») (a .«range_reported») (parameterTaken (a .command) (a .received) byte w))
     (surplus a w)
 
 -- 0x24 writes the black-white plane, 0x26 the red one
@@ -62,48 +62,47 @@ abbrev pub planeFor : ℕ → Plane
 planeFor command = pick (eqb command 0x24) BlackWhite Red
 
 -- a byte written at the counter of a plane
-abbrev pub put : Plane → ℕ → WithRam → WithRam
-put BlackWhite byte w = withRam (w .device) (writtenAt (w .blackWhite) (w .device .regs .counter) byte) (w .red) (w .log)
-put Red byte w = withRam (w .device) (w .blackWhite) (writtenAt (w .red) (w .device .regs .counter) byte) (w .log)
+abbrev pub planeWritten : Plane → ℕ → WithRam → WithRam
+planeWritten BlackWhite byte w = withRam (w .device) (writtenAt (w .blackWhite) (w .device .regs .counter) byte) (w .red) (w .log)
+planeWritten Red byte w = withRam (w .device) (w .blackWhite) (writtenAt (w .red) (w .device .regs .counter) byte) (w .log)
 
 -- the plane has the counter's byte
 abbrev pub isInside : Plane → WithRam → Bool
 isInside plane w = wroteAt (planeOf (w .blackWhite) (w .red) plane) (w .device .regs .counter)
 
 -- the counter steps, by the window and the data-entry mode
-abbrev pub stepped : Ssd1677 → Ssd1677
-stepped d = withRegs d (withCounter (d .regs) (advancedOf (d .regs .counter) (d .regs .window) (d .regs .entry)))
+abbrev pub counterStepped : Ssd1677 → Ssd1677
+counterStepped d = withRegs d (withCounter (d .regs) (advancedOf (d .regs .counter) (d .regs .window) (d .regs .entry)))
 
 -- 31 past the RAM, once a command
-unfoldable pub outOfRange : Active → WithRam → WithRam
-outOfRange a w =
-    pick (a .«range_reported») w
-    (onLog (logged (RamOutOfRange (a .command) (w .device .regs .counter .x) (w .device .regs .counter .y))) w)
+unfoldable pub outOfRange : Active → WithLog → WithLog
+outOfRange a k =
+    pick (a .«range_reported») k (logged (RamOutOfRange (a .command) (k .device .regs .counter .x) (k .device .regs .counter .y)) k)
 
 -- a byte of 0x24 or 0x26: put at the counter, or 31; the counter steps in either case
 unfoldable pub ramWritten : ℕ → Active → WithRam → WithRam
 ramWritten byte a w =
     pick (isInside (planeFor (a .command)) w)
-    (going a (a .«extra_reported») (a .«range_reported») (onDevice stepped (put (planeFor (a .command)) byte w)))
-    (going a (a .«extra_reported») true (onDevice stepped (outOfRange a w)))
+    (writingOn a (a .«extra_reported») (a .«range_reported») (on deviceInRam counterStepped (planeWritten (planeFor (a .command)) byte w)))
+    (writingOn a (a .«extra_reported») true (on deviceInRam counterStepped (on logInRam (outOfRange a) w)))
 
 -- by what the active command is
-unfoldable pub byKind : ℕ → Active → WithRam → Kind → WithRam
-byKind byte a w (Write (Exactly count)) = upTo count byte a w
-byKind byte a w (Write (Between least most)) = upTo most byte a w
-byKind byte a w (Write Stream) = ramWritten byte a w
-byKind byte a w Read = surplus a w
-byKind byte a w Unsupported = surplus a w
-byKind byte a w Reserved = surplus a w
+unfoldable pub dataByKind : ℕ → Active → WithRam → Kind → WithRam
+dataByKind byte a w (Write (Exactly count)) = upTo count byte a w
+dataByKind byte a w (Write (Between least most)) = upTo most byte a w
+dataByKind byte a w (Write Stream) = ramWritten byte a w
+dataByKind byte a w Read = surplus a w
+dataByKind byte a w Unsupported = surplus a w
+dataByKind byte a w Reserved = surplus a w
 
 -- 24 for a byte with no command before it, of a chip that runs
 unfoldable pub unasked : ℕ → WithRam → Power → WithRam
-unasked byte w Running = onLog (logged (DataWithoutCommand byte)) w
+unasked byte w Running = on logInRam (logged (DataWithoutCommand byte)) w
 unasked byte w Asleep = w
 unasked byte w InReset = w
 
 -- by the command that the byte belongs to; 24 comes once, since later bytes are ignored
 unfoldable pub dataTaken : ℕ → WithRam → Current → WithRam
-dataTaken byte w current.Idle = onDevice (made current.Ignoring) (unasked byte w (w .device .bus .power))
+dataTaken byte w current.Idle = on deviceInRam (made current.Ignoring) (unasked byte w (w .device .bus .power))
 dataTaken byte w current.Ignoring = w
-dataTaken byte w (current.Active a) = byKind byte a w (a .kind)
+dataTaken byte w (current.Active a) = dataByKind byte a w (a .kind)

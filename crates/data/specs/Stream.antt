@@ -9,7 +9,7 @@ use Rattle.device.specs.declared.Bus.{Bus}
 use Rattle.device.specs.declared.Current.{Current}
 use Rattle.device.specs.declared.Current.the-variants as current
 use Rattle.device.specs.declared.Ssd1677.{Ssd1677}
-use Rattle.acts.specs.Ram.{WithRam}
+use Rattle.world.specs.World.{WithRam}
 use Rattle.data.specs.declared.Streamed.{Streamed}
 use Rattle.data.specs.Most.{isStream}
 use Rattle.data.specs.Data.{planeFor, dataTaken}

@@ -9,13 +9,12 @@ ghost use Rattle.device.specs.declared.Current.the-variants as current;
 ghost use Rattle.numbers.specs.Choice.{pick};
 ghost use Rattle.ram.specs.Plane.{planeOf, wroteAt, writtenAt};
 ghost use Rattle.diagnostic.specs.declared.DiagnosticKind.the-variants.{ExtraData};
-ghost use Rattle.chip.specs.Close.{withLog};
 ghost use Rattle.chip.specs.Report.{logged};
-ghost use Rattle.acts.specs.Ram.{withRam, onDevice};
 ghost use Rattle.data.specs.Most.{isStream, mostOf};
 ghost use Rattle.device.specs.Parts.{withPointed};
+ghost use Rattle.world.specs.World.{withLog, withRam, on, deviceInRam, logInRam};
 ghost use Rattle.data.specs.Stream.{leftAs, isStreamed, streamed};
-ghost use Rattle.data.specs.Data.{counted, made, going, surplus, upTo, stepped, outOfRange, planeFor, unasked, dataTaken};
+ghost use Rattle.data.specs.Data.{oneByteMore, made, writingOn, surplus, upTo, counterStepped, outOfRange, planeFor, unasked, dataTaken};
 use device::Active;
 use device::Bus;
 use device::Current;
@@ -80,7 +79,7 @@ fn most_of(kind: Kind) -> u16
 
 // The command with one byte more, and what it has reported.
 fn count(active: Active, extra: bool, range: bool) -> Active
-    ensures { λ r. ⌜ r ≡ counted active extra range ⌝ }
+    ensures { λ r. ⌜ r ≡ oneByteMore active extra range ⌝ }
 {
     let received = numbers::saturating_add_u16(active.received, 1);
     let mut next = active;
@@ -92,7 +91,7 @@ fn count(active: Active, extra: bool, range: bool) -> Active
 
 // The command stays the current one, with a byte more.
 fn go_on(state: Ssd1677, active: Active, extra: bool, range: bool) -> Ssd1677
-    ensures { λ r. ⌜ r ≡ made (current.Active (counted active extra range)) state ⌝ }
+    ensures { λ r. ⌜ r ≡ made (current.Active (oneByteMore active extra range)) state ⌝ }
 {
     let next = count(active, extra, range);
     let bus = part::set_current(state.bus, Current::Active(next));
@@ -144,7 +143,7 @@ fn up_to(
 
 // The counter steps, and the command stays the current one.
 fn step(state: Ssd1677, active: Active, range: bool) -> Ssd1677
-    ensures { λ r. ⌜ r ≡ made (current.Active (counted active (active .«extra_reported») range)) (stepped state) ⌝ }
+    ensures { λ r. ⌜ r ≡ made (current.Active (oneByteMore active (active .«extra_reported») range)) (counterStepped state) ⌝ }
 {
     let at = state.regs.counter;
     let window = state.regs.window;
@@ -155,10 +154,10 @@ fn step(state: Ssd1677, active: Active, range: bool) -> Ssd1677
     part::set_pointed(state, counter, bus)
 }
 
-// 31, unless the command has reported it, whatever the planes.
-fn report_range(state: Ssd1677, log: &mut [u8], active: Active) -> Ssd1677
+// 31, unless the command has reported it.
+pub fn report_range(state: Ssd1677, log: &mut [u8], active: Active) -> Ssd1677
     requires { ⌜ length (now log) ≡ 16384 ⌝ }
-    ensures { λ r. ⌜ ((b d : List ℕ) → withRam r b d (now (log .exit)) ≡ outOfRange active (withRam state b d (now (log .entry)))) ⌝ }
+    ensures { λ r. ⌜ withLog r (now (log .exit)) ≡ outOfRange active (withLog state (now (log .entry))) ⌝ }
 {
     if active.range_reported {
         return state;
@@ -179,7 +178,7 @@ fn report_range(state: Ssd1677, log: &mut [u8], active: Active) -> Ssd1677
 // Past the RAM the counter steps all the same.
 fn step_outside(state: Ssd1677, log: &mut [u8], active: Active) -> Ssd1677
     requires { ⌜ length (now log) ≡ 16384 ⌝ }
-    ensures { λ r. ⌜ ((b d : List ℕ) → withRam r b d (now (log .exit)) ≡ going active (active .«extra_reported») true (onDevice stepped (outOfRange active (withRam state b d (now (log .entry)))))) ⌝ }
+    ensures { λ r. ⌜ ((b d : List ℕ) → withRam r b d (now (log .exit)) ≡ writingOn active (active .«extra_reported») true (on deviceInRam counterStepped (on logInRam (outOfRange active) (withRam state b d (now (log .entry)))))) ⌝ }
 {
     let noted = report_range(state, log, active);
     step(noted, active, true)

@@ -25,76 +25,48 @@ use Rattle.device.specs.declared.Params.the-variants.{Exactly, Between, Stream}
 use Rattle.device.specs.declared.Power.{Power}
 use Rattle.device.specs.declared.Power.the-variants.{Running, Asleep, InReset}
 use Rattle.device.specs.declared.Ssd1677.{Ssd1677}
-use Rattle.chip.specs.Close.{WithLog, withLog}
+use Rattle.world.specs.World.{WithLog, withLog, WithRam, on, deviceInRam, logInRam}
 use Rattle.chip.specs.Report.{logged}
-use Rattle.acts.specs.Ram.{WithRam, withRam, onDevice, onLog}
 use Rattle.parameter.specs.Parameter.{parameterTaken}
 use Rattle.acts_laws.proofs.Kept.{Sound, KeptRam, on-log, logged-kept}
 use Rattle.parameter.proofs.Kept.{parameter-kept}
-use Rattle.data.specs.Data.{counted, made, going, surplus, upTo, planeFor, put, isInside, stepped, outOfRange, ramWritten, byKind, unasked, dataTaken}
+use Rattle.data.specs.Data.{oneByteMore, made, writingOn, surplus, upTo, planeFor, planeWritten, isInside, counterStepped, outOfRange, ramWritten, dataByKind, unasked, dataTaken}
 
--- what stays, whatever becomes of the current command
-pub record Leaves (w v : WithRam) : Type 0 where
-  pub same-config : v .device .config ≡ w .device .config
-  pub same-now : v .device .now ≡ w .device .now
-  pub same-panel : v .device .panel ≡ w .device .panel
-  pub same-display : v .device .display ≡ w .device .display
-  pub sound : Sound (w .device) (w .log) → Sound (v .device) (v .log)
-  pub black-white-long : length (v .blackWhite) ≡ length (w .blackWhite)
-  pub red-long : length (v .red) ≡ length (w .red)
+-- ---- of a state and its log, whatever becomes of the current command
+pub record Rests (k j : WithLog) : Type 0 where
+  pub same-config : j .device .config ≡ k .device .config
+  pub same-now : j .device .now ≡ k .device .now
+  pub same-panel : j .device .panel ≡ k .device .panel
+  pub same-display : j .device .display ≡ k .device .display
+  pub sound : Sound (k .device) (k .log) → Sound (j .device) (j .log)
 
-leaves-all : (w : WithRam) → Leaves w w
-leaves-all w =
-    record {
-      same-config = refl;
-      same-now = refl;
-      same-panel = refl;
-      same-display = refl;
-      sound = λ s. s;
-      black-white-long = refl;
-      red-long = refl;
-    }
+pub rests-all : (k : WithLog) → Rests k k
+rests-all k = record { same-config = refl; same-now = refl; same-panel = refl; same-display = refl; sound = λ s. s }
 
-leaves-then : (u v w : WithRam) → Leaves u v → Leaves v w → Leaves u w
-leaves-then u v w p q =
+pub rests-then : (k j l : WithLog) → Rests k j → Rests j l → Rests k l
+rests-then k j l p q =
     record {
       same-config = q .same-config ∙ p .same-config;
       same-now = q .same-now ∙ p .same-now;
       same-panel = q .same-panel ∙ p .same-panel;
       same-display = q .same-display ∙ p .same-display;
       sound = λ s. q .sound (p .sound s);
-      black-white-long = q .black-white-long ∙ p .black-white-long;
-      red-long = q .red-long ∙ p .red-long;
-    }
-
-of-kept : (w v : WithRam) → KeptRam w v → Leaves w v
-of-kept w v p =
-    record {
-      same-config = p .same .same-config;
-      same-now = p .same .same-now;
-      same-panel = p .same .same-panel;
-      same-display = p .same .same-display;
-      sound = p .sound;
-      black-white-long = p .black-white-long;
-      red-long = p .red-long;
     }
 
 -- another current command
-leaves-made : (c : Current) (w : WithRam) → Leaves w (onDevice (made c) w)
-leaves-made c w =
+pub rests-made : (c : Current) (k : WithLog) → Rests k (withLog (made c (k .device)) (k .log))
+rests-made c k =
     record {
       same-config = refl;
       same-now = refl;
       same-panel = refl;
       same-display = refl;
       sound = λ s. record { bounded = s .bounded; room = s .room; long = s .long };
-      black-white-long = refl;
-      red-long = refl;
     }
 
 -- the counter stays within ten bits
-leaves-stepped : (w : WithRam) → Leaves w (onDevice stepped w)
-leaves-stepped w =
+pub rests-stepped : (k : WithLog) → Rests k (withLog (counterStepped (k .device)) (k .log))
+rests-stepped k =
     record {
       same-config = refl;
       same-now = refl;
@@ -108,17 +80,57 @@ leaves-stepped w =
                   entry-three = s .bounded .entry-three;
                   window-ten = s .bounded .window-ten;
                   counter-ten =
-                      advanced-ten (w .device .regs .counter) (w .device .regs .window) (w .device .regs .entry) (s .bounded .counter-ten) (s .bounded .window-ten);
+                      advanced-ten (k .device .regs .counter) (k .device .regs .window) (k .device .regs .entry) (s .bounded .counter-ten) (s .bounded .window-ten);
                   temperature-twelve = s .bounded .temperature-twelve;
                 };
             room = s .room;
             long = s .long;
           };
-      black-white-long = refl;
-      red-long = refl;
     }
 
-written-length : (p : List ℕ) (c : Counter) (byte : ℕ) → length (writtenAt p c byte) ≡ length p
+-- ---- of a state, its log and the planes
+-- the state and its log
+abbrev logOf : WithRam → WithLog
+logOf w = withLog (w .device) (w .log)
+
+pub record DataLeaves (w v : WithRam) : Type 0 where
+  pub rests : Rests (withLog (w .device) (w .log)) (withLog (v .device) (v .log))
+  pub black-white-long : length (v .blackWhite) ≡ length (w .blackWhite)
+  pub red-long : length (v .red) ≡ length (w .red)
+
+leaves-all : (w : WithRam) → DataLeaves w w
+leaves-all w = record { rests = rests-all (logOf w); black-white-long = refl; red-long = refl }
+
+leaves-then : (u v w : WithRam) → DataLeaves u v → DataLeaves v w → DataLeaves u w
+leaves-then u v w p q =
+    record {
+      rests = rests-then (logOf u) (logOf v) (logOf w) (p .rests) (q .rests);
+      black-white-long = q .black-white-long ∙ p .black-white-long;
+      red-long = q .red-long ∙ p .red-long;
+    }
+
+of-kept : (w v : WithRam) → KeptRam w v → DataLeaves w v
+of-kept w v p =
+    record {
+      rests =
+          record {
+            same-config = p .same .same-config;
+            same-now = p .same .same-now;
+            same-panel = p .same .same-panel;
+            same-display = p .same .same-display;
+            sound = p .sound;
+          };
+      black-white-long = p .black-white-long;
+      red-long = p .red-long;
+    }
+
+leaves-made : (c : Current) (w : WithRam) → DataLeaves w (on deviceInRam (made c) w)
+leaves-made c w = record { rests = rests-made c (logOf w); black-white-long = refl; red-long = refl }
+
+leaves-stepped : (w : WithRam) → DataLeaves w (on deviceInRam counterStepped w)
+leaves-stepped w = record { rests = rests-stepped (logOf w); black-white-long = refl; red-long = refl }
+
+pub written-length : (p : List ℕ) (c : Counter) (byte : ℕ) → length (writtenAt p c byte) ≡ length p
 unfolding writtenAt
 written-length p c byte = by (indexOf c)
   where
@@ -126,79 +138,71 @@ written-length p c byte = by (indexOf c)
     by (At i) = length-set p i byte
     by Outside = refl
 
-leaves-put : (plane : Plane) (byte : ℕ) (w : WithRam) → Leaves w (put plane byte w)
+leaves-put : (plane : Plane) (byte : ℕ) (w : WithRam) → DataLeaves w (planeWritten plane byte w)
 leaves-put BlackWhite byte w =
-    record {
-      same-config = refl;
-      same-now = refl;
-      same-panel = refl;
-      same-display = refl;
-      sound = λ s. s;
-      black-white-long = written-length (w .blackWhite) (w .device .regs .counter) byte;
-      red-long = refl;
-    }
+    record { rests = rests-all (logOf w); black-white-long = written-length (w .blackWhite) (w .device .regs .counter) byte; red-long = refl }
 leaves-put Red byte w =
-    record {
-      same-config = refl;
-      same-now = refl;
-      same-panel = refl;
-      same-display = refl;
-      sound = λ s. s;
-      black-white-long = refl;
-      red-long = written-length (w .red) (w .device .regs .counter) byte;
-    }
+    record { rests = rests-all (logOf w); black-white-long = refl; red-long = written-length (w .red) (w .device .regs .counter) byte }
 
-leaves-logged : (b : Bool) (kind : DiagnosticKind) (w : WithRam) → Leaves w (pick b w (onLog (logged kind) w))
+leaves-logged : (b : Bool) (kind : DiagnosticKind) (w : WithRam) → DataLeaves w (pick b w (on logInRam (logged kind) w))
 leaves-logged true kind w = leaves-all w
-leaves-logged false kind w = of-kept w (onLog (logged kind) w) (on-log (logged kind) w (logged-kept kind (withLog (w .device) (w .log))))
+leaves-logged false kind w = of-kept w (on logInRam (logged kind) w) (on-log (logged kind) w (logged-kept kind (withLog (w .device) (w .log))))
 
 module _ (a : Active) (w : WithRam) where
-  leaves-surplus : Leaves w (surplus a w)
+  leaves-surplus : DataLeaves w (surplus a w)
   unfolding surplus
   leaves-surplus =
-      let v = pick (a .«extra_reported») w (onLog (logged (ExtraData (a .command))) w) in
-      leaves-then w v (going a true (a .«range_reported») v)
+      let v = pick (a .«extra_reported») w (on logInRam (logged (ExtraData (a .command))) w) in
+      leaves-then w v (writingOn a true (a .«range_reported») v)
       (leaves-logged (a .«extra_reported») (ExtraData (a .command)) w)
-      (leaves-made (current.Active (counted a true (a .«range_reported»))) v)
+      (leaves-made (current.Active (oneByteMore a true (a .«range_reported»))) v)
 
-  leaves-up-to : (most byte : ℕ) → byte ≤ 255 → Leaves w (upTo most byte a w)
+  leaves-up-to : (most byte : ℕ) → byte ≤ 255 → DataLeaves w (upTo most byte a w)
   unfolding upTo
   leaves-up-to most byte small = by (ltb (a .received) most)
     where
       by : (b : Bool)
-          → Leaves w (pick b (going a (a .«extra_reported») (a .«range_reported») (parameterTaken (a .command) (a .received) byte w)) (surplus a w))
+          → DataLeaves w (pick b (writingOn a (a .«extra_reported») (a .«range_reported») (parameterTaken (a .command) (a .received) byte w)) (surplus a w))
       by true =
           leaves-then w (parameterTaken (a .command) (a .received) byte w)
-          (going a (a .«extra_reported») (a .«range_reported») (parameterTaken (a .command) (a .received) byte w))
+          (writingOn a (a .«extra_reported») (a .«range_reported») (parameterTaken (a .command) (a .received) byte w))
           (of-kept w (parameterTaken (a .command) (a .received) byte w) (parameter-kept (a .command) (a .received) byte w small))
-          (leaves-made (current.Active (counted a (a .«extra_reported») (a .«range_reported»))) (parameterTaken (a .command) (a .received) byte w))
+          (leaves-made (current.Active (oneByteMore a (a .«extra_reported») (a .«range_reported»))) (parameterTaken (a .command) (a .received) byte w))
       by false = leaves-surplus
 
-  leaves-out : Leaves w (outOfRange a w)
+  leaves-out : DataLeaves w (on logInRam (outOfRange a) w)
   unfolding outOfRange
-  leaves-out = leaves-logged (a .«range_reported») (RamOutOfRange (a .command) (w .device .regs .counter .x) (w .device .regs .counter .y)) w
+  leaves-out = by (a .«range_reported»)
+    where
+      by : (b : Bool)
+          → DataLeaves w
+          (logInRam .put w
+          (pick b (withLog (w .device) (w .log))
+          (logged (RamOutOfRange (a .command) (w .device .regs .counter .x) (w .device .regs .counter .y)) (withLog (w .device) (w .log)))))
+      by true = leaves-all w
+      by false = leaves-logged false (RamOutOfRange (a .command) (w .device .regs .counter .x) (w .device .regs .counter .y)) w
 
   -- a step of the counter, and a byte more
-  leaves-on : (range : Bool) (v : WithRam) → Leaves w v → Leaves w (going a (a .«extra_reported») range (onDevice stepped v))
+  leaves-on : (range : Bool) (v : WithRam) → DataLeaves w v → DataLeaves w (writingOn a (a .«extra_reported») range (on deviceInRam counterStepped v))
   leaves-on range v p =
-      leaves-then w (onDevice stepped v) (going a (a .«extra_reported») range (onDevice stepped v))
-      (leaves-then w v (onDevice stepped v) p (leaves-stepped v))
-      (leaves-made (current.Active (counted a (a .«extra_reported») range)) (onDevice stepped v))
+      leaves-then w (on deviceInRam counterStepped v) (writingOn a (a .«extra_reported») range (on deviceInRam counterStepped v))
+      (leaves-then w v (on deviceInRam counterStepped v) p (leaves-stepped v))
+      (leaves-made (current.Active (oneByteMore a (a .«extra_reported») range)) (on deviceInRam counterStepped v))
 
-  leaves-ram : (byte : ℕ) → Leaves w (ramWritten byte a w)
+  leaves-ram : (byte : ℕ) → DataLeaves w (ramWritten byte a w)
   unfolding ramWritten
   leaves-ram byte = by (isInside (planeFor (a .command)) w)
     where
       by : (b : Bool)
-          → Leaves w
+          → DataLeaves w
           (pick b
-          (going a (a .«extra_reported») (a .«range_reported») (onDevice stepped (put (planeFor (a .command)) byte w)))
-          (going a (a .«extra_reported») true (onDevice stepped (outOfRange a w))))
-      by true = leaves-on (a .«range_reported») (put (planeFor (a .command)) byte w) (leaves-put (planeFor (a .command)) byte w)
-      by false = leaves-on true (outOfRange a w) leaves-out
+          (writingOn a (a .«extra_reported») (a .«range_reported») (on deviceInRam counterStepped (planeWritten (planeFor (a .command)) byte w)))
+          (writingOn a (a .«extra_reported») true (on deviceInRam counterStepped (on logInRam (outOfRange a) w))))
+      by true = leaves-on (a .«range_reported») (planeWritten (planeFor (a .command)) byte w) (leaves-put (planeFor (a .command)) byte w)
+      by false = leaves-on true (on logInRam (outOfRange a) w) leaves-out
 
-  leaves-kind : (byte : ℕ) → byte ≤ 255 → (k : Kind) → Leaves w (byKind byte a w k)
-  unfolding byKind
+  leaves-kind : (byte : ℕ) → byte ≤ 255 → (k : Kind) → DataLeaves w (dataByKind byte a w k)
+  unfolding dataByKind
   leaves-kind byte small (Write (Exactly count)) = leaves-up-to count byte small
   leaves-kind byte small (Write (Between least most)) = leaves-up-to most byte small
   leaves-kind byte small (Write Stream) = leaves-ram byte
@@ -206,31 +210,31 @@ module _ (a : Active) (w : WithRam) where
   leaves-kind byte small Unsupported = leaves-surplus
   leaves-kind byte small Reserved = leaves-surplus
 
-leaves-unasked : (byte : ℕ) (w : WithRam) (p : Power) → Leaves w (unasked byte w p)
+leaves-unasked : (byte : ℕ) (w : WithRam) (p : Power) → DataLeaves w (unasked byte w p)
 unfolding unasked
 leaves-unasked byte w Running = leaves-logged false (DataWithoutCommand byte) w
 leaves-unasked byte w Asleep = leaves-all w
 leaves-unasked byte w InReset = leaves-all w
 
-pub data-leaves : (byte : ℕ) (w : WithRam) (c : Current) → byte ≤ 255 → Leaves w (dataTaken byte w c)
+pub data-leaves : (byte : ℕ) (w : WithRam) (c : Current) → byte ≤ 255 → DataLeaves w (dataTaken byte w c)
 unfolding dataTaken
 data-leaves byte w current.Idle small =
     let v = unasked byte w (w .device .bus .power) in
-    leaves-then w v (onDevice (made current.Ignoring) v) (leaves-unasked byte w (w .device .bus .power)) (leaves-made current.Ignoring v)
+    leaves-then w v (on deviceInRam (made current.Ignoring) v) (leaves-unasked byte w (w .device .bus .power)) (leaves-made current.Ignoring v)
 data-leaves byte w current.Ignoring small = leaves-all w
 data-leaves byte w (current.Active a) small = leaves-kind a w byte small (a .kind)
 
 -- what is so of an ignored command, and goes by the command and its kind alone, stays so of the current one
 module _ (P : Current → Type 0) (ignored : P current.Ignoring)
-    (on : (a : Active) (extra range : Bool) → P (current.Active a) → P (current.Active (counted a extra range))) where
+    (counts : (a : Active) (extra range : Bool) → P (current.Active a) → P (current.Active (oneByteMore a extra range))) where
   current-up-to : (most byte : ℕ) (a : Active) (w : WithRam) → P (current.Active a) → P (upTo most byte a w .device .bus .current)
   unfolding upTo surplus
   current-up-to most byte a w h = by (ltb (a .received) most)
     where
       by : (b : Bool)
-          → P (pick b (going a (a .«extra_reported») (a .«range_reported») (parameterTaken (a .command) (a .received) byte w)) (surplus a w) .device .bus .current)
-      by true = on a (a .«extra_reported») (a .«range_reported») h
-      by false = on a true (a .«range_reported») h
+          → P (pick b (writingOn a (a .«extra_reported») (a .«range_reported») (parameterTaken (a .command) (a .received) byte w)) (surplus a w) .device .bus .current)
+      by true = counts a (a .«extra_reported») (a .«range_reported») h
+      by false = counts a true (a .«range_reported») h
 
   current-ram : (byte : ℕ) (a : Active) (w : WithRam) → P (current.Active a) → P (ramWritten byte a w .device .bus .current)
   unfolding ramWritten
@@ -239,19 +243,19 @@ module _ (P : Current → Type 0) (ignored : P current.Ignoring)
       by : (b : Bool)
           → P
           (pick b
-          (going a (a .«extra_reported») (a .«range_reported») (onDevice stepped (put (planeFor (a .command)) byte w)))
-          (going a (a .«extra_reported») true (onDevice stepped (outOfRange a w))) .device .bus .current)
-      by true = on a (a .«extra_reported») (a .«range_reported») h
-      by false = on a (a .«extra_reported») true h
+          (writingOn a (a .«extra_reported») (a .«range_reported») (on deviceInRam counterStepped (planeWritten (planeFor (a .command)) byte w)))
+          (writingOn a (a .«extra_reported») true (on deviceInRam counterStepped (on logInRam (outOfRange a) w))) .device .bus .current)
+      by true = counts a (a .«extra_reported») (a .«range_reported») h
+      by false = counts a (a .«extra_reported») true h
 
-  current-kind : (byte : ℕ) (a : Active) (w : WithRam) (k : Kind) → P (current.Active a) → P (byKind byte a w k .device .bus .current)
-  unfolding byKind surplus
+  current-kind : (byte : ℕ) (a : Active) (w : WithRam) (k : Kind) → P (current.Active a) → P (dataByKind byte a w k .device .bus .current)
+  unfolding dataByKind surplus
   current-kind byte a w (Write (Exactly count)) h = current-up-to count byte a w h
   current-kind byte a w (Write (Between least most)) h = current-up-to most byte a w h
   current-kind byte a w (Write Stream) h = current-ram byte a w h
-  current-kind byte a w Read h = on a true (a .«range_reported») h
-  current-kind byte a w Unsupported h = on a true (a .«range_reported») h
-  current-kind byte a w Reserved h = on a true (a .«range_reported») h
+  current-kind byte a w Read h = counts a true (a .«range_reported») h
+  current-kind byte a w Unsupported h = counts a true (a .«range_reported») h
+  current-kind byte a w Reserved h = counts a true (a .«range_reported») h
 
   pub current-kept : (byte : ℕ) (w : WithRam) (c : Current) → w .device .bus .current ≡ c → P c → P (dataTaken byte w c .device .bus .current)
   unfolding dataTaken

@@ -2,7 +2,7 @@
 ghost use mathlib.Core.Path.{_≡_};
 ghost use Prim.Native.Nat.{_%_};
 ghost use lib.ListN.{length};
-ghost use Rattle.acts.specs.Ram.{withRam};
+ghost use Rattle.world.specs.World.{withRam};
 ghost use Rattle.acts.specs.Acts.{asleep, slept};
 use device::Bus;
 use device::Deadline;

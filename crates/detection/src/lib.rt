@@ -4,7 +4,7 @@ ghost use mathlib.Core.Bool.{_&&_};
 ghost use Prim.Native.Nat.{_/_, _%_};
 ghost use lib.Dec.{eqb, leb, ltb};
 ghost use lib.ListN.{length};
-ghost use Rattle.chip.specs.Close.{withLog};
+ghost use Rattle.world.specs.World.{withLog};
 ghost use Rattle.acts.specs.Acts.{withHvNotReady, withVciLow, hvDetected, hvReady, vciLevel, vciDetected, vciSensed};
 use acts::busy_for;
 use acts::check;

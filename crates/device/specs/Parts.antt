@@ -127,8 +127,8 @@ withJournal d newJournal =
     }
 
 -- the glass and the display: an end and a cut change both
-abbrev pub withGlass : Ssd1677 → Panel → Display → Ssd1677
-withGlass d newPanel newDisplay =
+abbrev pub withPanelAndDisplay : Ssd1677 → Panel → Display → Ssd1677
+withPanelAndDisplay d newPanel newDisplay =
     record {
       config = d .config;
       now = d .now;

@@ -1,6 +1,6 @@
 // A state with one part put back.
 ghost use mathlib.Core.Path.{_≡_};
-ghost use Rattle.device.specs.Parts.{withNow, withConfig, withRegs, withBus, withStatus, withDisplay, withJournal, withGlass, withPowers, withSlept, withActivated, withCurrent, withUntil, withLoaded, withCounter, withPointed};
+ghost use Rattle.device.specs.Parts.{withNow, withConfig, withRegs, withBus, withStatus, withDisplay, withJournal, withPanelAndDisplay, withPowers, withSlept, withActivated, withCurrent, withUntil, withLoaded, withCounter, withPointed};
 use crate::Bus;
 use crate::Current;
 use crate::Deadline;
@@ -78,7 +78,7 @@ pub fn set_journal(state: Ssd1677, journal: Journal) -> Ssd1677
 
 // The glass and the display: an end and a cut change both.
 pub fn set_glass(state: Ssd1677, panel: Panel, display: Display) -> Ssd1677
-    ensures { λ r. ⌜ r ≡ withGlass state panel display ⌝ }
+    ensures { λ r. ⌜ r ≡ withPanelAndDisplay state panel display ⌝ }
 {
     let mut driven = state;
     driven.panel = panel;

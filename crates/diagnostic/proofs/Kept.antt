@@ -12,7 +12,7 @@ use Rattle.diagnostic.specs.declared.DiagnosticKind.{DiagnosticKind}
 use Rattle.diagnostic.specs.declared.DiagnosticKind.the-variants.{ReservedValue}
 use Rattle.diagnostic.specs.declared.Fields.{Fields}
 use Rattle.diagnostic.specs.Record.{fieldsOf, recordOf}
-use Rattle.diagnostic.specs.Log.{Entries, placed, kept, dropped, reported, marked, reservedReported}
+use Rattle.diagnostic.specs.Log.{Entries, placed, kept, oneMoreDropped, reported, marked, reservedReported}
 
 record-length : (time : ℕ) (f : Fields) → length (recordOf time f) ≡ 16
 unfolding recordOf
@@ -25,7 +25,7 @@ pub reported-length : (e : Entries) (time : ℕ) (kind : DiagnosticKind) → len
 unfolding reported
 reported-length e time kind h = by (ltb (e .journal .count) 1024) refl
   where
-    by : (b : Bool) → ltb (e .journal .count) 1024 ≡ b → length (pick b (kept e (recordOf time (fieldsOf kind))) (dropped e) .log) ≡ 16384
+    by : (b : Bool) → ltb (e .journal .count) 1024 ≡ b → length (pick b (kept e (recordOf time (fieldsOf kind))) (oneMoreDropped e) .log) ≡ 16384
     by true t = placed-length (e .log) (recordOf time (fieldsOf kind)) (e .journal .count) h (record-length time (fieldsOf kind)) (ltb-true (e .journal .count) 1024 t)
     by false t = h
 
@@ -33,7 +33,7 @@ pub reported-count : (e : Entries) (time : ℕ) (kind : DiagnosticKind) → e .j
 unfolding reported
 reported-count e time kind h = by (ltb (e .journal .count) 1024) refl
   where
-    by : (b : Bool) → ltb (e .journal .count) 1024 ≡ b → pick b (kept e (recordOf time (fieldsOf kind))) (dropped e) .journal .count ≤ 1024
+    by : (b : Bool) → ltb (e .journal .count) 1024 ≡ b → pick b (kept e (recordOf time (fieldsOf kind))) (oneMoreDropped e) .journal .count ≤ 1024
     by true t = let l = ltb-true (e .journal .count) 1024 t in omega arith
     by false t = h
 

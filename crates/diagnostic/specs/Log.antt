@@ -36,8 +36,8 @@ kept e bytes =
     (placed (e .log) (e .journal .count) bytes)
 
 -- the dropped count one more, stopping at 2^64 − 1, and the log as it was
-abbrev pub dropped : Entries → Entries
-dropped e =
+abbrev pub oneMoreDropped : Entries → Entries
+oneMoreDropped e =
     entries
     (record {
       count = e .journal .count;
@@ -48,7 +48,7 @@ dropped e =
 
 -- a report: kept while there is room, else counted
 unfoldable pub reported : Entries → ℕ → DiagnosticKind → Entries
-reported e time kind = pick (ltb (e .journal .count) room) (kept e (recordOf time (fieldsOf kind))) (dropped e)
+reported e time kind = pick (ltb (e .journal .count) room) (kept e (recordOf time (fieldsOf kind))) (oneMoreDropped e)
 
 -- the same entries, of a command that has reported a reserved value
 abbrev pub marked : Entries → Entries

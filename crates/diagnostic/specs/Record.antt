@@ -1,8 +1,7 @@
 -- A diagnostic's number and fields, and its record of 16 bytes (SCOPE, Log; SCOPE, Diagnostics).
 use Prim.Native.Nat.{ℕ, _*_, _/_, _%_, _^_}
 use mathlib.Core.List.{List, [], _∷_}
-use Rattle.config.specs.declared.DisplayMode.{DisplayMode}
-use Rattle.config.specs.declared.DisplayMode.the-variants.{One, Two}
+use Rattle.config.specs.Mode.{modeNumber}
 use Rattle.diagnostic.specs.declared.Stage.{Stage}
 use Rattle.diagnostic.specs.declared.Stage.the-variants.{AnalogOn, TemperatureLoad, LutLoad, Display, HvReadyDetection, VciDetection, VcomSense}
 use Rattle.diagnostic.specs.declared.DiagnosticKind.{DiagnosticKind}
@@ -39,32 +38,27 @@ stageNumber HvReadyDetection = 4
 stageNumber VciDetection = 5
 stageNumber VcomSense = 6
 
--- the modes: 0 One, 1 Two
-abbrev pub modeNumber : DisplayMode → ℕ
-modeNumber One = 0
-modeNumber Two = 1
-
 -- 21 to 39, the cases of DiagnosticKind in its order
-abbrev pub numberOf : DiagnosticKind → ℕ
-numberOf (UnknownCommand command) = 21
-numberOf (ReservedCommand command) = 22
-numberOf (UnsupportedCommand command) = 23
-numberOf (DataWithoutCommand byte) = 24
-numberOf (ExtraData command) = 25
-numberOf (MissingData command expected received) = 26
-numberOf (WhileBusy command) = 27
-numberOf (WhileAsleep command) = 28
-numberOf (WhileInReset command) = 29
-numberOf (ReservedValue command value) = 30
-numberOf (RamOutOfRange command x y) = 31
-numberOf (CounterOutsideWindow command x y) = 32
-numberOf (WithoutClock stage) = 33
-numberOf (WithoutAnalog stage) = 34
-numberOf (NoWaveform mode temperature) = 35
-numberOf NoExternalSensor = 36
-numberOf RamPingPong = 37
-numberOf (NothingToRead command) = 38
-numberOf ResetDuringDisplay = 39
+abbrev pub diagnosticNumber : DiagnosticKind → ℕ
+diagnosticNumber (UnknownCommand command) = 21
+diagnosticNumber (ReservedCommand command) = 22
+diagnosticNumber (UnsupportedCommand command) = 23
+diagnosticNumber (DataWithoutCommand byte) = 24
+diagnosticNumber (ExtraData command) = 25
+diagnosticNumber (MissingData command expected received) = 26
+diagnosticNumber (WhileBusy command) = 27
+diagnosticNumber (WhileAsleep command) = 28
+diagnosticNumber (WhileInReset command) = 29
+diagnosticNumber (ReservedValue command value) = 30
+diagnosticNumber (RamOutOfRange command x y) = 31
+diagnosticNumber (CounterOutsideWindow command x y) = 32
+diagnosticNumber (WithoutClock stage) = 33
+diagnosticNumber (WithoutAnalog stage) = 34
+diagnosticNumber (NoWaveform mode temperature) = 35
+diagnosticNumber NoExternalSensor = 36
+diagnosticNumber RamPingPong = 37
+diagnosticNumber (NothingToRead command) = 38
+diagnosticNumber ResetDuringDisplay = 39
 
 -- field a is the command; for 24 the data, for 33 and 34 the stage, for 35 the mode
 abbrev pub fieldA : DiagnosticKind → ℕ
@@ -134,14 +128,14 @@ fieldC ResetDuringDisplay = 0
 
 -- number and fields of a diagnostic
 abbrev pub fieldsOf : DiagnosticKind → Fields
-fieldsOf k = record { number = numberOf k; a = fieldA k; b = fieldB k; c = fieldC k }
+fieldsOf k = record { number = diagnosticNumber k; a = fieldA k; b = fieldB k; c = fieldC k }
 
 -- byte k of a number, low byte first
-abbrev pub byteAt : ℕ → ℕ → ℕ
-byteAt x k = x / 2 ^ (8 * k) % 256
+abbrev pub recordByte : ℕ → ℕ → ℕ
+recordByte x k = x / 2 ^ (8 * k) % 256
 
 -- a record: time 0–7, number 8, field a 9, b 10–11, c 12–13, low byte first, then zeros
 unfoldable pub recordOf : ℕ → Fields → List ℕ
 recordOf time f =
-    byteAt time 0 ∷ byteAt time 1 ∷ byteAt time 2 ∷ byteAt time 3 ∷ byteAt time 4 ∷ byteAt time 5 ∷ byteAt time 6 ∷ byteAt time 7
-    ∷ f .number ∷ f .a ∷ byteAt (f .b) 0 ∷ byteAt (f .b) 1 ∷ byteAt (f .c) 0 ∷ byteAt (f .c) 1 ∷ 0 ∷ 0 ∷ []
+    recordByte time 0 ∷ recordByte time 1 ∷ recordByte time 2 ∷ recordByte time 3 ∷ recordByte time 4 ∷ recordByte time 5 ∷ recordByte time 6 ∷ recordByte time 7
+    ∷ f .number ∷ f .a ∷ recordByte (f .b) 0 ∷ recordByte (f .b) 1 ∷ recordByte (f .c) 0 ∷ recordByte (f .c) 1 ∷ 0 ∷ 0 ∷ []

@@ -1,21 +1,21 @@
 // A diagnostic as a record of 16 bytes (SCOPE, Log; the cases are those of diagnostic.rs).
 ghost use mathlib.Core.Path.{_≡_};
 ghost use Prim.Native.Nat.{_<_};
-ghost use Rattle.diagnostic.specs.Record.{byteAt, stageNumber, modeNumber, fieldsOf, recordOf};
-use config::DisplayMode;
+ghost use Rattle.diagnostic.specs.Record.{recordByte, stageNumber, fieldsOf, recordOf};
+use config::mode_number;
 use diagnostic::DiagnosticKind;
 use diagnostic::Fields;
 use diagnostic::Stage;
 
 // Byte k of a number, low byte first.
-pub fn byte_at(x: u64, k: u64) -> u8
+fn byte_at(x: u64, k: u64) -> u8
     requires { ⌜ k < 8 ⌝ }
-    ensures { λ r. ⌜ r ≡ byteAt x k ⌝ }
+    ensures { λ r. ⌜ r ≡ recordByte x k ⌝ }
 {
     ((x >> (8 * k)) & 0xFF) as u8
 }
 
-pub fn stage_number(stage: Stage) -> u8
+fn stage_number(stage: Stage) -> u8
     ensures { λ r. ⌜ r ≡ stageNumber stage ⌝ }
 {
     match stage {
@@ -26,15 +26,6 @@ pub fn stage_number(stage: Stage) -> u8
         Stage::HvReadyDetection => 4,
         Stage::VciDetection => 5,
         Stage::VcomSense => 6,
-    }
-}
-
-pub fn mode_number(mode: DisplayMode) -> u8
-    ensures { λ r. ⌜ r ≡ modeNumber mode ⌝ }
-{
-    match mode {
-        DisplayMode::One => 0,
-        DisplayMode::Two => 1,
     }
 }
 

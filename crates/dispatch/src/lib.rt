@@ -1,8 +1,9 @@
 // An event handed to the entry point that it is for.
 ghost use mathlib.Core.Path.{_≡_};
-ghost use Rattle.guard.specs.Refusals.{numberOf};
+ghost use Rattle.guard.specs.Refusals.{refusalNumber};
 ghost use Rattle.query.specs.Outcome.{outcome};
-ghost use Rattle.dispatch.specs.Dispatch.{world, told, silent, dispatched};
+ghost use Rattle.world.specs.World.{world};
+ghost use Rattle.dispatch.specs.Dispatch.{told, silent, dispatched};
 use device::Ssd1677;
 use event::Event;
 use query::Answer;
@@ -35,7 +36,7 @@ pub fn dispatch(
     otp: &[u8],
     event: Event,
 ) -> ReadAnswer
-    ensures { λ r. ⌜ outcome (numberOf (r .refusal)) (told (world (r .state) (now (states .exit)) (now (luts .exit)) (now (pixels .exit)) (now («black_white» .exit)) (now (red .exit)) (now (log .exit))) (r .byte)) ≡ dispatched (now (gates .entry)) (now (otp .entry)) (world state (now (states .entry)) (now (luts .entry)) (now (pixels .entry)) (now («black_white» .entry)) (now (red .entry)) (now (log .entry))) event ⌝ }
+    ensures { λ r. ⌜ outcome (refusalNumber (r .refusal)) (told (world (r .state) (now (states .exit)) (now (luts .exit)) (now (pixels .exit)) (now («black_white» .exit)) (now (red .exit)) (now (gates .entry)) (now (log .exit))) (r .byte)) ≡ dispatched (now (otp .entry)) (world state (now (states .entry)) (now (luts .entry)) (now (pixels .entry)) (now («black_white» .entry)) (now (red .entry)) (now (gates .entry)) (now (log .entry))) event ⌝ }
 {
     match event {
         Event::Command(time, command) => silent(ssd1677::write_command(

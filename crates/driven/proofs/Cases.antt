@@ -5,15 +5,14 @@ use mathlib.Core.Bool.{Bool, true, false}
 use mathlib.Core.List.{List}
 use lib.ListN.{length}
 use Rattle.ram.specs.declared.Byte.the-variants.{Nothing}
-use Rattle.clock.specs.Advance.{Ready, WithGlass, withGlass, advanced}
-use Rattle.chip.specs.Close.{withLog}
-use Rattle.reset.specs.Reset.{WithGlassLog, withGlassLog}
+use Rattle.world.specs.World.{withLog, WithGlass, withGlass, WithGlassLog, withGlassLog}
+use Rattle.clock.specs.Advance.{Ready, advanced}
 use Rattle.reading.specs.Reading.{WithByte, readTaken}
 use Rattle.guard_lengths.specs.declared.Lengths.{Lengths}
 use Rattle.guard_lengths.specs.declared.Lent.the-variants.{Nothing as none, Of}
 use Rattle.guard.specs.declared.Refusal.{Refusal}
 use Rattle.guard_lengths.specs.Lengths.{planesLogLent}
-use Rattle.guard.specs.Refusals.{numberOf, accepts, guarded}
+use Rattle.guard.specs.Refusals.{refusalNumber, accepts, guarded}
 use Rattle.query.specs.Outcome.{outcome}
 use Rattle.query.proofs.Cases.{grants, refuses}
 use Rattle.driven.specs.Read.{withRead, readIn, dataRead}
@@ -38,12 +37,12 @@ module _ (luts blackWhite red : List ℕ) (time : ℕ) (w : WithGlassLog) (l : L
 
   pub read-moves : (a : WithGlass) (m : WithByte) → b ≡ true → a ≡ advanced luts time (withGlass (w .device) (w .states) (w .pixels))
       → m ≡ readTaken blackWhite red (withLog (a .device) (w .log)) (a .device .bus .power)
-      → outcome (numberOf r) (withRead (withGlassLog (m .left .device) (a .states) (a .pixels) (m .left .log)) (m .byte)) ≡ dataRead luts blackWhite red time w
+      → outcome (refusalNumber r) (withRead (withGlassLog (m .left .device) (a .states) (a .pixels) (m .left .log)) (m .byte)) ≡ dataRead luts blackWhite red time w
   unfolding dataRead readIn
   read-moves a m h e f =
       grants r _ same (withRead w Nothing) (readIn luts blackWhite red time w) b
       (withRead (withGlassLog (m .left .device) (a .states) (a .pixels) (m .left .log)) (m .byte)) t h (rw (f, e))
 
-  pub read-refused : b ≡ false → outcome (numberOf r) (withRead w Nothing) ≡ dataRead luts blackWhite red time w
+  pub read-refused : b ≡ false → outcome (refusalNumber r) (withRead w Nothing) ≡ dataRead luts blackWhite red time w
   unfolding dataRead
   read-refused h = refuses r _ same (withRead w Nothing) (readIn luts blackWhite red time w) b t h

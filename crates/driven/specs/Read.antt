@@ -4,9 +4,8 @@ use mathlib.Core.List.{List}
 use lib.ListN.{length}
 use Rattle.ram.specs.declared.Byte.{Byte}
 use Rattle.ram.specs.declared.Byte.the-variants.{Nothing}
-use Rattle.clock.specs.Advance.{withGlass, advanced}
-use Rattle.chip.specs.Close.{withLog}
-use Rattle.reset.specs.Reset.{WithGlassLog, withGlassLog}
+use Rattle.world.specs.World.{WithGlassLog, on, logInGlassLog, glassInGlassLog}
+use Rattle.clock.specs.Advance.{advanced}
 use Rattle.reading.specs.Reading.{readTaken}
 use Rattle.guard_lengths.specs.Lengths.{planesLogLent}
 use Rattle.guard.specs.Refusals.{guarded}
@@ -24,9 +23,9 @@ withRead w b = record { left = w; byte = b }
 -- the clock moves, then the current command gives its byte
 unfoldable pub readIn : List ℕ → List ℕ → List ℕ → ℕ → WithGlassLog → WithRead
 readIn luts blackWhite red time w =
-    let g = advanced luts time (withGlass (w .device) (w .states) (w .pixels)) in
-    let r = readTaken blackWhite red (withLog (g .device) (w .log)) (g .device .bus .power) in
-    withRead (withGlassLog (r .left .device) (g .states) (g .pixels) (r .left .log)) (r .byte)
+    let a = on glassInGlassLog (advanced luts time) w in
+    let r = readTaken blackWhite red (logInGlassLog .get a) (a .device .bus .power) in
+    withRead (logInGlassLog .put a (r .left)) (r .byte)
 
 -- read_data
 unfoldable pub dataRead : List ℕ → List ℕ → List ℕ → ℕ → WithGlassLog → Outcome WithRead

@@ -1,7 +1,7 @@
 // A byte with D/C# high that the chip drives (mod.rs, `read_data`).
 ghost use mathlib.Core.Path.{_≡_};
-ghost use Rattle.reset.specs.Reset.{withGlassLog};
-ghost use Rattle.guard.specs.Refusals.{numberOf};
+ghost use Rattle.world.specs.World.{withGlassLog};
+ghost use Rattle.guard.specs.Refusals.{refusalNumber};
 ghost use Rattle.query.specs.Outcome.{outcome};
 ghost use Rattle.driven.specs.Read.{withRead, dataRead};
 use device::Ssd1677;
@@ -26,7 +26,7 @@ pub fn read_data(
     log: &mut [u8],
     time: u64,
 ) -> ReadAnswer
-    ensures { λ r. ⌜ outcome (numberOf (r .refusal)) (withRead (withGlassLog (r .state) (now (states .exit)) (now (pixels .exit)) (now (log .exit))) (r .byte)) ≡ dataRead (now (luts .entry)) (now («black_white» .entry)) (now (red .entry)) time (withGlassLog state (now (states .entry)) (now (pixels .entry)) (now (log .entry))) ⌝ }
+    ensures { λ r. ⌜ outcome (refusalNumber (r .refusal)) (withRead (withGlassLog (r .state) (now (states .exit)) (now (pixels .exit)) (now (log .exit))) (r .byte)) ≡ dataRead (now (luts .entry)) (now («black_white» .entry)) (now (red .entry)) time (withGlassLog state (now (states .entry)) (now (pixels .entry)) (now (log .entry))) ⌝ }
 {
     let lengths = guard_lengths::planes_log_lent(
         states.len(),

@@ -10,7 +10,7 @@ use Rattle.waveform.specs.Setting.{codesOf, frameRateOf, groupCodesOf, waveform
 use Rattle.waveform.specs.Phases.{phaseOf, driven, joined}
 use Rattle.waveform.specs.Walks.{saturatedDrive, pushed, cutStep, wholeTransfer, cutTransfer}
 use Rattle.config.specs.Temperature.{sixteenthsOf}
-use Rattle.counter.specs.Counter.{stepOf, advancedOf}
+use Rattle.counter.specs.Counter.{axisStep, advancedOf}
 use Rattle.counter.specs.Registers.{tenBits}
 use Rattle.gates.specs.Gates.{rowOf, rowOfGate}
 use Rattle.figures.specs.ModeTwo.{modeTwo}
@@ -18,7 +18,7 @@ use Rattle.figures.specs.Figures.{computed, stated}
 use Rattle.figures.proofs.ModeTwo.{bytes, written}
 
 of-bytes : computed bytes ≡ stated
-unfolding voltage sixteenthsOf tenBits advancedOf stepOf bitOf rowOfGate rowOf wholeTransfer cutTransfer waveformOf groupCodesOf codesOf frameRateOf levelsOf sourceLevel vcomSwing tab joined phaseOf driven saturatedDrive pushed cutStep clampZ grayZ
+unfolding voltage sixteenthsOf tenBits advancedOf axisStep bitOf rowOfGate rowOf wholeTransfer cutTransfer waveformOf groupCodesOf codesOf frameRateOf levelsOf sourceLevel vcomSwing tab joined phaseOf driven saturatedDrive pushed cutStep clampZ grayZ
 of-bytes = refl
 
 pub figures : computed modeTwo ≡ stated

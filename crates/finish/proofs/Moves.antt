@@ -25,7 +25,7 @@ use Rattle.waveform.specs.declared.Until.{Until}
 use Rattle.waveform.specs.declared.Until.the-variants.{Whole, Cut}
 use Rattle.waveform.specs.declared.Waveform.{Waveform}
 use Rattle.waveform.specs.Phases.{phasesOf}
-use Rattle.waveform.specs.Walks.{drivingOf, saturatedDrive, pushed, wholeStep, endOf, runOn, cutShort, cutStep, started, wholeOf, transferOf}
+use Rattle.waveform.specs.Walks.{drivingOf, saturatedDrive, pushed, wholeStep, phaseEnd, runOn, phaseCut, cutStep, walkStart, wholeOf, transferOf}
 use Rattle.combine.specs.Settled.{settled, combinedOf}
 use Rattle.panel.specs.Pixels.{stateBy}
 use Rattle.finish.specs.Refresh.{inTable}
@@ -100,10 +100,10 @@ module _ (d : Driving) (some : pos 1 ≤ℤ d .swing) where
 
   cut-high : (until : ℕ) (w : Progress) (p : Phase) → pos 0 ≤ℤ w .transfer .hi → pos 0 ≤ℤ cutStep d until w p .transfer .hi
   unfolding cutStep
-  cut-high until w p h = by (w .stopped) (ltb until (endOf p (w .elapsed)))
+  cut-high until w p h = by (w .stopped) (ltb until (phaseEnd p (w .elapsed)))
     where
       by : (s t : Bool)
-          → pos 0 ≤ℤ pick s w (pick t (cutShort d p (until - w .elapsed) (endOf p (w .elapsed)) (w .transfer)) (runOn d p (endOf p (w .elapsed)) (w .transfer))) .transfer .hi
+          → pos 0 ≤ℤ pick s w (pick t (phaseCut d p (until - w .elapsed) (phaseEnd p (w .elapsed)) (w .transfer)) (runOn d p (phaseEnd p (w .elapsed)) (w .transfer))) .transfer .hi
       by true t = h
       by false true = pushed-high p _ (w .transfer)
       by false false = pushed-high p _ (w .transfer)
@@ -115,7 +115,7 @@ walked-high w drive swing black some Whole =
     folds (λ (t : Transfer). pos 0 ≤ℤ t .hi) (wholeStep d) (λ t p h. pushed-high d some p (p .frames) t) (phasesOf w drive) (identityT swing) (let n = le-out some in le-in _ _ (omega whole))
 walked-high w drive swing black some (Cut until) =
     let d = drivingOf w drive swing black in
-    folds (λ (q : Progress). pos 0 ≤ℤ q .transfer .hi) (cutStep d until) (cut-high d some until) (phasesOf w drive) (started swing) (let n = le-out some in le-in _ _ (omega whole))
+    folds (λ (q : Progress). pos 0 ≤ℤ q .transfer .hi) (cutStep d until) (cut-high d some until) (phasesOf w drive) (walkStart swing) (let n = le-out some in le-in _ _ (omega whole))
 
 -- a combined transfer has the walk's upper bound
 pub combined-high : (w : Waveform) (drive : Drive) (swing : ℤ) (black : Bool) → pos 1 ≤ℤ swing → (until : Until) → pos 0 ≤ℤ combinedOf w drive swing black until .hi

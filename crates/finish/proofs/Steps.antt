@@ -15,15 +15,12 @@ use Rattle.glass.specs.Greys.{grayZ}
 use Rattle.glass.specs.Transfers.{applyT}
 use Rattle.waveform.specs.declared.Drive.{Drive}
 use Rattle.waveform.specs.declared.Drive.the-variants.{Lut}
-use Rattle.waveform.specs.declared.Until.{Until}
-use Rattle.waveform.specs.declared.Until.the-variants.{Whole, Cut}
 use Rattle.waveform.specs.Setting.{waveformOf}
-use Rattle.waveform.specs.Walks.{transferOf, wholeTransfer, cutTransfer}
 use Rattle.panel.specs.declared.Panel.{Panel}
 use Rattle.finish.specs.declared.refresh.Refresh.{Refresh}
 use Rattle.panel.specs.Border.{borderDrive}
 use Rattle.panel.specs.Pixels.{stateBy, statesBy, grays}
-use Rattle.panel.specs.Finish.{Glass, glass, Ending, settingTransfer, transferBy, borderBy, published, withBorder, finished}
+use Rattle.panel.specs.Finish.{Glass, glass, Ending, transferBy, borderBy, published, withBorder, finished}
 use Rattle.finish.specs.Refresh.{FourAlike, refreshOf, transferIn, inTable}
 
 -- ---- the pixels
@@ -56,13 +53,8 @@ refreshIn e swing = refreshOf (waveformOf (e .display .setting) (e .periods)) sw
 
 -- the decoded waveform's transfer is the setting's
 transfer-is : (e : Ending) (swing : ℤ) (drive : Drive) → transferIn (refreshIn e swing) drive ≡ transferBy e swing drive
-unfolding transferIn transferBy wholeTransfer cutTransfer
-transfer-is e swing drive = by (e .until)
-  where
-    by : (until : Until)
-        → transferOf (waveformOf (e .display .setting) (e .periods)) drive swing (e .black) until ≡ settingTransfer (e .display .setting) (e .periods) drive swing (e .black) until
-    by Whole = refl
-    by (Cut until) = refl
+unfolding transferIn transferBy
+transfer-is e swing drive = refl
 
 pub finishes : (e : Ending) (luts : List ℕ) (g : Glass) (r : Refresh) (states : List ℤ) (pixels : List ℕ) (p q : Panel)
     → r ≡ refreshIn e (g .panel .swing)

@@ -13,7 +13,7 @@ use Rattle.finish.specs.Refresh.{inTable}
 
 -- the move that a table has for a LUT
 abbrev pub moveAt : List Move → ℕ → Move
-moveAt ms lut = getD ms lut (record { low = pos 0; high = pos 0; add = pos 0 })
+moveAt ms lut = getD ms lut (record { lo = pos 0; hi = pos 0; add = pos 0 })
 
 -- transfers with no upper bound below 0, which is what making their moves asks
 abbrev pub Movable : List Transfer → Type 0

@@ -22,12 +22,12 @@ rowOf true false gate lines = pick (eqb (gate % 2) 0) (gate / 2) (evenGates line
 rowOf true true gate lines = pick (eqb (gate % 2) 0) (evenGates lines + gate / 2) (gate / 2)
 
 -- a row, where it is one of the lines scanned and one of the RAM's 680 (panel.rs, `ram_row_of_gate`)
-abbrev pub shown : ℕ → ℕ → Row
-shown row lines = pick (ltb row lines) (pick (ltb row 680) (Is row) Nothing) Nothing
+abbrev pub rowShown : ℕ → ℕ → Row
+rowShown row lines = pick (ltb row lines) (pick (ltb row 680) (Is row) Nothing) Nothing
 
 -- the row that a gate shows: none where the gate is not scanned (panel.rs, `ram_row_of_gate`)
 unfoldable pub rowOfGate : ℕ → GateScan → ℕ → Row
-rowOfGate gate scan lines = pick (ltb gate lines) (shown (rowOf (scan .sm) (scan .gd) gate lines) lines) Nothing
+rowOfGate gate scan lines = pick (ltb gate lines) (rowShown (rowOf (scan .sm) (scan .gd) gate lines) lines) Nothing
 
 -- a row, or another number where there is none
 abbrev pub rowOr : Row → ℕ → ℕ

@@ -1,17 +1,16 @@
--- The law of the glass: a run of phases composed into one transfer moves every state from 0 to S as the exact drives do, added one
--- after the other and each sum held; and it keeps the order of two states. Assumes nothing.
+-- The law of the glass: a phase's transfer moves every state from 0 to S as its exact drive does, held, and two transfers composed
+-- into one move it as the one after the other do; drives keep the order of two states. Assumes nothing.
 use mathlib.Core.Path.{_≡_, refl, ap, subst, _∙_}
 use mathlib.Core.Bool.{Bool, true, false, cond}
-use mathlib.Core.List.{List, [], _∷_, _++_}
+use mathlib.Core.List.{List, [], _∷_}
 use Prim.Native.Nat.{ℕ, zero, suc, _+_, _-_, _≤_, _<_, min}
 use native.Mathlib.Omega.{arith}
 use native.Mathlib.Decide.{decLt}
 use lib.IntN.{ℤ, pos, negsuc, negℤ, _+ℤ_}
 use lib.Dec.{ltb}
-use lib.Signed.{_≤ℤ_}
 use borrow.Author.Tests.{ltb-true}
 use Rattle.numbers.specs.Saturation.{clampZ}
-use Rattle.numbers.proofs.Lin.{le-in, whole}
+use Rattle.numbers.proofs.Lin.{whole}
 use Rattle.numbers.proofs.Hold.{clamp-low, clamp-high, clamp-mid}
 use Rattle.glass.specs.declared.Transfer.{Transfer}
 use Rattle.glass.specs.Transfers.{applyT, thenT, shiftT, identityT}
@@ -54,11 +53,6 @@ unfolding drives
 drives-mono S [] x y h k = h
 drives-mono S (d ∷ ds) x y h k = drives-mono S ds (drive S d x) (drive S d y) (drive-mono S d x y h k) (drive-le S d y k)
 
-pub drives-append : (S : ℕ) (ds es : List ℤ) (x : ℕ) → drives S (ds ++ es) x ≡ drives S es (drives S ds x)
-unfolding drives
-drives-append S [] es x = refl
-drives-append S (d ∷ ds) es x = drives-append S ds es (drive S d x)
-
 -- ---- a transfer that moves states as a function of naturals does
 clamp-held : (S : ℕ) (z : ℤ) → clampZ z (pos 0) (pos S) ≡ pos (held S z)
 clamp-held S (negsuc n) = clamp-low (negsuc n) (pos 0) (pos S) (omega whole)
@@ -100,30 +94,5 @@ module _ (S : ℕ) (room : S ≤ 9223372036854775807) where
         within = q .within;
       }
 
-  pub moves-then : {t u : Transfer} {f g : ℕ → ℕ} → Moves S t f → Moves S u g → Moves S (thenT t u) (λ x. g (f x))
-  moves-then {t} {u} {f} a b x h = at-then h (a x h) (b (f x) (a x h .within))
-
   pub moves-as : {t : Transfer} {f g : ℕ → ℕ} → ((x : ℕ) → x ≤ S → f x ≡ g x) → Moves S t f → Moves S t g
   moves-as {t} e a x h = subst (λ (n : ℕ). At S t x n) (e x h) (a x h)
-
--- ---- a run of phases
--- t, then a phase for each delta
-unfoldable pub runFrom : ℕ → Transfer → List ℤ → Transfer
-runFrom S t [] = t
-runFrom S t (d ∷ ds) = runFrom S (thenT t (shiftT d (pos S))) ds
-
-run-from : (S : ℕ) → S ≤ 9223372036854775807 → (ds : List ℤ) {t : Transfer} {f : ℕ → ℕ} → Moves S t f → Moves S (runFrom S t ds) (λ x. drives S ds (f x))
-unfolding runFrom drives
-run-from S room [] m = m
-run-from S room (d ∷ ds) m = run-from S room ds (moves-then S room m (moves-shift S room d))
-
--- the composed run is the phases one after the other, each exact and held
-pub run-exact : (S : ℕ) → S ≤ 9223372036854775807 → (ds : List ℤ) (x : ℕ) → x ≤ S → applyT (runFrom S (identityT (pos S)) ds) (pos x) ≡ pos (drives S ds x)
-run-exact S room ds x h = run-from S room ds (moves-start S room) x h .is
-
--- and it keeps the order of two states
-pub run-mono : (S : ℕ) → S ≤ 9223372036854775807 → (ds : List ℤ) (x y : ℕ) → x ≤ y → y ≤ S
-    → applyT (runFrom S (identityT (pos S)) ds) (pos x) ≤ℤ applyT (runFrom S (identityT (pos S)) ds) (pos y)
-run-mono S room ds x y h k =
-    rw (run-exact S room ds x (omega arith), run-exact S room ds y k)
-    (le-in _ _ (omega (whole, drives-mono S ds x y h k)))

@@ -21,14 +21,14 @@ word-in x h k = record { at-least = le-in _ _ h; at-most = le-in _ _ k }
 -- what is held between bounds that fit when moved fits too
 pub sum-fits : (m : Move) (x : ℤ) → Fitting m → SFits w64 (movedBy m x)
 sum-fits m x f =
-    let al = add-out (m .low) (m .add) in
-    let ah = add-out (m .high) (m .add) in
+    let al = add-out (m .lo) (m .add) in
+    let ah = add-out (m .hi) (m .add) in
     let ax = add-out x (m .add) in
     let fl = le-out (f .from .at-least) in
     let fm = le-out (f .from .at-most) in
     let tl = le-out (f .to .at-least) in
     let tm = le-out (f .to .at-most) in
-    clamp-elim x (m .low) (m .high) (λ w. SFits w64 (w +ℤ m .add)) (λ p. fits-is (omega whole)) (λ p q. fits-is (omega whole)) (λ p q. fits-is (omega whole))
+    clamp-elim x (m .lo) (m .hi) (λ w. SFits w64 (w +ℤ m .add)) (λ p. fits-is (omega whole)) (λ p q. fits-is (omega whole)) (λ p q. fits-is (omega whole))
 
 -- ---- bounds and saturation
 -- bounds of 64 bits hold a sum as they hold the saturated sum
@@ -61,7 +61,7 @@ module _ (t : Transfer) (ta : Word (t .add)) (tl : Word (t .lo)) (th : Word (t .
   hi = t .hi -ℤ t .add
 
   -- no sum comes up to the lower bound
-  pub all-below : Lt (satZ (most +ℤ t .add)) (t .lo) → Does t (record { low = t .lo; high = t .lo; add = pos 0 })
+  pub all-below : Lt (satZ (most +ℤ t .add)) (t .lo) → Does t (record { lo = t .lo; hi = t .lo; add = pos 0 })
   all-below h =
       let l = le-out (tl .at-least) in
       let u = le-out (tl .at-most) in
@@ -88,7 +88,7 @@ module _ (t : Transfer) (ta : Word (t .add)) (tl : Word (t .lo)) (th : Word (t .
       let s = sub-out (t .lo) (t .add) in
       clamp-elim (most +ℤ t .add) least most (λ y. Le (t .lo) y → Le lo most) (λ p k. omega whole) (λ p q k. omega whole) (λ p q k. omega whole) h
 
-  pub sums : Le (t .lo) (satZ (most +ℤ t .add)) → pos 0 ≤ℤ t .hi → Does t (record { low = satZ lo; high = satZ hi; add = t .add })
+  pub sums : Le (t .lo) (satZ (most +ℤ t .add)) → pos 0 ≤ℤ t .hi → Does t (record { lo = satZ lo; hi = satZ hi; add = t .add })
   sums h k =
       let a = le-out (ta .at-least) in
       let b = le-out (ta .at-most) in

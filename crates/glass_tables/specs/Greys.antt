@@ -1,8 +1,8 @@
 -- Greys by tables: which steps the states are cut into, and what the tables hold.
 use mathlib.Core.Path.{_≡_}
 use mathlib.Core.List.{List}
-use Prim.Native.Nat.{ℕ, _+_, _*_, _/_, _^_, _≤_, _<_}
-use lib.IntN.{ℤ, pos, natAbs}
+use Prim.Native.Nat.{ℕ, _+_, _-_, _*_, _/_, _^_, _≤_, _<_}
+use lib.IntN.{ℤ, pos, negsuc, natAbs}
 use lib.Signed.{_≤ℤ_}
 use Rattle.numbers.specs.Lists.{tab}
 use Rattle.glass.specs.Greys.{grayZ}
@@ -19,12 +19,17 @@ unfoldable pub firstsOf : ℤ → ℕ → List ℕ
 firstsOf swing k = tab 512 (λ step. grayZ (pos (step * 2 ^ k)) swing)
 
 -- the least state above a grey: where 510 × state reaches (2 × gray + 1) × swing
-unfoldable pub endOf : ℕ → ℕ → ℕ
-endOf swing gray = ((2 * gray + 1) * swing + 509) / 510
+unfoldable pub greyEnd : ℕ → ℕ → ℕ
+greyEnd swing gray = ((2 * gray + 1) * swing + 509) / 510
 
 -- where each grey ends
 unfoldable pub endsOf : ℕ → List ℕ
-endsOf swing = tab 256 (endOf swing)
+endsOf swing = tab 256 (greyEnd swing)
+
+-- the 64 bits of a state, as a number from 0 on
+abbrev pub bitsOf : ℤ → ℕ
+bitsOf (pos n) = n
+bitsOf (negsuc n) = 18446744073709551615 - n
 
 -- what reading a grey from the tables asks
 pub record Tables (swing : ℤ) (k : ℕ) (firsts ends : List ℕ) : Type 0 where

@@ -14,12 +14,12 @@ pub record Word (x : ℤ) : Type 0 where
 
 -- x held between the move's bounds, then moved
 abbrev pub movedBy : Move → ℤ → ℤ
-movedBy m x = clampZ x (m .low) (m .high) +ℤ m .add
+movedBy m x = clampZ x (m .lo) (m .hi) +ℤ m .add
 
 -- both bounds stay within 64 bits when they are moved, and so does all that is held between them
 pub record Fitting (m : Move) : Type 0 where
-  pub from : Word (m .low +ℤ m .add)
-  pub to : Word (m .high +ℤ m .add)
+  pub from : Word (m .lo +ℤ m .add)
+  pub to : Word (m .hi +ℤ m .add)
 
 -- the move does to every number of 64 bits what the transfer does
 pub record Does (t : Transfer) (m : Move) : Type 0 where

@@ -5,7 +5,7 @@ ghost use Prim.Native.Nat.{_*_, _^_, _≤_, _<_};
 ghost use lib.IntN.{pos, natAbs};
 ghost use lib.Signed.{_≤ℤ_};
 ghost use Rattle.glass.specs.Greys.{grayZ};
-ghost use Rattle.glass_tables.specs.Greys.{Steps, Tables, firstsOf, endOf, endsOf};
+ghost use Rattle.glass_tables.specs.Greys.{bitsOf, Steps, Tables, firstsOf, greyEnd, endsOf};
 
 fn shift_of(swing: u64) -> u64
     requires { ⌜ swing < 9223372036854775808 ⌝ }
@@ -52,7 +52,7 @@ pub fn firsts(swing: i64, shift: u64) -> [u8; 512]
 // The least state whose grey is above `gray`: (2 × gray + 1) × swing / 510, rounded up, in 64 bits.
 fn end(gray: u64, swing: u64) -> u64
     requires { ⌜ (gray ≤ 255) × (swing < 9223372036854775808) ⌝ }
-    ensures { λ r. ⌜ r ≡ endOf swing gray ⌝ }
+    ensures { λ r. ⌜ r ≡ greyEnd swing gray ⌝ }
 {
     let halves = 2 * gray + 1;
     let whole = swing / 510;
@@ -72,18 +72,26 @@ pub fn ends(swing: i64) -> [u64; 256]
     ends
 }
 
-// The grey of a state, as `glass::gray`. For the states from 0 to the swing, which a panel has, both tests always go one way.
+// The 64 bits of a state as a number from 0 on. A state below 0 then lies above every swing, so that one test finds all states that are
+// not from 0 to the swing. Both arms are the same bits: nothing is left of them when they are compiled.
+fn bits(state: i64) -> u64
+    ensures { λ r. ⌜ r ≡ bitsOf state ⌝ }
+{
+    if state < 0 {
+        return (state - i64::MIN) as u64 + 9223372036854775808;
+    }
+    state as u64
+}
+
+// The grey of a state, as `glass::gray`. For the states from 0 to the swing, which a panel has, the first test always goes one way.
 pub fn gray_of(firsts: &[u8; 512], ends: &[u64; 256], shift: u64, swing: i64, state: i64) -> u8
     requires { ⌜ Tables swing shift (now firsts) (now ends) ⌝ }
     ensures { λ r. ⌜ r ≡ grayZ state swing ⌝ }
 {
-    if state < 0 {
-        return 0;
+    let found = bits(state);
+    if (swing as u64) < found {
+        return if state < 0 { 0 } else { 255 };
     }
-    if swing < state {
-        return 255;
-    }
-    let found = state as u64;
     let first = firsts[(found >> shift) as usize];
     if ends[first as usize] <= found {
         first + 1

@@ -7,22 +7,14 @@ pub mod greys;
 ghost use mathlib.Core.Path.{_≡_};
 ghost use lib.IntN.{pos, _-ℤ_};
 ghost use lib.Signed.{_≤ℤ_};
-ghost use Rattle.numbers.specs.Saturation.{clampZ, satZ};
+ghost use Rattle.numbers.specs.Saturation.{satZ};
 ghost use Rattle.glass_tables.specs.Moves.{movedBy, Fitting, Does};
 
-// A transfer with its bounds put before its sum, which then needs no saturation: `x` held between `low` and `high`, plus `add`.
+// A transfer with its bounds put before its sum, which then needs no saturation: `x` held between `lo` and `hi`, plus `add`.
 pub struct Move {
-    pub low: i64,
-    pub high: i64,
+    pub lo: i64,
+    pub hi: i64,
     pub add: i64,
-}
-
-// As `numbers::clamp_i64`, by two choices between values at hand, which a machine makes without a jump.
-fn hold(x: i64, lo: i64, hi: i64) -> i64
-    ensures { λ r. ⌜ r ≡ clampZ x lo hi ⌝ }
-{
-    let held = if hi < x { hi } else { x };
-    if x < lo { lo } else { held }
 }
 
 fn saturating_sub_i64(a: i64, b: i64) -> i64
@@ -46,16 +38,16 @@ pub fn move_of(transfer: Transfer) -> Move
     let highest = numbers::saturating_add_i64(i64::MAX, transfer.add);
     if highest < transfer.lo {
         return Move {
-            low: transfer.lo,
-            high: transfer.lo,
+            lo: transfer.lo,
+            hi: transfer.lo,
             add: 0,
         };
     }
-    let low = saturating_sub_i64(transfer.lo, transfer.add);
-    let high = saturating_sub_i64(transfer.hi, transfer.add);
+    let lo = saturating_sub_i64(transfer.lo, transfer.add);
+    let hi = saturating_sub_i64(transfer.hi, transfer.add);
     Move {
-        low,
-        high,
+        lo,
+        hi,
         add: transfer.add,
     }
 }
@@ -66,6 +58,6 @@ impl Move {
         requires { ⌜ Fitting self ⌝ }
         ensures { λ r. ⌜ r ≡ movedBy self state ⌝ }
     {
-        hold(state, self.low, self.high) + self.add
+        numbers::clamp_i64(state, self.lo, self.hi) + self.add
     }
 }

@@ -12,11 +12,11 @@ use Rattle.guard_state.specs.State.{stateFine}
 use Rattle.guard_lengths.specs.Lengths.{lengthsFit}
 
 -- the number of a refusal, 0 for none
-abbrev pub numberOf : Refusal → ℕ
-numberOf Accepted = 0
-numberOf Buffer = 11
-numberOf Table = 12
-numberOf State = 13
+abbrev pub refusalNumber : Refusal → ℕ
+refusalNumber Accepted = 0
+refusalNumber Buffer = 11
+refusalNumber Table = 12
+refusalNumber State = 13
 
 -- the call is not refused
 abbrev pub accepts : Refusal → Bool

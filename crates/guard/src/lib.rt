@@ -1,6 +1,6 @@
 // What the host must hand over with a call: a state, buffers of the right lengths and a table, or it is refused (SCOPE, Refusals).
 ghost use mathlib.Core.Path.{_≡_};
-ghost use Rattle.guard.specs.Refusals.{accepts, numberOf, guarded, guardedWithTable};
+ghost use Rattle.guard.specs.Refusals.{accepts, refusalNumber, guarded, guardedWithTable};
 use device::Ssd1677;
 use guard_lengths::Lengths;
 
@@ -28,7 +28,7 @@ pub fn is_accepted(refusal: Refusal) -> bool
 
 // The refusal's number, 0 for none.
 pub fn number(refusal: Refusal) -> u8
-    ensures { λ r. ⌜ r ≡ numberOf refusal ⌝ }
+    ensures { λ r. ⌜ r ≡ refusalNumber refusal ⌝ }
 {
     match refusal {
         Refusal::Accepted => 0,

@@ -18,6 +18,7 @@ use Rattle.config.specs.Tests.{emptyPanel, panelOutsideRam, oddRowsWithGd}
 use Rattle.otp.specs.Table.{badTable}
 use Rattle.device.specs.declared.Registers.{Registers}
 use Rattle.device.specs.declared.Ssd1677.{Ssd1677}
+use Rattle.registers.proofs.Bounds.{Bounded}
 use Rattle.guard_lengths.specs.declared.Lent.{Lent}
 use Rattle.guard_lengths.specs.declared.Lent.the-variants.{Of}
 use Rattle.guard_lengths.specs.declared.Lengths.{Lengths}
@@ -110,18 +111,7 @@ fine-panel p e =
     }
 
 -- ---- the registers
-pub record FineRegisters (r : Registers) : Type 0 where
-  pub mux : r .mux ≤ 1023
-  pub x-start : r .window .«x_start» ≤ 1023
-  pub x-end : r .window .«x_end» ≤ 1023
-  pub y-start : r .window .«y_start» ≤ 1023
-  pub y-end : r .window .«y_end» ≤ 1023
-  pub x : r .counter .x ≤ 1023
-  pub y : r .counter .y ≤ 1023
-  pub entry : r .entry .0 ≤ 7
-  pub temperature : r .temperature ≤ 4095
-
-pub fine-registers : (r : Registers) → registersFine r ≡ true → FineRegisters r
+pub fine-registers : (r : Registers) → registersFine r ≡ true → Bounded r
 unfolding registersFine
 fine-registers r e =
     let at =
@@ -130,15 +120,17 @@ fine-registers r e =
     ∷ leb (r .counter .x) 1023 ∷ leb (r .counter .y) 1023 ∷ leb (r .entry .0) 7 ∷ leb (r .temperature) 4095 ∷ [])
     e in
     record {
-      mux = leb-true (r .mux) 1023 (at 0);
-      x-start = leb-true (r .window .«x_start») 1023 (at 1);
-      x-end = leb-true (r .window .«x_end») 1023 (at 2);
-      y-start = leb-true (r .window .«y_start») 1023 (at 3);
-      y-end = leb-true (r .window .«y_end») 1023 (at 4);
-      x = leb-true (r .counter .x) 1023 (at 5);
-      y = leb-true (r .counter .y) 1023 (at 6);
-      entry = leb-true (r .entry .0) 7 (at 7);
-      temperature = leb-true (r .temperature) 4095 (at 8);
+      mux-ten = leb-true (r .mux) 1023 (at 0);
+      entry-three = leb-true (r .entry .0) 7 (at 7);
+      window-ten =
+          record {
+            x-start-ten = leb-true (r .window .«x_start») 1023 (at 1);
+            x-end-ten = leb-true (r .window .«x_end») 1023 (at 2);
+            y-start-ten = leb-true (r .window .«y_start») 1023 (at 3);
+            y-end-ten = leb-true (r .window .«y_end») 1023 (at 4);
+          };
+      counter-ten = record { x-ten = leb-true (r .counter .x) 1023 (at 5); y-ten = leb-true (r .counter .y) 1023 (at 6) };
+      temperature-twelve = leb-true (r .temperature) 4095 (at 8);
     }
 
 -- ---- the whole state
@@ -147,7 +139,7 @@ pub record FineState (d : Ssd1677) : Type 0 where
   pub swing : pos 1 ≤ℤ d .panel .swing
   pub swing-most : d .panel .swing ≤ℤ most
   pub periods : (code : ℕ) → code < 16 → 0 < getD (d .config .timing .«frame_period») code 0
-  pub registers : FineRegisters (d .regs)
+  pub registers : Bounded (d .regs)
   pub count : d .journal .count ≤ 1024
   pub current : currentFine (d .bus .current) ≡ true
 

@@ -26,15 +26,15 @@ unfoldable pub periodsFine : List ℕ → Bool
 periodsFine periods = not (periodsTest periods .refuses)
 
 -- mux, window or counter value: at most 1,023
-abbrev pub tenBits : ℕ → Bool
-tenBits value = leb value 1023
+abbrev pub isTenBits : ℕ → Bool
+isTenBits value = leb value 1023
 
 -- mux, window and counter at most 1,023, entry at most 7, temperature at most 4,095
 unfoldable pub registersFine : Registers → Bool
 registersFine r =
-    tenBits (r .mux)
-    && tenBits (r .window .«x_start») && tenBits (r .window .«x_end») && tenBits (r .window .«y_start») && tenBits (r .window .«y_end»)
-    && tenBits (r .counter .x) && tenBits (r .counter .y)
+    isTenBits (r .mux)
+    && isTenBits (r .window .«x_start») && isTenBits (r .window .«x_end») && isTenBits (r .window .«y_start») && isTenBits (r .window .«y_end»)
+    && isTenBits (r .counter .x) && isTenBits (r .counter .y)
     && leb (r .entry .0) 7
     && leb (r .temperature) 4095
 

@@ -1,8 +1,6 @@
 // The hash of docs/replay-format.md, over lists of bytes, of words and of states.
 ghost use mathlib.Core.Path.{_≡_};
 ghost use Prim.Native.Nat.{_<_, _/_, _%_};
-ghost use lib.IntN.{pos};
-ghost use lib.Signed.{ltZ};
 ghost use mathlib.Core.List.{[], _∷_};
 ghost use Rattle.hash.specs.Hash.{stepOf, hashFrom, hashOf, wordBytes, patternOf, fourOf, stateBytes};
 
@@ -49,18 +47,12 @@ pub fn of_words(words: &[u16]) -> u64
     h
 }
 
-fn is_negative(z: i64) -> bool
-    ensures { λ r. ⌜ r ≡ ltZ z (pos 0) ⌝ }
-{
-    z < 0
-}
-
 // The bits of a state in two's complement.
 fn pattern(state: i64) -> u64
     ensures { λ r. ⌜ r ≡ patternOf state ⌝ }
 {
     let size = numbers::magnitude_i64(state);
-    if is_negative(state) {
+    if numbers::is_negative(state) {
         return LARGEST - (size - 1);
     }
     size

@@ -1,8 +1,9 @@
 // A byte with D/C# high (mod.rs, `write_data`).
 ghost use mathlib.Core.Path.{_≡_};
-ghost use Rattle.guard.specs.Refusals.{numberOf};
+ghost use Rattle.guard.specs.Refusals.{refusalNumber};
 ghost use Rattle.query.specs.Outcome.{outcome};
-ghost use Rattle.high.specs.Data.{withPlanes, dataWritten};
+ghost use Rattle.world.specs.World.{withPlanes};
+ghost use Rattle.high.specs.Data.{dataWritten};
 use device::Ssd1677;
 use device::part;
 use query::Answer;
@@ -19,7 +20,7 @@ pub fn write_data(
     time: u64,
     byte: u8,
 ) -> Answer
-    ensures { λ r. ⌜ outcome (numberOf (r .refusal)) (withPlanes (r .state) (now (states .exit)) (now (pixels .exit)) (now («black_white» .exit)) (now (red .exit)) (now (log .exit))) ≡ dataWritten (now (luts .entry)) time byte (withPlanes state (now (states .entry)) (now (pixels .entry)) (now («black_white» .entry)) (now (red .entry)) (now (log .entry))) ⌝ }
+    ensures { λ r. ⌜ outcome (refusalNumber (r .refusal)) (withPlanes (r .state) (now (states .exit)) (now (pixels .exit)) (now («black_white» .exit)) (now (red .exit)) (now (log .exit))) ≡ dataWritten (now (luts .entry)) time byte (withPlanes state (now (states .entry)) (now (pixels .entry)) (now («black_white» .entry)) (now (red .entry)) (now (log .entry))) ⌝ }
 {
     let lengths = guard_lengths::planes_log_lent(
         states.len(),

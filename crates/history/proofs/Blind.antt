@@ -11,12 +11,7 @@ use Rattle.config.specs.declared.Ssd1677Config.{Ssd1677Config}
 use Rattle.panel.specs.declared.Display.{Display}
 use Rattle.panel.specs.declared.Panel.{Panel}
 use Rattle.device.specs.declared.Ssd1677.{Ssd1677}
-use Rattle.clock.specs.Advance.{WithGlass, withGlass}
-use Rattle.chip.specs.Close.{WithLog, withLog}
-use Rattle.reset.specs.Reset.{WithGlassLog, withGlassLog}
-use Rattle.activation.specs.Activation.{WithBuffers, withBuffers}
-use Rattle.acts.specs.Ram.{WithRam, withRam}
-use Rattle.high.specs.Data.{WithPlanes, withPlanes}
+use Rattle.world.specs.World.{WithLog, withLog, WithGlass, withGlass, WithGlassLog, withGlassLog, WithRam, withRam, WithBuffers, withBuffers, WithPlanes, withPlanes}
 
 -- ---- what the core keeps, as the same bundle with nothing else in it
 abbrev pub plain : Ssd1677 → Ssd1677

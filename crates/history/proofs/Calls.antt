@@ -1,7 +1,7 @@
 -- What an answer tells of a call, by the contract of its entry point: one that is accepted leaves what its definition says; one that is
 -- refused leaves every part that it was handed, so that a run beside it stays as it was. Assumes nothing.
 use Prim.Native.Nat.{ℕ, suc}
-use mathlib.Core.Path.{_≡_, ap, _∙_}
+use mathlib.Core.Path.{_≡_, sym, ap, _∙_}
 use mathlib.Core.List.{List}
 use native.Mathlib.Omega.{arith}
 use lib.ListN.{length}
@@ -11,17 +11,18 @@ use Rattle.guard_lengths.specs.Lengths.{glassLent, glassLogLent, planesLogLent}
 use Rattle.guard.specs.Refusals.{guarded, guardedWithTable}
 use Rattle.clock.specs.Advance.{advanced}
 use Rattle.device.specs.Parts.{withConfig, withJournal}
+use Rattle.world.specs.World.{World, lentOf, deviceInWorld, glassInWorld, glassLogInWorld, buffersInWorld, planesInWorld}
 use Rattle.query.specs.Outcome.{Outcome, outcome, unless, stateGuarded}
-use Rattle.query.specs.Queries.{withAmbient, ambientSet, WithCount, withCount, emptied, diagnosticsTaken}
+use Rattle.query.specs.Queries.{withAmbient, ambientSet, WithCount, withCount, journalEmptied, diagnosticsTaken}
 use Rattle.wait.specs.Wait.{clockMoved}
 use Rattle.res.specs.Line.{lineTaken, lineMoved}
 use Rattle.low.specs.Command.{commandTaken, commandWritten}
 use Rattle.ram.specs.declared.Byte.the-variants.{Nothing}
-use Rattle.high.specs.Data.{WithPlanes, dataIn, dataWritten}
+use Rattle.high.specs.Data.{dataIn, dataWritten}
 use Rattle.driven.specs.Read.{WithRead, withRead, readIn, dataRead}
-use Rattle.calls.specs.World.{World, Call, advance, set-reset, write-command, write-data, read-data, set-ambient, take-diagnostics, putDevice, putGlass, putGlassLog, putBuffers, putPlanes, glassOf, glassLogOf, buffersOf, planesOf, lentOf, back, called, taken}
-use Rattle.calls.specs.Sound.{lengthsIn}
-use Rattle.history.specs.Runs.{Lent, another, its-own, Beside}
+use Rattle.calls.specs.World.{Call, advance, set-reset, write-command, write-data, read-data, set-ambient, take-diagnostics, back, called, taken}
+use Rattle.calls.specs.Sound.{lengthsInWorld}
+use Rattle.history.specs.Runs.{Beside}
 
 -- ---- by the number alone
 nought : (n : ℕ) → 0 ≡ suc n → ⊥
@@ -44,67 +45,54 @@ module _ {A : Type 0} (put : A → World) (given done : A) where
 pub accepted-taken : (otp : List ℕ) (w v : World) (call : Call) → outcome 0 v ≡ called otp w call → v ≡ taken otp w call
 unfolding clockMoved lineMoved commandWritten dataWritten dataRead ambientSet diagnosticsTaken
 accepted-taken otp w v (advance time) e =
-    decides (putGlass w) (glassOf w) (advanced (w .luts) time (glassOf w))
+    decides (glassInWorld .put w) (glassInWorld .get w) (advanced (w .luts) time (glassInWorld .get w))
     (guarded (w .device) (glassLent (length (w .states)) (length (w .luts)) (length (w .pixels)))) v e
 accepted-taken otp w v (set-reset time low) e =
-    decides (putGlassLog w) (glassLogOf w) (lineTaken (w .luts) time low (glassLogOf w))
+    decides (glassLogInWorld .put w) (glassLogInWorld .get w) (lineTaken (w .luts) time low (glassLogInWorld .get w))
     (guarded (w .device) (glassLogLent (length (w .states)) (length (w .luts)) (length (w .pixels)) (length (w .log)))) v e
 accepted-taken otp w v (write-command time command) e =
-    decides (putBuffers w) (buffersOf w) (commandTaken (lentOf otp w) time command (buffersOf w))
-    (guardedWithTable (w .device) (lengthsIn w) otp) v e
+    decides (buffersInWorld .put w) (buffersInWorld .get w) (commandTaken (lentOf otp w) time command (buffersInWorld .get w))
+    (guardedWithTable (w .device) (lengthsInWorld w) otp) v e
 accepted-taken otp w v (write-data time byte) e =
-    decides (putPlanes w) (planesOf w) (dataIn (w .luts) time byte (planesOf w))
+    decides (planesInWorld .put w) (planesInWorld .get w) (dataIn (w .luts) time byte (planesInWorld .get w))
     (guarded (w .device) (planesLogLent (length (w .states)) (length (w .luts)) (length (w .pixels)) (length (w .log)) (length (w .blackWhite)) (length (w .red)))) v e
 accepted-taken otp w v (read-data time) e =
-    decides (λ (r : WithRead). putGlassLog w (r .left)) (withRead (glassLogOf w) Nothing) (readIn (w .luts) (w .blackWhite) (w .red) time (glassLogOf w))
+    decides (λ (r : WithRead). glassLogInWorld .put w (r .left)) (withRead (glassLogInWorld .get w) Nothing) (readIn (w .luts) (w .blackWhite) (w .red) time (glassLogInWorld .get w))
     (guarded (w .device) (planesLogLent (length (w .states)) (length (w .luts)) (length (w .pixels)) (length (w .log)) (length (w .blackWhite)) (length (w .red)))) v e
 accepted-taken otp w v (set-ambient register) e =
-    decides (putDevice w) (w .device) (withConfig (w .device) (withAmbient (w .device .config) register))
+    decides (deviceInWorld .put w) (w .device) (withConfig (w .device) (withAmbient (w .device .config) register))
     (stateGuarded (w .device)) v e
 accepted-taken otp w v take-diagnostics e =
-    decides (λ (t : WithCount). putDevice w (t .device)) (withCount (w .device) 0) (withCount (withJournal (w .device) (emptied (w .device .journal))) (w .device .journal .count))
+    decides (λ (t : WithCount). deviceInWorld .put w (t .device)) (withCount (w .device) 0) (withCount (withJournal (w .device) (journalEmptied (w .device .journal))) (w .device .journal .count))
     (stateGuarded (w .device)) v e
 
 pub refused-same : (otp : List ℕ) (w v : World) (number : ℕ) (call : Call) → (number ≡ 0 → ⊥) → outcome number v ≡ called otp w call → v ≡ w
 unfolding clockMoved lineMoved commandWritten dataWritten dataRead ambientSet diagnosticsTaken
 refused-same otp w v number (advance time) n e =
-    declines (putGlass w) (glassOf w) (advanced (w .luts) time (glassOf w))
+    declines (glassInWorld .put w) (glassInWorld .get w) (advanced (w .luts) time (glassInWorld .get w))
     (guarded (w .device) (glassLent (length (w .states)) (length (w .luts)) (length (w .pixels)))) number v n e
 refused-same otp w v number (set-reset time low) n e =
-    declines (putGlassLog w) (glassLogOf w) (lineTaken (w .luts) time low (glassLogOf w))
+    declines (glassLogInWorld .put w) (glassLogInWorld .get w) (lineTaken (w .luts) time low (glassLogInWorld .get w))
     (guarded (w .device) (glassLogLent (length (w .states)) (length (w .luts)) (length (w .pixels)) (length (w .log)))) number v n e
 refused-same otp w v number (write-command time command) n e =
-    declines (putBuffers w) (buffersOf w) (commandTaken (lentOf otp w) time command (buffersOf w))
-    (guardedWithTable (w .device) (lengthsIn w) otp) number v n e
+    declines (buffersInWorld .put w) (buffersInWorld .get w) (commandTaken (lentOf otp w) time command (buffersInWorld .get w))
+    (guardedWithTable (w .device) (lengthsInWorld w) otp) number v n e
 refused-same otp w v number (write-data time byte) n e =
-    declines (putPlanes w) (planesOf w) (dataIn (w .luts) time byte (planesOf w))
+    declines (planesInWorld .put w) (planesInWorld .get w) (dataIn (w .luts) time byte (planesInWorld .get w))
     (guarded (w .device) (planesLogLent (length (w .states)) (length (w .luts)) (length (w .pixels)) (length (w .log)) (length (w .blackWhite)) (length (w .red)))) number v n e
 refused-same otp w v number (read-data time) n e =
-    declines (λ (r : WithRead). putGlassLog w (r .left)) (withRead (glassLogOf w) Nothing) (readIn (w .luts) (w .blackWhite) (w .red) time (glassLogOf w))
+    declines (λ (r : WithRead). glassLogInWorld .put w (r .left)) (withRead (glassLogInWorld .get w) Nothing) (readIn (w .luts) (w .blackWhite) (w .red) time (glassLogInWorld .get w))
     (guarded (w .device) (planesLogLent (length (w .states)) (length (w .luts)) (length (w .pixels)) (length (w .log)) (length (w .blackWhite)) (length (w .red)))) number v n e
 refused-same otp w v number (set-ambient register) n e =
-    declines (putDevice w) (w .device) (withConfig (w .device) (withAmbient (w .device .config) register))
+    declines (deviceInWorld .put w) (w .device) (withConfig (w .device) (withAmbient (w .device .config) register))
     (stateGuarded (w .device)) number v n e
 refused-same otp w v number take-diagnostics n e =
-    declines (λ (t : WithCount). putDevice w (t .device)) (withCount (w .device) 0) (withCount (withJournal (w .device) (emptied (w .device .journal))) (w .device .journal .count))
+    declines (λ (t : WithCount). deviceInWorld .put w (t .device)) (withCount (w .device) 0) (withCount (withJournal (w .device) (journalEmptied (w .device .journal))) (w .device .journal .count))
     (stateGuarded (w .device)) number v n e
 
 -- ---- a run beside a refused call
-part : {A : Type 0} {own handed back next : A} → back ≡ handed → Lent own handed back next → next ≡ own
-part e (another is) = is
-part e (its-own was is) = is ∙ e ∙ was
-
 pub beside-same : (own handed back next : World) → back ≡ handed → Beside own handed back next → next ≡ own
-beside-same own handed back next e b =
-    let device = part (ap (λ (w : World). w .device) e) (b .device) in
-    let states = part (ap (λ (w : World). w .states) e) (b .states) in
-    let luts = part (ap (λ (w : World). w .luts) e) (b .luts) in
-    let pixels = part (ap (λ (w : World). w .pixels) e) (b .pixels) in
-    let blackWhite = part (ap (λ (w : World). w .blackWhite) e) (b .blackWhite) in
-    let red = part (ap (λ (w : World). w .red) e) (b .red) in
-    let gates = part (ap (λ (w : World). w .gates) e) (b .gates) in
-    let log = part (ap (λ (w : World). w .log) e) (b .log) in
-    λ i. record { device = device i; states = states i; luts = luts i; pixels = pixels i; blackWhite = blackWhite i; red = red i; gates = gates i; log = log i }
+beside-same own handed back next e b = b .after ∙ ap (b .put) e ∙ sym (b .before)
 
 -- a refused call changes none of the run's state and buffers, whatever it was handed
 pub refused-changes-nothing : (otp : List ℕ) (own handed back next : World) (number : ℕ) (call : Call) → (number ≡ 0 → ⊥)

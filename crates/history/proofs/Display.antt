@@ -13,12 +13,13 @@ use Rattle.diagnostic.specs.declared.DiagnosticKind.{DiagnosticKind}
 use Rattle.diagnostic.specs.declared.DiagnosticKind.the-variants.{WithoutClock, WithoutAnalog, RamPingPong}
 use Rattle.diagnostic.specs.declared.Stage.the-variants as stage
 use Rattle.device.specs.declared.Ssd1677.{Ssd1677}
+use Rattle.world.specs.World.{Lent}
 use Rattle.stages.specs.declared.Control.{Control}
 use Rattle.stages.specs.declared.Run.{Run}
 use Rattle.stages.specs.Run.{controlOf, Step, step, withClock, withAnalog, noted, waited}
 use Rattle.stages.specs.Stages.{loaded}
-use Rattle.activation.specs.Display.{Displayed, displayed, scanOf, unchanged, displayOf, warned, begun, shown}
-use Rattle.activation.specs.Activation.{WithLuts, withLuts, Lent, runOf, analogOff, clockOff, settled, during, after, staged}
+use Rattle.activation.specs.Display.{Displayed, displayed, scanOf, unchanged, displayOf, warned, displayBegun, displayShown}
+use Rattle.activation.specs.Activation.{WithLuts, withLuts, runOf, analogOff, clockOff, runSettled, during, after, staged}
 use Rattle.history.proofs.Blind.{Blind, blind-then, blind-pick}
 use Rattle.history.proofs.Stages.{plainStep, plainDisplayed, plainLuts, unbused, blind-loaded}
 
@@ -39,8 +40,8 @@ module _ (blackWhite red gates : List ℕ) (d : Ssd1677) (luts : List ℕ) where
       displayed (waited ns (a .run)) (displayOf (s .run .lut) (d .regs .border) (d .now) (s .run .ns) ns two)
       (tab (length luts) (lutOf gates red blackWhite (d .config .panel) (scanOf (d .regs)))) (a .log)
 
-  pub blind-begun : (two : Bool) → Blind plainStep plainDisplayed (λ (s : Step). begun blackWhite red gates d two s luts)
-  unfolding begun waited
+  pub blind-begun : (two : Bool) → Blind plainStep plainDisplayed (λ (s : Step). displayBegun blackWhite red gates d two s luts)
+  unfolding displayBegun waited
   blind-begun two s =
       ap (λ (a : Step). plainDisplayed (from two s a))
       (plain-warned (d .now) two (d .regs .«display_option») s ∙ sym (plain-warned (d .now) two (d .regs .«display_option») (plainStep s)))
@@ -49,10 +50,10 @@ module _ (blackWhite red gates : List ℕ) (d : Ssd1677) (luts : List ℕ) where
   unfolding noted
   blind-unlit kind s = refl
 
-  blind-shown : (wanted two : Bool) → Blind plainStep plainDisplayed (λ (s : Step). shown blackWhite red gates d wanted two s luts)
-  unfolding shown
+  blind-shown : (wanted two : Bool) → Blind plainStep plainDisplayed (λ (s : Step). displayShown blackWhite red gates d wanted two s luts)
+  unfolding displayShown
   blind-shown wanted two =
-      let lit : Step → Displayed = λ (s : Step). begun blackWhite red gates d two s luts in
+      let lit : Step → Displayed = λ (s : Step). displayBegun blackWhite red gates d two s luts in
       let no-analog : Step → Displayed = λ (s : Step). unchanged (d .display) luts (noted (d .now) (WithoutAnalog stage.Display) s) in
       let no-clock : Step → Displayed = λ (s : Step). unchanged (d .display) luts (noted (d .now) (WithoutClock stage.Display) s) in
       blind-pick plainStep plainDisplayed (λ s. wanted && s .run .«waveform_found»)
@@ -65,8 +66,8 @@ module _ (blackWhite red gates : List ℕ) (d : Ssd1677) (luts : List ℕ) where
       (λ s. refl)
 
   -- the bus is not looked at
-  shown-unbused : (wanted two : Bool) (s : Step) → shown blackWhite red gates d wanted two s luts ≡ shown blackWhite red gates (unbused d) wanted two s luts
-  unfolding shown begun
+  shown-unbused : (wanted two : Bool) (s : Step) → displayShown blackWhite red gates d wanted two s luts ≡ displayShown blackWhite red gates (unbused d) wanted two s luts
+  unfolding displayShown displayBegun
   shown-unbused wanted two s = refl
 
 -- ---- all the stages
@@ -76,18 +77,18 @@ module _ (k : Lent) (s : WithLuts) where
   during-plain c =
       let d = s .device in
       let load = loaded (d .now) c (d .regs .sensor) (d .config) (k .otp) in
-      let show : Step → Displayed = λ (x : Step). shown (k .blackWhite) (k .red) (k .gates) d (c .display) (c .«mode_two») x (s .luts) in
+      let show : Step → Displayed = λ (x : Step). displayShown (k .blackWhite) (k .red) (k .gates) d (c .display) (c .«mode_two») x (s .luts) in
       blind-then plainStep plainStep plainDisplayed load show (blind-loaded (d .now) c (d .regs .sensor) (d .config) (k .otp))
       (blind-shown (k .blackWhite) (k .red) (k .gates) d (s .luts) (c .display) (c .«mode_two»))
       (step (runOf d) (s .log))
       ∙ ap plainDisplayed (shown-unbused (k .blackWhite) (k .red) (k .gates) d (s .luts) (c .display) (c .«mode_two») (load (plainStep (step (runOf d) (s .log)))))
 
   after-plain : (c : Control) (t : Displayed) → plainLuts (after k s c t) ≡ plainLuts (after k (plainLuts s) c (plainDisplayed t))
-  unfolding settled clockOff analogOff waited
+  unfolding runSettled clockOff analogOff waited
   after-plain c t = by (c .«clock_off») (c .«analog_off» && t .run .analog)
     where
       put : WithLuts → Displayed → Run → WithLuts
-      put s t r = withLuts (settled (s .device) r (t .display)) (t .luts) (t .log)
+      put s t r = withLuts (runSettled (s .device) r (t .display)) (t .luts) (t .log)
 
       off : Bool → Bool → Run → Run
       off a b r = pick a (withClock false (pick b (waited (s .device .config .timing .«analog_off») (withAnalog false r)) r)) (pick b (waited (s .device .config .timing .«analog_off») (withAnalog false r)) r)

@@ -8,12 +8,13 @@ use Rattle.config.specs.declared.Ssd1677Config.{Ssd1677Config}
 use Rattle.config.specs.Answer.{isAccepted}
 use Rattle.query.specs.Outcome.{Outcome, outcome}
 use Rattle.power_on.specs.Start.{Buffers, started}
-use Rattle.calls.specs.World.{World, Call, worldOf, called, taken, leftBy, AllTyped}
+use Rattle.world.specs.World.{World}
+use Rattle.calls.specs.World.{Call, worldOf, called, taken, leftBy, AllTyped}
 use Rattle.calls.specs.Sound.{Sound}
 use Rattle.calls.proofs.Accepted.{accepted-takes}
 use Rattle.calls.proofs.Kept.{sound-kept}
 use Rattle.calls.proofs.Start.{started-sound}
-use Rattle.history.specs.Reckon.{coreOf, reckon, begun}
+use Rattle.history.specs.Reckon.{coreOf, reckon, firstReckoning}
 use Rattle.history.specs.Runs.{Runs, done, accepted, refused}
 use Rattle.history.specs.History.{Agrees}
 use Rattle.history.proofs.Calls.{refused-changes-nothing}
@@ -40,5 +41,5 @@ module _ (c : Ssd1677Config) (otp : List ℕ) (b : Buffers) (ok : isAccepted (st
 
   -- what the calls leave agrees with the reckoning
   pub left-agrees : c .optics .«initial_gray» ≤ 255
-      → Agrees (leftBy otp (worldOf (started c otp b .left)) calls) (reckon otp (begun (coreOf (worldOf (started c otp b .left)))) calls)
+      → Agrees (leftBy otp (worldOf (started c otp b .left)) calls) (reckon otp (firstReckoning (coreOf (worldOf (started c otp b .left)))) calls)
   left-agrees byte = history c otp b byte ok calls (leftBy otp (worldOf (started c otp b .left)) calls) exists

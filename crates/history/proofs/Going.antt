@@ -9,20 +9,17 @@ use borrow.Author.Tests.{eqb-true}
 use Rattle.numbers.specs.Choice.{pick}
 use Rattle.panel.specs.declared.Display.{Display}
 use Rattle.device.specs.declared.Power.{Power}
+use Rattle.world.specs.World.{World, withLog, WithGlass, withRam, WithBuffers, lentOf, on, glassInGlassLog, logInBuffers, glassInWorld, glassLogInWorld, buffersInWorld}
 use Rattle.busy.specs.Busy.{pending}
-use Rattle.clock.specs.Advance.{WithGlass, glassOf, advanced}
-use Rattle.chip.specs.Close.{withLog, closed}
-use Rattle.reset.specs.Reset as reset
-use Rattle.activation.specs.Activation.{withLuts, WithBuffers, staged}
-use Rattle.acts.specs.Ram.{withRam}
-use Rattle.begin.specs.Begin as begin
+use Rattle.clock.specs.Advance.{advanced}
+use Rattle.chip.specs.Close.{closed}
+use Rattle.activation.specs.Activation.{withLuts, staged}
 use Rattle.res.specs.Line.{lineTaken}
-use Rattle.low.specs.Command.{arrived, commandTaken}
+use Rattle.low.specs.Command.{movedTo, commandTaken}
 use Rattle.high.specs.Data.{dataIn}
 use Rattle.driven.specs.Read.{readIn}
-use Rattle.calls.specs.World as world
-use Rattle.calls.specs.World.{World, Call, advance, set-reset, write-command, write-data, read-data, set-ambient, take-diagnostics, glassLogOf, buffersOf, lentOf, taken}
-use Rattle.history.specs.Reckon.{Core, coreOf, deviceOf, bare, stepped, Refreshing, none, shownBy, Reckoning, falls, activates, begins, unreached, instead, goesOn, Worked, reached, cutShort, worked}
+use Rattle.calls.specs.World.{Call, advance, set-reset, write-command, write-data, read-data, set-ambient, take-diagnostics, taken}
+use Rattle.history.specs.Reckon.{Core, coreOf, deviceOf, bare, coreAfter, Refreshing, none, shownBy, Reckoning, falls, activates, begins, unreached, instead, goesOn, Worked, reached, cutAt, worked}
 use Rattle.history.proofs.Blind.{Seen}
 use Rattle.history.proofs.Written.{quiet-data}
 use Rattle.history.proofs.Read.{quiet-read}
@@ -47,36 +44,36 @@ beside w number = record { core = coreOf w; underWay = showsIn w; number = numbe
 module _ (otp : List ℕ) (w : World) where
   module _ (time : ℕ) where
     abbrev g : WithGlass
-    g = advanced (w .luts) time (world.glassOf w)
+    g = advanced (w .luts) time (glassInWorld .get w)
 
     abbrev t : ℕ
     t = max (w .device .now) time
 
     -- the core once the clock has moved
     abbrev c : Core
-    c = stepped otp (coreOf w) (advance time)
+    c = coreAfter otp (coreOf w) (advance time)
 
     moves : shownBy (g .device .display) (w .luts) ≡ unreached t (showsIn w)
-    moves = moved-is (w .luts) (w .luts) time (world.glassOf w)
+    moves = moved-is (w .luts) (w .luts) time (glassInWorld .get w)
 
     resets : (low : Bool) → showsIn (taken otp w (set-reset time low)) ≡ pick (falls low (w .device .bus .power)) none (unreached t (showsIn w))
     unfolding lineTaken
     resets low =
-        line-is (w .luts) low (reset.onGlass (advanced (w .luts) time) (glassLogOf w)) (g .device .bus .power)
-        ∙ ap (λ (p : Power). pick (falls low p) none (shownBy (g .device .display) (w .luts))) (power-moved (w .luts) time (world.glassOf w))
+        line-is (w .luts) low (on glassInGlassLog (advanced (w .luts) time) (glassLogInWorld .get w)) (g .device .bus .power)
+        ∙ ap (λ (p : Power). pick (falls low p) none (shownBy (g .device .display) (w .luts))) (power-moved (w .luts) time (glassInWorld .get w))
         ∙ ap (pick (falls low (w .device .bus .power)) none) moves
 
     -- the clock moved and the last command closed
     abbrev a : WithBuffers
-    a = begin.onLog closed (arrived time (buffersOf w))
+    a = on logInBuffers closed (movedTo time (buffersInWorld .get w))
 
     begins-is : beginsIn (lentOf otp w) (g .device) (w .luts) ≡ begins otp c
     begins-is = sym (begins-core otp (taken otp w (advance time))) ∙ ap (begins otp) (core-taken otp w (advance time))
 
     reach-is : reaches (g .device .bus .power) (pending (g .device .bus .«busy_until») (g .device .now)) ≡ activates t 0x20 (coreOf w)
     reach-is =
-        ap (λ (p : Power). reaches p (pending (g .device .bus .«busy_until») (g .device .now))) (power-moved (w .luts) time (world.glassOf w))
-        ∙ ap (reaches (w .device .bus .power)) (pending-moved (w .luts) time (world.glassOf w))
+        ap (λ (p : Power). reaches p (pending (g .device .bus .«busy_until») (g .device .now))) (power-moved (w .luts) time (glassInWorld .get w))
+        ∙ ap (reaches (w .device .bus .power)) (pending-moved (w .luts) time (glassInWorld .get w))
         ∙ sym (reaches-is t (coreOf w))
 
     onward-once : (b : Bool) (s o : Refreshing) → onward b t s (unreached t o) ≡ unreached t (pick b (instead s o) o)
@@ -93,7 +90,7 @@ module _ (otp : List ℕ) (w : World) where
         (activation-is (lentOf otp w) a (a .device .bus .power)
         ∙ ap (λ (q : Bool). onward q (g .device .now) (beginsIn (lentOf otp w) (g .device) (w .luts)) (shownBy (g .device .display) (w .luts))) reach-is
         ∙ ap (λ (n : ℕ). onward (activates t 0x20 (coreOf w)) n (beginsIn (lentOf otp w) (g .device) (w .luts)) (shownBy (g .device .display) (w .luts)))
-        (now-moved (w .luts) time (world.glassOf w))
+        (now-moved (w .luts) time (glassInWorld .get w))
         ∙ ap (λ (s : Refreshing). onward (activates t 0x20 (coreOf w)) t s (shownBy (g .device .display) (w .luts))) begins-is
         ∙ ap (onward (activates t 0x20 (coreOf w)) t (begins otp c)) moves
         ∙ onward-once (activates t 0x20 (coreOf w)) (begins otp c) (showsIn w))
@@ -123,7 +120,7 @@ module _ (otp : List ℕ) (w : World) where
     core-shows = ap (λ (x : Core). shownBy (x .display) (x .luts)) (sym (core-taken otp w (advance time))) ∙ moves
 
     core-now : c .now ≡ t
-    core-now = ap (λ (x : Core). x .now) (sym (core-taken otp w (advance time))) ∙ now-moved (w .luts) time (world.glassOf w)
+    core-now = ap (λ (x : Core). x .now) (sym (core-taken otp w (advance time))) ∙ now-moved (w .luts) time (glassInWorld .get w)
 
     at-once-is : reached t (begins otp c) ≡ atOnce otp c
     at-once-is =
@@ -148,7 +145,7 @@ module _ (otp : List ℕ) (w : World) where
   unfolding worked
   works-in number (advance time) = reached-is (w .luts) (t time) (w .device .display)
   works-in number (set-reset time low) =
-      ap (λ (us : List Worked). us ++ pick (falls low (w .device .bus .power)) (cutShort (t time) (showsIn w)) [])
+      ap (λ (us : List Worked). us ++ pick (falls low (w .device .bus .power)) (cutAt (t time) (showsIn w)) [])
       (reached-is (w .luts) (t time) (w .device .display))
       ∙ ap (λ (us : List Worked). endsIn (w .luts) time (w .device) ++ pick (falls low (w .device .bus .power)) us [])
       (cut-is (w .luts) (t time) (w .device .display))

@@ -10,8 +10,9 @@ use Rattle.numbers.specs.Saturation.{largest}
 use Rattle.config.specs.declared.Ssd1677Config.{Ssd1677Config}
 use Rattle.config.specs.Answer.{isAccepted}
 use Rattle.power_on.specs.Start.{Buffers, started}
-use Rattle.calls.specs.World.{World, Call, worldOf, taken}
-use Rattle.history.specs.Reckon.{coreOf, shownBy, Worked, worked, Reckoning, reckonCall, reckon, begun}
+use Rattle.world.specs.World.{World}
+use Rattle.calls.specs.World.{Call, worldOf, taken}
+use Rattle.history.specs.Reckon.{coreOf, shownBy, Worked, worked, Reckoning, reckonCall, reckon, firstReckoning}
 use Rattle.history.specs.Runs.{Runs, done, accepted, refused}
 use Rattle.history.specs.History.{Agrees, worksIn}
 use Rattle.history.proofs.Core.{core-taken}
@@ -82,22 +83,22 @@ agrees w r count k =
     record { core = k .core; under-way = k .under-way; swing = s .swing; states = s .states; within = s .within; pixels = s .pixels }
 
 pub start-kept : (c : Ssd1677Config) (otp : List ℕ) (b : Buffers) → c .optics .«initial_gray» ≤ 255 → isAccepted (started c otp b .answer) ≡ true
-    → Kept (worldOf (started c otp b .left)) (begun (coreOf (worldOf (started c otp b .left)))) 0
+    → Kept (worldOf (started c otp b .left)) (firstReckoning (coreOf (worldOf (started c otp b .left)))) 0
 start-kept c otp b byte ok = record { core = refl; under-way = start-rests c otp b ok; shows = start-shows c otp b ok byte }
 
 -- the theorem
 pub history : (c : Ssd1677Config) (otp : List ℕ) (b : Buffers) → c .optics .«initial_gray» ≤ 255 → isAccepted (started c otp b .answer) ≡ true
     → (calls : List Call) (u : World) → Runs otp (worldOf (started c otp b .left)) calls u
-    → Agrees u (reckon otp (begun (coreOf (worldOf (started c otp b .left)))) calls)
+    → Agrees u (reckon otp (firstReckoning (coreOf (worldOf (started c otp b .left)))) calls)
 history c otp b byte ok calls u runs =
     let first = coreOf (worldOf (started c otp b .left)) in
-    agrees u (reckon otp (begun first) calls) (refreshes otp (begun first) calls 0) (run-kept (begun first) 0 runs (start-kept c otp b byte ok))
+    agrees u (reckon otp (firstReckoning first) calls) (refreshes otp (firstReckoning first) calls 0) (run-kept (firstReckoning first) 0 runs (start-kept c otp b byte ok))
 
 -- the image is of as many generations as refreshes were worked in, stopping at 2^64 − 1
 pub generations : (c : Ssd1677Config) (otp : List ℕ) (b : Buffers) → c .optics .«initial_gray» ≤ 255 → isAccepted (started c otp b .answer) ≡ true
     → (calls : List Call) (u : World) → Runs otp (worldOf (started c otp b .left)) calls u
-    → u .device .panel .image .generation ≡ min (worksIn otp (begun (coreOf (worldOf (started c otp b .left)))) calls) (largest 64)
+    → u .device .panel .image .generation ≡ min (worksIn otp (firstReckoning (coreOf (worldOf (started c otp b .left)))) calls) (largest 64)
 generations c otp b byte ok calls u runs =
     let first = coreOf (worldOf (started c otp b .left)) in
-    run-kept (begun first) 0 runs (start-kept c otp b byte ok) .shows .generation
-    ∙ ap (λ (n : ℕ). min n (largest 64)) (from-none (refreshes-is otp (begun first) calls 0))
+    run-kept (firstReckoning first) 0 runs (start-kept c otp b byte ok) .shows .generation
+    ∙ ap (λ (n : ℕ). min n (largest 64)) (from-none (refreshes-is otp (firstReckoning first) calls 0))

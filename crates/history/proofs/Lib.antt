@@ -24,6 +24,6 @@ pub mod TellsStages
 pub mod TellsShown
 pub mod TellsCalls
 pub mod Reports
-pub mod Held
+pub mod Contracts
 pub mod Exists
 pub mod Order

@@ -18,11 +18,12 @@ use Rattle.device.specs.declared.Deadline.the-variants.{Never, At}
 use Rattle.device.specs.declared.Power.{Power}
 use Rattle.device.specs.declared.Power.the-variants.{Running, Asleep, InReset}
 use Rattle.device.specs.declared.Ssd1677.{Ssd1677}
+use Rattle.world.specs.World.{WithGlass, withGlass, WithGlassLog, on, deviceInGlassLog, logInGlassLog, glassInGlassLog}
 use Rattle.moment.specs.Moments.{nsBetween, lowered}
-use Rattle.clock.specs.Advance.{WithGlass, withGlass, isOver, clocked, quieted, published, endingOf, glassOf, ended, advanced}
+use Rattle.clock.specs.Advance.{isOver, clocked, quieted, glassPublished, endingOf, glassOf, ended, advanced}
 use Rattle.chip.specs.Close.{closed}
 use Rattle.chip.specs.Report.{logged}
-use Rattle.reset.specs.Reset.{WithGlassLog, onDevice, onLog, onGlass, restored, isDriving, cutShort, dropped, cut, inReset, asserted, released, byLine}
+use Rattle.reset.specs.Reset.{restored, isDriving, displayCut, displayDropped, cut, inReset, asserted, released, byLine}
 use Rattle.history.specs.Reckon.{upTo, Worked, falls, numberOver}
 use Rattle.history.proofs.Blind.{seenGlassLog}
 use Rattle.history.proofs.Shows.{Marks, Shows, over, refresh, finish-shows}
@@ -38,7 +39,7 @@ not-over luts time g = by (isOver (clocked time g .device)) refl
     x = clocked time g
 
     y : Bool → WithGlass
-    y b = quieted (pick b (published x (finished (endingOf (x .device) (x .device .display .ends) Whole) luts (glassOf x))) x)
+    y b = quieted (pick b (glassPublished x (finished (endingOf (x .device) (x .device .display .ends) Whole) luts (glassOf x))) x)
 
     gone : false ≡ true → ⊥
     gone e = let z : _≡_ {A = ℕ} 0 1 = cc in omega arith
@@ -54,7 +55,7 @@ now-moved luts time g = by (isOver (clocked time g .device))
     x : WithGlass
     x = clocked time g
 
-    by : (b : Bool) → quieted (pick b (published x (finished (endingOf (x .device) (x .device .display .ends) Whole) luts (glassOf x))) x) .device .now ≡ max (g .device .now) time
+    by : (b : Bool) → quieted (pick b (glassPublished x (finished (endingOf (x .device) (x .device .display .ends) Whole) luts (glassOf x))) x) .device .now ≡ max (g .device .now) time
     by true = refl
     by false = refl
 
@@ -65,7 +66,7 @@ config-moved luts time g = by (isOver (clocked time g .device))
     x : WithGlass
     x = clocked time g
 
-    by : (b : Bool) → quieted (pick b (published x (finished (endingOf (x .device) (x .device .display .ends) Whole) luts (glassOf x))) x) .device .config ≡ g .device .config
+    by : (b : Bool) → quieted (pick b (glassPublished x (finished (endingOf (x .device) (x .device .display .ends) Whole) luts (glassOf x))) x) .device .config ≡ g .device .config
     by true = refl
     by false = refl
 
@@ -85,7 +86,7 @@ bus-moved luts time g = by (isOver (clocked time g .device))
     x : WithGlass
     x = clocked time g
 
-    by : (b : Bool) → quieted (pick b (published x (finished (endingOf (x .device) (x .device .display .ends) Whole) luts (glassOf x))) x) .device .bus
+    by : (b : Bool) → quieted (pick b (glassPublished x (finished (endingOf (x .device) (x .device .display .ends) Whole) luts (glassOf x))) x) .device .bus
         ≡ lowered (g .device .bus .«busy_until») (g .device .bus) (max (g .device .now) time)
     by true = refl
     by false = refl
@@ -101,17 +102,17 @@ cutIn luts d = pick (isDriving d) (refresh luts (d .display) (upTo (d .now - d .
 
 asserted-shows : (luts : List ℕ) (w : WithGlassLog) (number : Marks) → (w .device .display .running ≡ true → w .device .now < w .device .display .ends)
     → Shows (seenGlassLog w) number → Shows (seenGlassLog (asserted luts w)) (over (w .device .config) (cutIn luts (w .device)) number)
-unfolding asserted inReset restored cut cutShort closed logged nsBetween numberOver
+unfolding asserted inReset restored cut displayCut closed logged nsBetween numberOver
 asserted-shows luts w number before h = by (isDriving (w .device)) refl
   where
     d : Ssd1677
     d = w .device
 
     v : WithGlassLog
-    v = onLog (logged ResetDuringDisplay) (onLog closed w)
+    v = on logInGlassLog (logged ResetDuringDisplay) (on logInGlassLog closed w)
 
     fallen : Bool → WithGlassLog
-    fallen b = onDevice inReset (onDevice restored (pick b (onGlass (cutShort luts) v) (onDevice dropped (onLog closed w))))
+    fallen b = on deviceInGlassLog inReset (on deviceInGlassLog restored (pick b (on glassInGlassLog (displayCut luts) v) (on deviceInGlassLog displayDropped (on logInGlassLog closed w))))
 
     by : (b : Bool) → isDriving d ≡ b
         → Shows (seenGlassLog (fallen b)) (over (d .config) (pick b (refresh luts (d .display) (upTo (d .now - d .display .started)) ∷ []) []) number)

@@ -13,9 +13,10 @@ use Rattle.device.specs.declared.Bus.{Bus}
 use Rattle.device.specs.declared.Deadline.{Deadline}
 use Rattle.device.specs.declared.Deadline.the-variants.{Never, At}
 use Rattle.device.specs.declared.Ssd1677.{Ssd1677}
+use Rattle.world.specs.World.{WithGlass}
 use Rattle.busy.specs.Busy.{pending}
 use Rattle.moment.specs.Moments.{lowered}
-use Rattle.clock.specs.Advance.{WithGlass, isOver, clocked, quieted, published, endingOf, ended, advanced}
+use Rattle.clock.specs.Advance.{isOver, clocked, quieted, glassPublished, endingOf, ended, advanced}
 use Rattle.clock.specs.Advance as chip
 use Rattle.history.specs.Reckon.{upTo, Worked}
 use Rattle.history.proofs.Shows.{refresh}
@@ -51,7 +52,7 @@ cut-moved luts time g = by (isOver (clocked time g .device)) refl
     t = max (g .device .now) time
 
     y : Bool → WithGlass
-    y b = quieted (pick b (published x (finished (endingOf (x .device) (x .device .display .ends) Whole) luts (chip.glassOf x))) x)
+    y b = quieted (pick b (glassPublished x (finished (endingOf (x .device) (x .device .display .ends) Whole) luts (chip.glassOf x))) x)
 
     cuts : Bool → List Worked
     cuts b = pick b (refresh luts (d .display) (upTo (t - d .display .started)) ∷ []) []

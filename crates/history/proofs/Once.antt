@@ -15,15 +15,14 @@ use Rattle.device.specs.declared.Params.the-variants.{Exactly}
 use Rattle.device.specs.declared.Power.{Power}
 use Rattle.device.specs.declared.Power.the-variants.{Running, Asleep, InReset}
 use Rattle.device.specs.declared.Ssd1677.{Ssd1677}
+use Rattle.world.specs.World.{World, withGlass, WithBuffers, Lent, lentOf, on, deviceInBuffers}
 use Rattle.command.specs.Table.{rows, kindOf}
 use Rattle.busy.specs.Busy.{pending}
 use Rattle.moment.specs.Moments.{afterNs}
-use Rattle.clock.specs.Advance.{withGlass}
 use Rattle.stages.specs.Run.{controlOf, Step, noted}
-use Rattle.activation.specs.Display.{Displayed, displayOf, begun, shown, unchanged}
-use Rattle.activation.specs.Activation.{WithLuts, withLuts, Lent, WithBuffers, settled, before, during, staged, stagedIn, activated}
+use Rattle.activation.specs.Display.{Displayed, displayOf, displayBegun, displayShown, unchanged}
+use Rattle.activation.specs.Activation.{WithLuts, withLuts, runSettled, before, during, staged, stagedIn, activated}
 use Rattle.begin.specs.Begin as begin
-use Rattle.calls.specs.World.{World, lentOf}
 use Rattle.history.specs.Reckon.{Core, coreOf, deviceOf, bare, all, Worked, numberOver}
 use Rattle.history.proofs.Blind.{seenBuffers}
 use Rattle.history.proofs.Stages.{unbused}
@@ -33,14 +32,14 @@ use Rattle.history.proofs.Shows.{Marks, Shows, over, refresh, endsIn, a
 
 -- ---- the stages and the end of the display
 shown-ends : (blackWhite red gates : List ℕ) (d : Ssd1677) (wanted two : Bool) (s : Step) (luts : List ℕ) → d .display .ends ≤ largest 64
-    → shown blackWhite red gates d wanted two s luts .display .ends ≤ largest 64
-unfolding shown begun displayOf afterNs
+    → displayShown blackWhite red gates d wanted two s luts .display .ends ≤ largest 64
+unfolding displayShown displayBegun displayOf afterNs
 shown-ends blackWhite red gates d wanted two s luts h = by (wanted && s .run .«waveform_found») (s .run .clock) (s .run .analog)
   where
     by : (a b c : Bool)
         → pick a
         (pick b
-        (pick c (begun blackWhite red gates d two s luts) (unchanged (d .display) luts (noted (d .now) (WithoutAnalog stage.Display) s)))
+        (pick c (displayBegun blackWhite red gates d two s luts) (unchanged (d .display) luts (noted (d .now) (WithoutAnalog stage.Display) s)))
         (unchanged (d .display) luts (noted (d .now) (WithoutClock stage.Display) s)))
         (unchanged (d .display) luts s) .display .ends
         ≤ largest 64
@@ -50,7 +49,7 @@ shown-ends blackWhite red gates d wanted two s luts h = by (wanted && s .run .«
     by false b c = h
 
 staged-ends : (k : Lent) (s : WithLuts) → s .device .display .ends ≤ largest 64 → staged k s .device .display .ends ≤ largest 64
-unfolding staged settled
+unfolding staged runSettled
 staged-ends k s h =
     let c = controlOf (s .device .regs .«update_control_2») in
     shown-ends (k .blackWhite) (k .red) (k .gates) (s .device) (c .display) (c .«mode_two») (before k s c) (s .luts) h
@@ -64,7 +63,7 @@ abbrev pub onceIn : Lent → Ssd1677 → List ℕ → List Worked
 onceIn k d luts = byStart (d .now) (during k (withLuts (unbused d) luts []) (controlOf (d .regs .«update_control_2»)))
 
 staged-once : (k : Lent) (s : WithLuts) → endsIn (staged k s .luts) (staged k s .device .now) (staged k s .device) ≡ onceIn k (s .device) (s .luts)
-unfolding staged settled
+unfolding staged runSettled
 staged-once k s =
     let c = controlOf (s .device .regs .«update_control_2») in
     ap (λ (n : ℕ). byStart n (during k s c)) (same (s .device .now)) ∙ ap (byStart (s .device .now)) (during-plain k s c)
@@ -79,7 +78,7 @@ atOnce otp c =
     pick (s .device .display .running && leb (s .device .display .ends) (c .now)) (refresh (s .luts) (s .device .display) all ∷ []) []
 
 pub at-once : (otp : List ℕ) (w : World) → atOnce otp (coreOf w) ≡ onceIn (lentOf otp w) (w .device) (w .luts)
-unfolding staged settled
+unfolding staged runSettled
 at-once otp w =
     ap (byStart (w .device .now))
     (during-plain (lentOf otp w) (withLuts (deviceOf (coreOf w)) (w .luts) []) (controlOf (w .device .regs .«update_control_2»)))
@@ -94,7 +93,7 @@ reaches InReset busy = false
 module _ (k : Lent) (number : Marks) where
   staged-shows : (w : WithBuffers) → Shows (seenBuffers w) number
       → Shows (seenBuffers (activated k w)) (over (w .device .config) (endsIn (stagedIn k w .luts) (stagedIn k w .device .now) (stagedIn k w .device)) number)
-  unfolding activated staged settled
+  unfolding activated staged runSettled
   staged-shows w h =
       advance-shows (stagedIn k w .luts) (stagedIn k w .device .now) (withGlass (stagedIn k w .device) (w .states) (w .pixels)) number
       (record {
@@ -117,15 +116,15 @@ module _ (k : Lent) (number : Marks) where
   pub activation-shows : (w : WithBuffers) (power : Power) → Shows (seenBuffers w) number
       → Shows (seenBuffers (begin.begun k 0x20 w power))
       (over (w .device .config) (pick (reaches power (pending (w .device .bus .«busy_until») (w .device .now))) (onceIn k (w .device) (w .luts)) []) number)
-  unfolding begin.begun begin.byKind begin.run begin.made kindOf rows lookup numberOver
+  unfolding begin.begun begin.commandByKind begin.run begin.commandMade kindOf rows lookup numberOver
   activation-shows w InReset h = subst (λ s. Shows s number) (sym (still-told k 0x20 (WhileInReset 0x20) w)) h
   activation-shows w Asleep h = subst (λ s. Shows s number) (sym (still-told k 0x20 (WhileAsleep 0x20) w)) h
   activation-shows w Running h = by (pending (w .device .bus .«busy_until») (w .device .now))
     where
       by : (b : Bool)
-          → Shows (seenBuffers (pick (b && true) (told (WhileBusy 0x20) w) (begin.byKind k 0x20 w (kindOf 0x20))))
+          → Shows (seenBuffers (pick (b && true) (told (WhileBusy 0x20) w) (begin.commandByKind k 0x20 w (kindOf 0x20))))
           (over (w .device .config) (pick (not b) (onceIn k (w .device) (w .luts)) []) number)
       by true = subst (λ s. Shows s number) (sym (still-told k 0x20 (WhileBusy 0x20) w)) h
       by false =
-          activated-shows (begin.onDevice (begin.made 0x20 (Write (Exactly 0))) w)
+          activated-shows (on deviceInBuffers (begin.commandMade 0x20 (Write (Exactly 0))) w)
           h

@@ -18,11 +18,12 @@ use Rattle.waveform.specs.Exact.{settingPhases}
 use Rattle.config.specs.declared.Ssd1677Config.{Ssd1677Config}
 use Rattle.config.specs.Answer.{isAccepted}
 use Rattle.power_on.specs.Start.{Buffers, started}
-use Rattle.calls.specs.World.{World, Call, worldOf}
+use Rattle.world.specs.World.{World}
+use Rattle.calls.specs.World.{Call, worldOf}
 use Rattle.calls.proofs.Kept.{states-kept}
-use Rattle.history.specs.Reckon.{Worked, worked, swingOf, drivesBy, numberAfter, numberOver, coreOf, Reckoning, reckonCall, reckon, begun}
+use Rattle.history.specs.Reckon.{Worked, worked, swingS, drivesBy, numberAfter, numberOver, coreOf, Reckoning, reckonCall, reckon, firstReckoning}
 use Rattle.history.specs.Runs.{Runs, done, accepted, refused}
-use Rattle.history.specs.History.{SameLut, Alike}
+use Rattle.history.specs.History.{SameLut, AlwaysSameLut}
 use Rattle.history.proofs.Calls.{accepted-taken, refused-changes-nothing}
 use Rattle.history.proofs.History.{Kept, run-kept, start-kept}
 
@@ -57,14 +58,14 @@ module _ (i j : ℕ) where
   after-keeps : (c : Ssd1677Config) (w : Worked) (x y : ℕ) → getD (w .luts) i 0 ≡ getD (w .luts) j 0 → x ≤ y → numberAfter c i x w ≤ numberAfter c j y w
   unfolding numberAfter
   after-keeps c w x y e h =
-      subst (λ (lut : ℕ). pick (ltb (getD (w .luts) i 0) 4) (drives (swingOf c) (by (getD (w .luts) i 0)) x) x ≤ pick (ltb lut 4) (drives (swingOf c) (by lut) y) y) e
+      subst (λ (lut : ℕ). pick (ltb (getD (w .luts) i 0) 4) (drives (swingS c) (by (getD (w .luts) i 0)) x) x ≤ pick (ltb lut 4) (drives (swingS c) (by lut) y) y) e
       (go (ltb (getD (w .luts) i 0) 4))
     where
       by : ℕ → List ℤ
       by lut = drivesBy (c .optics .«positive_drives_black») (w .part) (settingPhases (w .setting) (c .timing .«frame_period») (Lut lut))
 
-      go : (t : Bool) → pick t (drives (swingOf c) (by (getD (w .luts) i 0)) x) x ≤ pick t (drives (swingOf c) (by (getD (w .luts) i 0)) y) y
-      go true = drives-keep (swingOf c) (by (getD (w .luts) i 0)) x y h
+      go : (t : Bool) → pick t (drives (swingS c) (by (getD (w .luts) i 0)) x) x ≤ pick t (drives (swingS c) (by (getD (w .luts) i 0)) y) y
+      go true = drives-keep (swingS c) (by (getD (w .luts) i 0)) x y h
       go false = h
 
   over-keeps : (c : Ssd1677Config) (ws : List Worked) (x y : ℕ) → SameLut i j ws → x ≤ y → numberOver c i x ws ≤ numberOver c j y ws
@@ -73,7 +74,7 @@ module _ (i j : ℕ) where
   over-keeps c (w ∷ ws) x y s h = over-keeps c ws (numberAfter c i x w) (numberAfter c j y w) (s .1) (after-keeps c w x y (s .0) h)
 
   -- of the whole numbers
-  pub order-kept : (otp : List ℕ) (calls : List Call) (r : Reckoning) → Alike i j otp r calls → r .number i ≤ r .number j
+  pub order-kept : (otp : List ℕ) (calls : List Call) (r : Reckoning) → AlwaysSameLut i j otp r calls → r .number i ≤ r .number j
       → reckon otp r calls .number i ≤ reckon otp r calls .number j
   unfolding reckon
   order-kept otp [] r a h = h
@@ -82,7 +83,7 @@ module _ (i j : ℕ) where
 
   -- and of the lent states
   states-ordered : {otp : List ℕ} {w u : World} {calls : List Call} (r : Reckoning) (count : ℕ) → Runs otp w calls u → Kept w r count
-      → Alike i j otp r calls → i < length (w .states) → j < length (w .states) → getD (w .states) i (pos 0) ≤ℤ getD (w .states) j (pos 0)
+      → AlwaysSameLut i j otp r calls → i < length (w .states) → j < length (w .states) → getD (w .states) i (pos 0) ≤ℤ getD (w .states) j (pos 0)
       → getD (u .states) i (pos 0) ≤ℤ getD (u .states) j (pos 0)
   states-ordered {otp = otp} {calls = calls} r count runs k a in-i in-j h =
       let s = k .shows in
@@ -94,8 +95,8 @@ module _ (i j : ℕ) where
 -- order of their states
 pub order : (c : Ssd1677Config) (otp : List ℕ) (b : Buffers) → c .optics .«initial_gray» ≤ 255 → isAccepted (started c otp b .answer) ≡ true
     → (calls more : List Call) (v u : World) → Runs otp (worldOf (started c otp b .left)) calls v → Runs otp v more u → (i j : ℕ)
-    → i < length (v .states) → j < length (v .states) → Alike i j otp (reckon otp (begun (coreOf (worldOf (started c otp b .left)))) calls) more
+    → i < length (v .states) → j < length (v .states) → AlwaysSameLut i j otp (reckon otp (firstReckoning (coreOf (worldOf (started c otp b .left)))) calls) more
     → getD (v .states) i (pos 0) ≤ℤ getD (v .states) j (pos 0) → getD (u .states) i (pos 0) ≤ℤ getD (u .states) j (pos 0)
 order c otp b byte ok calls more v u runs rest i j in-i in-j a h =
-    let first = begun (coreOf (worldOf (started c otp b .left))) in
+    let first = firstReckoning (coreOf (worldOf (started c otp b .left))) in
     states-ordered i j (reckon otp first calls) _ rest (run-kept first 0 runs (start-kept c otp b byte ok)) a in-i in-j h

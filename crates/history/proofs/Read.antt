@@ -8,7 +8,7 @@ use Rattle.numbers.specs.Choice.{pick}
 use Rattle.ram.specs.declared.Byte.{Byte}
 use Rattle.ram.specs.declared.Byte.the-variants.{Is, Nothing}
 use Rattle.ram.specs.Plane.{planeOf, readAt}
-use Rattle.diagnostic.specs.declared.DiagnosticKind.the-variants.{RamOutOfRange, NothingToRead}
+use Rattle.diagnostic.specs.declared.DiagnosticKind.the-variants.{NothingToRead}
 use Rattle.device.specs.declared.Active.{Active}
 use Rattle.device.specs.declared.Current.{Current}
 use Rattle.device.specs.declared.Current.the-variants as current
@@ -16,11 +16,12 @@ use Rattle.device.specs.declared.Kind.{Kind}
 use Rattle.device.specs.declared.Kind.the-variants.{Write, Read, Unsupported, Reserved}
 use Rattle.device.specs.declared.Power.{Power}
 use Rattle.device.specs.declared.Power.the-variants.{Running, Asleep, InReset}
-use Rattle.chip.specs.Close.{WithLog}
+use Rattle.world.specs.World.{WithLog}
 use Rattle.chip.specs.Report.{logged}
-use Rattle.reading.specs.Reading.{WithByte, withByte, going, nothingRead, registerRead, chosen, outOfRange, moved, ramFound, ramRead, byteRead, byKind, byCurrent, readTaken}
+use Rattle.data.specs.Data.{outOfRange}
+use Rattle.reading.specs.Reading.{WithByte, withByte, readingOn, nothingRead, registerRead, chosen, moved, ramFound, ramRead, byteRead, readByKind, byCurrent, readTaken}
 use Rattle.history.proofs.Blind.{plainLog, seenLog, quiet-then, quiet-pick}
-use Rattle.history.proofs.Steps.{QuietLog, quiet-logged}
+use Rattle.history.proofs.Steps.{QuietLog, quiet-logged, quiet-range}
 
 -- of what a read leaves beside its byte
 abbrev QuietRead : (WithLog → WithByte) → Type 0
@@ -34,13 +35,13 @@ either true f g qf qg = qf
 either false f g qf qg = qg
 
 module _ (a : Active) where
-  quiet-going : (range nothing : Bool) → QuietLog (going a range nothing)
+  quiet-going : (range nothing : Bool) → QuietLog (readingOn a range nothing)
   quiet-going range nothing = record { blind = λ k. refl; still = λ k. refl }
 
   quiet-nothing : QuietRead (nothingRead a)
   unfolding nothingRead
   quiet-nothing =
-      quiet-then plainLog seenLog (λ k. pick (a .«nothing_reported») k (logged (NothingToRead (a .command)) k)) (going a (a .«range_reported») true)
+      quiet-then plainLog seenLog (λ k. pick (a .«nothing_reported») k (logged (NothingToRead (a .command)) k)) (readingOn a (a .«range_reported») true)
       (quiet-pick plainLog seenLog (λ _. a .«nothing_reported») (λ k. k) (logged (NothingToRead (a .command))) (λ k. refl) none
       (quiet-logged (NothingToRead (a .command))))
       (quiet-going (a .«range_reported») true)
@@ -49,24 +50,13 @@ module _ (a : Active) where
   unfolding registerRead
   quiet-register = quiet-going (a .«range_reported») (a .«nothing_reported»)
 
-  -- 31 says where the counter is, which the core has
-  quiet-told : QuietLog (λ k. logged (RamOutOfRange (a .command) (k .device .regs .counter .x) (k .device .regs .counter .y)) k)
-  unfolding logged
-  quiet-told = record { blind = λ k. refl; still = λ k. refl }
-
-  quiet-range : QuietLog (outOfRange a)
-  unfolding outOfRange
-  quiet-range =
-      quiet-pick plainLog seenLog (λ _. a .«range_reported») (λ k. k)
-      (λ k. logged (RamOutOfRange (a .command) (k .device .regs .counter .x) (k .device .regs .counter .y)) k) (λ k. refl) none quiet-told
-
-  quiet-moved : (range : Bool) → QuietLog (λ k. going a range (a .«nothing_reported») (moved k))
+  quiet-moved : (range : Bool) → QuietLog (λ k. readingOn a range (a .«nothing_reported») (moved k))
   quiet-moved range = record { blind = λ k. refl; still = λ k. refl }
 
   quiet-found : (byte : Byte) → QuietRead (λ k. ramFound a k byte)
   unfolding ramFound
   quiet-found (Is b) = quiet-moved (a .«range_reported»)
-  quiet-found Nothing = quiet-then plainLog seenLog (outOfRange a) (λ k. going a true (a .«nothing_reported») (moved k)) quiet-range (quiet-moved true)
+  quiet-found Nothing = quiet-then plainLog seenLog (outOfRange a) (λ k. readingOn a true (a .«nothing_reported») (moved k)) (quiet-range a) (quiet-moved true)
 
   module _ (blackWhite red : List ℕ) where
     -- the byte at the counter, which the core has
@@ -79,15 +69,15 @@ module _ (a : Active) where
     quiet-ram : QuietRead (ramRead blackWhite red a)
     unfolding ramRead
     quiet-ram =
-        either (eqb (a .read) 0) (λ k. withByte (going a (a .«range_reported») (a .«nothing_reported») k) (Is 0)) (λ k. ramFound a k (at k))
+        either (eqb (a .read) 0) (λ k. withByte (readingOn a (a .«range_reported») (a .«nothing_reported») k) (Is 0)) (λ k. ramFound a k (at k))
         (quiet-going (a .«range_reported») (a .«nothing_reported»)) quiet-at
 
     quiet-byte : QuietRead (byteRead blackWhite red a)
     unfolding byteRead
     quiet-byte = either (eqb (a .command) 0x27) (ramRead blackWhite red a) (registerRead a) quiet-ram quiet-register
 
-    quiet-kind : (kind : Kind) → QuietRead (λ k. byKind blackWhite red a k kind)
-    unfolding byKind
+    quiet-kind : (kind : Kind) → QuietRead (λ k. readByKind blackWhite red a k kind)
+    unfolding readByKind
     quiet-kind Read = quiet-byte
     quiet-kind (Write params) = quiet-nothing
     quiet-kind Unsupported = quiet-nothing

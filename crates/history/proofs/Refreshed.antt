@@ -19,22 +19,22 @@ use Rattle.device.specs.declared.Power.{Power}
 use Rattle.device.specs.declared.Power.the-variants.{Running, Asleep, InReset}
 use Rattle.device.specs.declared.Ssd1677.{Ssd1677}
 use Rattle.device.specs.Parts.{withDisplay}
+use Rattle.world.specs.World.{World, WithGlass, withGlass, WithGlassLog, WithBuffers, Lent, lentOf, on, deviceInGlassLog, logInGlassLog, glassInGlassLog, deviceInBuffers, logInBuffers}
 use Rattle.command.specs.declared.Known.{Known}
 use Rattle.command.specs.declared.Known.the-variants.{Of, Unknown}
 use Rattle.command.specs.Table.{rows, kindOf}
 use Rattle.busy.specs.Busy.{pending}
-use Rattle.clock.specs.Advance.{WithGlass, withGlass, stopped, isOver, clocked, quieted, published, endingOf, glassOf, ended, advanced}
+use Rattle.clock.specs.Advance.{stopped, isOver, clocked, quieted, glassPublished, endingOf, glassOf, ended, advanced}
 use Rattle.chip.specs.Close.{closed}
 use Rattle.chip.specs.Report.{logged}
 use Rattle.reset.specs.Reset as reset
 use Rattle.start.specs.Start.{softReset, vcomSensed, pointed}
 use Rattle.stages.specs.Run.{controlOf, Step, noted}
-use Rattle.activation.specs.Display.{Displayed, displayOf, begun, shown, unchanged}
-use Rattle.activation.specs.Activation.{WithLuts, withLuts, Lent, WithBuffers, settled, before, during, staged, stagedIn, activated}
+use Rattle.activation.specs.Display.{Displayed, displayOf, displayBegun, displayShown, unchanged}
+use Rattle.activation.specs.Activation.{WithLuts, withLuts, runSettled, before, during, staged, stagedIn, activated}
 use Rattle.begin.specs.Begin as begin
 use Rattle.power_on.specs.Start.{noDisplay}
-use Rattle.calls.specs.World.{World, lentOf}
-use Rattle.history.specs.Reckon.{Core, coreOf, deviceOf, bare, Refresh, Refreshing, none, one, shownBy, falls, begins, unreached, instead, all, upTo, reached, cutShort}
+use Rattle.history.specs.Reckon.{Core, coreOf, deviceOf, bare, Refresh, Refreshing, none, one, shownBy, falls, begins, unreached, instead, all, upTo, reached, cutAt}
 use Rattle.history.proofs.Stages.{unbused}
 use Rattle.history.proofs.Display.{during-plain}
 use Rattle.history.proofs.Begun.{told}
@@ -54,12 +54,12 @@ module _ (luts : List ℕ) (t : ℕ) (d : Display) where
       by true = refl
       by false = refl
 
-  pub cut-is : cutShort t (shownBy d luts)
+  pub cut-is : cutAt t (shownBy d luts)
       ≡ pick (d .running && (leb (d .started) t && ltb t (d .ends))) (refresh luts d (upTo (t - d .started)) ∷ []) []
-  unfolding cutShort
+  unfolding cutAt
   cut-is = by (d .running)
     where
-      by : (b : Bool) → cutShort t (pick b (one its) none)
+      by : (b : Bool) → cutAt t (pick b (one its) none)
           ≡ pick (b && (leb (d .started) t && ltb t (d .ends))) (refresh luts d (upTo (t - d .started)) ∷ []) []
       by true = refl
       by false = refl
@@ -91,7 +91,7 @@ moved-is by luts time g =
     x = clocked time g
 
     goes : (b : Bool)
-        → quieted (pick b (published x (finished (endingOf (x .device) (x .device .display .ends) Whole) by (glassOf x))) x) .device .display
+        → quieted (pick b (glassPublished x (finished (endingOf (x .device) (x .device .display .ends) Whole) by (glassOf x))) x) .device .display
         ≡ pick b (stopped (g .device .display)) (g .device .display)
     goes true = refl
     goes false = refl
@@ -125,24 +125,24 @@ instead-ends t none o = none-twice t o
 instead-ends t (one r) o = refl
 
 -- ---- the reset line
-asserted-is : (luts : List ℕ) (w : reset.WithGlassLog) → shownBy (reset.asserted luts w .device .display) luts ≡ none
-unfolding reset.asserted reset.inReset reset.restored reset.cut reset.cutShort closed logged
+asserted-is : (luts : List ℕ) (w : WithGlassLog) → shownBy (reset.asserted luts w .device .display) luts ≡ none
+unfolding reset.asserted reset.inReset reset.restored reset.cut reset.displayCut closed logged
 asserted-is luts w = by (reset.isDriving (w .device))
   where
-    v : reset.WithGlassLog
-    v = reset.onLog closed w
+    v : WithGlassLog
+    v = on logInGlassLog closed w
 
     by : (b : Bool)
         → shownBy
-        (reset.onDevice reset.inReset
-        (reset.onDevice reset.restored
-        (pick b (reset.onGlass (reset.cutShort luts) (reset.onLog (logged ResetDuringDisplay) v)) (reset.onDevice reset.dropped v))) .device .display)
+        (on deviceInGlassLog reset.inReset
+        (on deviceInGlassLog reset.restored
+        (pick b (on glassInGlassLog (reset.displayCut luts) (on logInGlassLog (logged ResetDuringDisplay) v)) (on deviceInGlassLog reset.displayDropped v))) .device .display)
         luts
         ≡ none
     by true = refl
     by false = refl
 
-pub line-is : (luts : List ℕ) (low : Bool) (w : reset.WithGlassLog) (power : Power)
+pub line-is : (luts : List ℕ) (low : Bool) (w : WithGlassLog) (power : Power)
     → shownBy (reset.byLine luts low w power .device .display) luts ≡ pick (falls low power) none (shownBy (w .device .display) luts)
 unfolding reset.byLine reset.released
 line-is luts true w InReset = refl
@@ -155,19 +155,19 @@ line-is luts false w Asleep = refl
 -- ---- 0x20
 -- what its display shows: what it begins where none was, in place of the one before
 shown-is : (blackWhite red gates : List ℕ) (d : Ssd1677) (wanted two : Bool) (s : Step) (luts : List ℕ)
-    → shownBy (shown blackWhite red gates d wanted two s luts .display) (shown blackWhite red gates d wanted two s luts .luts)
+    → shownBy (displayShown blackWhite red gates d wanted two s luts .display) (displayShown blackWhite red gates d wanted two s luts .luts)
     ≡ instead
-    (shownBy (shown blackWhite red gates (withDisplay d noDisplay) wanted two s luts .display)
-    (shown blackWhite red gates (withDisplay d noDisplay) wanted two s luts .luts))
+    (shownBy (displayShown blackWhite red gates (withDisplay d noDisplay) wanted two s luts .display)
+    (displayShown blackWhite red gates (withDisplay d noDisplay) wanted two s luts .luts))
     (shownBy (d .display) luts)
-unfolding shown begun displayOf
+unfolding displayShown displayBegun displayOf
 shown-is blackWhite red gates d wanted two s luts = by (wanted && s .run .«waveform_found») (s .run .clock) (s .run .analog)
   where
     at : Ssd1677 → Bool → Bool → Bool → Displayed
     at x a b c =
         pick a
         (pick b
-        (pick c (begun blackWhite red gates x two s luts) (unchanged (x .display) luts (noted (x .now) (WithoutAnalog stage.Display) s)))
+        (pick c (displayBegun blackWhite red gates x two s luts) (unchanged (x .display) luts (noted (x .now) (WithoutAnalog stage.Display) s)))
         (unchanged (x .display) luts (noted (x .now) (WithoutClock stage.Display) s)))
         (unchanged (x .display) luts s)
 
@@ -193,7 +193,7 @@ showing t = shownBy (t .display) (t .luts)
 
 staged-is : (k : Lent) (s : WithLuts)
     → shownBy (staged k s .device .display) (staged k s .luts) ≡ instead (beginsIn k (s .device) (s .luts)) (shownBy (s .device .display) (s .luts))
-unfolding staged settled
+unfolding staged runSettled
 staged-is k s =
     let c = controlOf (s .device .regs .«update_control_2») in
     ap showing (during-plain k s c)
@@ -203,14 +203,14 @@ pub staged-core : (otp : List ℕ) (c : Core)
     → shownBy (staged (lentOf otp (bare c)) (withLuts (deviceOf c) (c .luts) []) .device .display)
     (staged (lentOf otp (bare c)) (withLuts (deviceOf c) (c .luts) []) .luts)
     ≡ instead (begins otp c) (shownBy (c .display) (c .luts))
-unfolding staged settled
+unfolding staged runSettled
 staged-core otp c =
     let a = controlOf (c .regs .«update_control_2») in
     shown-is (c .blackWhite) (c .red) (c .gates) (deviceOf c) (a .display) (a .«mode_two») (before (lentOf otp (bare c)) (withLuts (deviceOf c) (c .luts) []) a)
     (c .luts)
 
 pub begins-core : (otp : List ℕ) (w : World) → begins otp (coreOf w) ≡ beginsIn (lentOf otp w) (w .device) (w .luts)
-unfolding staged settled
+unfolding staged runSettled
 begins-core otp w =
     ap showing
     (during-plain (lentOf otp w) (withLuts (withDisplay (deviceOf (coreOf w)) noDisplay) (w .luts) []) (controlOf (w .device .regs .«update_control_2»)))
@@ -221,7 +221,7 @@ same-max n = omega arith
 activated-is : (k : Lent) (w : WithBuffers)
     → shownBy (activated k w .device .display) (activated k w .luts)
     ≡ unreached (w .device .now) (instead (beginsIn k (w .device) (w .luts)) (shownBy (w .device .display) (w .luts)))
-unfolding activated staged settled
+unfolding activated staged runSettled
 activated-is k w =
     let s = stagedIn k w in
     moved-is (s .luts) (s .luts) (s .device .now) (withGlass (s .device) (w .states) (w .pixels))
@@ -230,24 +230,24 @@ activated-is k w =
 
 -- what is under way after it, by whether it reaches the chip
 abbrev pub onward : Bool → ℕ → Refreshing → Refreshing → Refreshing
-onward b t begun old = pick b (unreached t (instead begun old)) old
+onward b t displayBegun old = pick b (unreached t (instead displayBegun old)) old
 
 pub activation-is : (k : Lent) (w : WithBuffers) (power : Power)
     → shownBy (begin.begun k 0x20 w power .device .display) (begin.begun k 0x20 w power .luts)
     ≡ onward (reaches power (pending (w .device .bus .«busy_until») (w .device .now))) (w .device .now) (beginsIn k (w .device) (w .luts))
     (shownBy (w .device .display) (w .luts))
-unfolding begin.begun begin.byKind begin.run begin.made kindOf rows lookup logged
+unfolding begin.begun begin.commandByKind begin.run begin.commandMade kindOf rows lookup logged
 activation-is k w InReset = refl
 activation-is k w Asleep = refl
 activation-is k w Running = by (pending (w .device .bus .«busy_until») (w .device .now))
   where
     next : Bool → WithBuffers
-    next b = pick (b && true) (told (WhileBusy 0x20) w) (begin.byKind k 0x20 w (kindOf 0x20))
+    next b = pick (b && true) (told (WhileBusy 0x20) w) (begin.commandByKind k 0x20 w (kindOf 0x20))
 
     by : (b : Bool) → shownBy (next b .device .display) (next b .luts)
         ≡ onward (not b) (w .device .now) (beginsIn k (w .device) (w .luts)) (shownBy (w .device .display) (w .luts))
     by true = refl
-    by false = activated-is k (begin.onDevice (begin.made 0x20 (Write (Exactly 0))) w)
+    by false = activated-is k (on deviceInBuffers (begin.commandMade 0x20 (Write (Exactly 0))) w)
 
 -- ---- another command chooses no LUTs
 module _ (k : Lent) (command : ℕ) (e : eqb command 0x20 ≡ false) where
@@ -256,20 +256,20 @@ module _ (k : Lent) (command : ℕ) (e : eqb command 0x20 ≡ false) where
   luts-run w = rw e (by (eqb command 0x12) (eqb command 0x28) (eqb command 0x24 || eqb command 0x26 || eqb command 0x27))
     where
       by : (a c d : Bool)
-          → pick a (begin.onDevice softReset w) (pick false (activated k w) (pick c (begin.onLog vcomSensed w) (pick d (begin.onLog (pointed command) w) w))) .luts
+          → pick a (on deviceInBuffers softReset w) (pick false (activated k w) (pick c (on logInBuffers vcomSensed w) (pick d (on logInBuffers (pointed command) w) w))) .luts
           ≡ w .luts
       by true c d = refl
       by false true d = refl
       by false false true = refl
       by false false false = refl
 
-  luts-kind : (w : WithBuffers) (known : Known) → begin.byKind k command w known .luts ≡ w .luts
-  unfolding begin.byKind
+  luts-kind : (w : WithBuffers) (known : Known) → begin.commandByKind k command w known .luts ≡ w .luts
+  unfolding begin.commandByKind
   luts-kind w Unknown = refl
   luts-kind w (Of Reserved) = refl
   luts-kind w (Of Unsupported) = refl
-  luts-kind w (Of (Write params)) = luts-run (begin.onDevice (begin.made command (Write params)) w)
-  luts-kind w (Of Read) = luts-run (begin.onDevice (begin.made command Read) w)
+  luts-kind w (Of (Write params)) = luts-run (on deviceInBuffers (begin.commandMade command (Write params)) w)
+  luts-kind w (Of Read) = luts-run (on deviceInBuffers (begin.commandMade command Read) w)
 
   pub luts-begun : (w : WithBuffers) (power : Power) → begin.begun k command w power .luts ≡ w .luts
   unfolding begin.begun
@@ -277,6 +277,6 @@ module _ (k : Lent) (command : ℕ) (e : eqb command 0x20 ≡ false) where
   luts-begun w Asleep = refl
   luts-begun w Running = by (begin.isHeldOff command (w .device))
     where
-      by : (b : Bool) → pick b (told (WhileBusy command) w) (begin.byKind k command w (kindOf command)) .luts ≡ w .luts
+      by : (b : Bool) → pick b (told (WhileBusy command) w) (begin.commandByKind k command w (kindOf command)) .luts ≡ w .luts
       by true = refl
       by false = luts-kind w (kindOf command)

@@ -15,16 +15,16 @@ use Rattle.res.specs.Line.{lineTaken}
 use Rattle.low.specs.Command.{commandTaken}
 use Rattle.high.specs.Data.{dataIn}
 use Rattle.driven.specs.Read.{readIn}
-use Rattle.reset.specs.Reset.{WithGlassLog}
-use Rattle.calls.specs.World.{World, Call, advance, set-reset, write-command, write-data, read-data, set-ambient, take-diagnostics, glassOf, glassLogOf, buffersOf, planesOf, lentOf, worldOf, taken}
-use Rattle.history.specs.Reckon.{Core, coreOf, stepped}
+use Rattle.world.specs.World.{World, WithGlassLog, lentOf, glassInWorld, glassLogInWorld, buffersInWorld, planesInWorld}
+use Rattle.calls.specs.World.{Call, advance, set-reset, write-command, write-data, read-data, set-ambient, take-diagnostics, worldOf, taken}
+use Rattle.history.specs.Reckon.{Core, coreOf, coreAfter}
 use Rattle.history.specs.Runs.{Runs, done, accepted, refused}
-use Rattle.history.specs.Reports.{bareWith, reportsOf, flagAfter, Tally, reported, told, tallyCall, tally, noReport, reportsIn, takes, Untaken, Tallies}
+use Rattle.history.specs.Reports.{bareWith, reportsOf, flagAfter, Tally, withReports, told, tallyCall, tally, noReport, reportsIn, takes, Untaken, Tallies}
 use Rattle.history.proofs.Tells.{journal, journals, grown, Bundle, Tells}
 use Rattle.history.proofs.TellsCalls.{inGlass, inGlassLog, inBuffers, inPlanes, tells-advanced, tells-reset, tells-read-in, tells-data-in, tells-command}
 use Rattle.history.proofs.Core.{core-taken}
 use Rattle.history.proofs.Calls.{accepted-taken, refused-changes-nothing}
-use Rattle.power_on_laws.proofs.Accepted.{left-is}
+use Rattle.power_on.proofs.Accepted.{left-is}
 
 -- a journal within the log's room and its own word
 pub record Fits (j : Journal) : Type 0 where
@@ -67,25 +67,25 @@ module _ (otp : List ℕ) (w : World) (fits : Fits (w .device .journal)) where
 
   met-advance : (time : ℕ) → MetBy otp w (advance time)
   met-advance time =
-      meets inGlass inGlass 0 (advanced (w .luts) time) (omega arith) (tells-advanced (w .luts) time) (glassOf w) (glassOf bared) refl refl fits
+      meets inGlass inGlass 0 (advanced (w .luts) time) (omega arith) (tells-advanced (w .luts) time) (glassInWorld .get w) (glassInWorld .get bared) refl refl fits
 
   met-reset : (time : ℕ) (low : Bool) → MetBy otp w (set-reset time low)
   met-reset time low =
-      meets inGlassLog inGlassLog 2 (lineTaken (w .luts) time low) (omega arith) (tells-reset (w .luts) time low) (glassLogOf w) (glassLogOf bared) refl refl fits
+      meets inGlassLog inGlassLog 2 (lineTaken (w .luts) time low) (omega arith) (tells-reset (w .luts) time low) (glassLogInWorld .get w) (glassLogInWorld .get bared) refl refl fits
 
   met-command : (time command : ℕ) → MetBy otp w (write-command time command)
   met-command time command =
-      meets inBuffers inBuffers 17 (commandTaken (lentOf otp w) time command) (omega arith) (tells-command (lentOf otp w) command time) (buffersOf w)
-      (buffersOf bared) refl refl fits
+      meets inBuffers inBuffers 17 (commandTaken (lentOf otp w) time command) (omega arith) (tells-command (lentOf otp w) command time) (buffersInWorld .get w)
+      (buffersInWorld .get bared) refl refl fits
 
   met-data : (time byte : ℕ) → MetBy otp w (write-data time byte)
   met-data time byte =
-      meets inPlanes inPlanes 4 (dataIn (w .luts) time byte) (omega arith) (tells-data-in (w .luts) time byte) (planesOf w) (planesOf bared) refl refl fits
+      meets inPlanes inPlanes 4 (dataIn (w .luts) time byte) (omega arith) (tells-data-in (w .luts) time byte) (planesInWorld .get w) (planesInWorld .get bared) refl refl fits
 
   met-read : (time : ℕ) → MetBy otp w (read-data time)
   met-read time =
       meets inGlassLog inGlassLog 1 (λ (x : WithGlassLog). readIn (w .luts) (w .blackWhite) (w .red) time x .left) (omega arith)
-      (tells-read-in (w .luts) (w .blackWhite) (w .red) time) (glassLogOf w) (glassLogOf bared) refl refl fits
+      (tells-read-in (w .luts) (w .blackWhite) (w .red) time) (glassLogInWorld .get w) (glassLogInWorld .get bared) refl refl fits
 
   met-ambient : (register : ℕ) → MetBy otp w (set-ambient register)
   met-ambient register = record { few = omega arith; is = grown-none (w .device .journal) fits }
@@ -150,11 +150,11 @@ record Kept (w : World) (c : Core) (t : Tally) : Type 0 where
   core : coreOf w ≡ c
   goes-on : Goes (w .device .journal) t
 
-step-kept : (otp : List ℕ) (w : World) (c : Core) (t : Tally) (call : Call) → Kept w c t → Kept (taken otp w call) (stepped otp c call) (tallyCall otp c t call)
+step-kept : (otp : List ℕ) (w : World) (c : Core) (t : Tally) (call : Call) → Kept w c t → Kept (taken otp w call) (coreAfter otp c call) (tallyCall otp c t call)
 step-kept otp w c t call k =
     let g = step-goes otp w call (k .goes-on .fits) in
     record {
-      core = core-taken otp w call ∙ ap (λ (x : Core). stepped otp x call) (k .core);
+      core = core-taken otp w call ∙ ap (λ (x : Core). coreAfter otp x call) (k .core);
       goes-on = record { is = g .is ∙ (λ i. tallyCall otp (k .core i) (k .goes-on .is i) call); fits = g .fits };
     }
 
@@ -162,8 +162,8 @@ run-kept : {otp : List ℕ} {w u : World} {calls : List Call} (c : Core) (t : Ta
 unfolding tally
 run-kept c t done k = k .goes-on
 run-kept {otp = otp} c t (accepted {w = w} {v = v} {call = call} e rest) k =
-    run-kept (stepped otp c call) (tallyCall otp c t call) rest
-    (subst (λ (x : World). Kept x (stepped otp c call) (tallyCall otp c t call)) (sym (accepted-taken otp w v call e)) (step-kept otp w c t call k))
+    run-kept (coreAfter otp c call) (tallyCall otp c t call) rest
+    (subst (λ (x : World). Kept x (coreAfter otp c call) (tallyCall otp c t call)) (sym (accepted-taken otp w v call e)) (step-kept otp w c t call k))
 run-kept c t (refused {w = w} {v = v} {handed = handed} {back = back} {number = number} call table n e b rest) k =
     run-kept c t rest (subst (λ (x : World). Kept x c t) (sym (refused-changes-nothing table w handed back v number call n e b)) k)
 
@@ -226,9 +226,9 @@ untaken-tally otp c t [] room held none = record { waiting = omega (arith, room)
 untaken-tally otp c t (call ∷ calls) room held none =
     let n = reportsOf otp c (t .flag) call in
     let f = flagAfter otp c (t .flag) call in
-    let r = reportsIn otp (stepped otp c call) f calls in
-    let b = untaken-tally otp (stepped otp c call) (told otp c t call) calls (omega arith) (omega arith) (none .1) in
-    subst (λ (x : Tally). Beyond t (n + r) (tally otp (stepped otp c call) x calls)) (sym (untaken-told otp c t call (none .0)))
+    let r = reportsIn otp (coreAfter otp c call) f calls in
+    let b = untaken-tally otp (coreAfter otp c call) (told otp c t call) calls (omega arith) (omega arith) (none .1) in
+    subst (λ (x : Tally). Beyond t (n + r) (tally otp (coreAfter otp c call) x calls)) (sym (untaken-told otp c t call (none .0)))
     (record { waiting = b .waiting ∙ waits (t .waiting) n r; dropped = b .dropped ∙ beyond (t .waiting) (t .dropped) n r })
   where
     waits : (w n r : ℕ) → min (min (w + n) 1024 + r) 1024 ≡ min (w + (n + r)) 1024

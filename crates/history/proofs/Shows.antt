@@ -20,10 +20,11 @@ use Rattle.config.specs.declared.Ssd1677Config.{Ssd1677Config}
 use Rattle.panel.specs.declared.Display.{Display}
 use Rattle.panel.specs.Finish as finish
 use Rattle.panel.specs.Pixels.{statesBy}
-use Rattle.panel_laws.proofs.Exactly.{byLut, Told, exactAfter, exact-le, state-exactly, states-length, pixel-shows}
+use Rattle.panel_laws.proofs.Exactly.{byLut, CutBelowLargest, exactAfter, exact-le, state-exactly, states-length, pixel-shows}
 use Rattle.device.specs.declared.Ssd1677.{Ssd1677}
-use Rattle.clock.specs.Advance.{WithGlass, isOver, clocked, quieted, published, endingOf, glassOf, ended, advanced}
-use Rattle.history.specs.Reckon.{Part, all, upTo, Worked, swingOf, drivesBy, numberAfter, numberOver}
+use Rattle.world.specs.World.{WithGlass}
+use Rattle.clock.specs.Advance.{isOver, clocked, quieted, glassPublished, endingOf, glassOf, ended, advanced}
+use Rattle.history.specs.Reckon.{Part, all, upTo, Worked, swingS, drivesBy, numberAfter, numberOver}
 use Rattle.history.proofs.Blind.{Seen, seenGlass}
 
 -- a whole number for each pixel, and how many refreshes have been worked in
@@ -33,12 +34,12 @@ pub record Marks : Type 0 where
 
 -- each lent state is its pixel's whole number, from 0 to S, each pixel shows it, and the image's generation is the count, stopping at 2^64 − 1
 pub record Shows (s : Seen) (number : Marks) : Type 0 where
-  pub swing : s .panel .swing ≡ pos (swingOf (s .config))
-  pub some : 1 ≤ swingOf (s .config)
+  pub swing : s .panel .swing ≡ pos (swingS (s .config))
+  pub some : 1 ≤ swingS (s .config)
   pub ends : s .display .ends ≤ largest 64
   pub states : (i : ℕ) → i < length (s .states) → getD (s .states) i (pos 0) ≡ pos (number .of i)
-  pub within : (i : ℕ) → i < length (s .states) → number .of i ≤ swingOf (s .config)
-  pub pixels : (i : ℕ) → i < length (s .states) → getD (s .pixels) i 0 ≡ grayZ (pos (number .of i)) (pos (swingOf (s .config)))
+  pub within : (i : ℕ) → i < length (s .states) → number .of i ≤ swingS (s .config)
+  pub pixels : (i : ℕ) → i < length (s .states) → getD (s .pixels) i 0 ≡ grayZ (pos (number .of i)) (pos (swingS (s .config)))
   pub generation : s .panel .image .generation ≡ min (number .count) (largest 64)
 
 -- the count of a list of refreshes after that of others
@@ -68,9 +69,9 @@ abbrev untilOf : Part → Until
 untilOf all = Whole
 untilOf (upTo cut) = Cut cut
 
-module _ (luts : List ℕ) (g : WithGlass) (at : ℕ) (part : Part) (number : Marks) (told : Told (untilOf part)) (h : Shows (seenGlass g) number) where
+module _ (luts : List ℕ) (g : WithGlass) (at : ℕ) (part : Part) (number : Marks) (below : CutBelowLargest (untilOf part)) (h : Shows (seenGlass g) number) where
   abbrev S : ℕ
-  S = swingOf (g .device .config)
+  S = swingS (g .device .config)
 
   abbrev e : finish.Ending
   e = endingOf (g .device) at (untilOf part)
@@ -95,17 +96,17 @@ module _ (luts : List ℕ) (g : WithGlass) (at : ℕ) (part : Part) (number : Ma
   unfolding numberAfter
   state-is i l =
       ap (λ (s : ℤ). getD (statesBy (byLut e s) luts (g .states)) i (pos 0)) (h .swing)
-      ∙ state-exactly e S (h .some) room told luts (g .states) i (number .of i) l (h .states i l) (h .within i l)
+      ∙ state-exactly e S (h .some) room below luts (g .states) i (number .of i) l (h .states i l) (h .within i l)
       ∙ ap pos (after-is part (getD luts i 0) (number .of i))
 
   number-le : (i : ℕ) → i < length (g .states) → numberAfter (g .device .config) i (number .of i) w ≤ S
   unfolding numberAfter
-  number-le i l = omega (arith, after-is part (getD luts i 0) (number .of i), exact-le e S (h .some) room told (getD luts i 0) (number .of i) (h .within i l))
+  number-le i l = omega (arith, after-is part (getD luts i 0) (number .of i), exact-le e S (h .some) room below (getD luts i 0) (number .of i) (h .within i l))
 
   long : (i : ℕ) → i < length next → i < length (g .states)
   long i l = omega (arith, states-length (byLut e (g .device .panel .swing)) luts (g .states))
 
-  pub finish-shows : Shows (seenGlass (published g (finish.finished e luts (glassOf g)))) (record { of = λ i. numberAfter (g .device .config) i (number .of i) w; count = number .count + 1 })
+  pub finish-shows : Shows (seenGlass (glassPublished g (finish.finished e luts (glassOf g)))) (record { of = λ i. numberAfter (g .device .config) i (number .of i) w; count = number .count + 1 })
   unfolding finish.finished finish.published
   finish-shows =
       record {
@@ -135,7 +136,7 @@ advance-shows luts time g number h = by (isOver (clocked time g .device))
     x = clocked time g
 
     by : (b : Bool)
-        → Shows (seenGlass (quieted (pick b (published x (finish.finished (endingOf (x .device) (x .device .display .ends) Whole) luts (glassOf x))) x)))
+        → Shows (seenGlass (quieted (pick b (glassPublished x (finish.finished (endingOf (x .device) (x .device .display .ends) Whole) luts (glassOf x))) x)))
         (over (g .device .config) (pick b (refresh luts (g .device .display) all ∷ []) []) number)
     by true = let r = finish-shows luts x (x .device .display .ends) all number tt h in
         r

@@ -22,7 +22,7 @@ use Rattle.device.specs.Parts.{withBus}
 use Rattle.otp.specs.Table.{entryBytes}
 use Rattle.stages.specs.declared.Control.{Control}
 use Rattle.stages.specs.declared.Run.{Run}
-use Rattle.stages.specs.Run.{Step, step, withClock, withAnalog, withFound, withTemperature, withLut, withJournal, through, noted, waited}
+use Rattle.stages.specs.Run.{Step, step, withClock, withAnalog, withFound, withTemperature, withLut, runWithJournal, through, noted, waited}
 use Rattle.stages.specs.Stages.{clockOn, analogOn, byExternal, sensed, temperatureLoaded, modeOf, settingIn, entryFor, lutFound, lutLoaded, loaded}
 use Rattle.activation.specs.Display.{Displayed, displayed}
 use Rattle.activation.specs.Activation.{WithLuts, withLuts}
@@ -30,7 +30,7 @@ use Rattle.history.proofs.Blind.{plain, Blind, blind-then, blind-pick}
 
 -- ---- what counts of a run, of a display's start and of the stages
 abbrev pub plainRun : Run → Run
-plainRun r = withJournal (record { count = 0; dropped = 0; «reserved_reported» = false }) r
+plainRun r = runWithJournal (record { count = 0; dropped = 0; «reserved_reported» = false }) r
 
 abbrev pub plainStep : Step → Step
 plainStep s = step (plainRun (s .run)) []

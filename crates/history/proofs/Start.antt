@@ -12,20 +12,19 @@ use Rattle.numbers.proofs.Quot.{level-le}
 use Rattle.glass.specs.Greys.{levelZ, grayZ}
 use Rattle.glass.proofs.Grey.{level-is}
 use Rattle.config.specs.declared.Ssd1677Config.{Ssd1677Config}
-use Rattle.config.specs.Answer.{isAccepted, firstOf}
+use Rattle.config.specs.Answer.{isAccepted}
 use Rattle.panel.specs.Start as panel
-use Rattle.power_on.specs.Start.{Buffers, Powered, lengthsIn, allTests, poweredOn, filled, poweredUp, started}
-use Rattle.power_on.proofs.Cases.{swings}
+use Rattle.power_on.specs.Start.{Buffers, Powered, lengthsIn, poweredOn, filled, poweredUp, started}
+use Rattle.power_on.proofs.Accepted.{full-swing, lengths, passed, left-is}
 use Rattle.power_on_laws.proofs.First.{swing-is}
-use Rattle.power_on_laws.proofs.Accepted.{passed, left-is, lengths-fine}
 use Rattle.calls.specs.World.{worldOf}
-use Rattle.history.specs.Reckon.{none, shownBy, swingOf, firstNumber}
+use Rattle.history.specs.Reckon.{none, shownBy, swingS, firstNumber}
 use Rattle.history.proofs.Shows.{Marks, Shows}
 use Rattle.history.proofs.Taken.{seen}
 
 -- the state of the starting grey is the first whole number
 first-is : (c : Ssd1677Config) → panel.firstState (c .optics) ≡ pos (firstNumber c)
-first-is c = ap (levelZ (c .optics .«initial_gray»)) (swing-is (c .optics .«full_swing»)) ∙ sym (level-is (c .optics .«initial_gray») (swingOf c))
+first-is c = ap (levelZ (c .optics .«initial_gray»)) (swing-is (c .optics .«full_swing»)) ∙ sym (level-is (c .optics .«initial_gray») (swingS c))
 
 -- every pixel's first number, and no refresh
 abbrev pub at-first : Ssd1677Config → Marks
@@ -34,10 +33,10 @@ at-first c = record { of = λ _. firstNumber c; count = 0 }
 -- ---- what an accepted start leaves
 module _ (c : Ssd1677Config) (otp : List ℕ) (b : Buffers) (ok : isAccepted (started c otp b .answer) ≡ true) where
   some : 1 ≤ c .optics .«full_swing»
-  some = swings c otp (lengthsIn b) (firstOf (allTests c otp (lengthsIn b))) refl (passed c otp b ok)
+  some = full-swing c otp (lengthsIn b) (passed c otp b ok)
 
   long : length (b .pixels) ≡ length (b .states)
-  long = let fine = lengths-fine c otp b ok in fine .pixels ∙ sym (fine .states)
+  long = let fine = lengths c otp (lengthsIn b) (passed c otp b ok) in fine .pixels ∙ sym (fine .states)
 
   -- no refresh is under way
   pub start-rests : shownBy (started c otp b .left .device .display) (started c otp b .left .buffers .luts) ≡ none
@@ -54,11 +53,11 @@ module _ (c : Ssd1677Config) (otp : List ℕ) (b : Buffers) (ok : isAccepted (st
           some = omega (arith, some);
           ends = omega arith;
           states = λ i l. getD-tab (length (b .states)) (λ _. panel.firstState (c .optics)) i (pos 0) (in-states i l) ∙ first-is c;
-          within = λ i l. level-le (swingOf c) (c .optics .«initial_gray») byte;
+          within = λ i l. level-le (swingS c) (c .optics .«initial_gray») byte;
           pixels = λ i l.
               getD-tab (length (b .pixels)) (λ _. grayZ (panel.firstState (c .optics)) (panel.swingOf (c .optics))) i 0 (omega (arith, long, in-states i l))
               ∙ ap (λ (s : ℤ). grayZ (panel.firstState (c .optics)) s) (swing-is (c .optics .«full_swing»))
-              ∙ ap (λ (x : ℤ). grayZ x (pos (swingOf c))) (first-is c);
+              ∙ ap (λ (x : ℤ). grayZ x (pos (swingS c))) (first-is c);
           generation = refl;
         }
       where

@@ -8,16 +8,19 @@ use Rattle.counter.specs.Counter.{withinOf}
 use Rattle.diagnostic.specs.declared.Stage.{Stage}
 use Rattle.diagnostic.specs.declared.Stage.the-variants.{VcomSense, HvReadyDetection, VciDetection}
 use Rattle.diagnostic.specs.declared.DiagnosticKind.{DiagnosticKind}
-use Rattle.diagnostic.specs.declared.DiagnosticKind.the-variants.{CounterOutsideWindow, WithoutClock, WithoutAnalog}
+use Rattle.diagnostic.specs.declared.DiagnosticKind.the-variants.{CounterOutsideWindow, WithoutClock, WithoutAnalog, RamOutOfRange}
+use Rattle.device.specs.declared.Active.{Active}
 use Rattle.device.specs.Parts.{withRegs}
+use Rattle.world.specs.World.{WithLog, withLog}
 use Rattle.registers.specs.Store.{stored}
 use Rattle.listed.specs.Listed.{listed}
-use Rattle.chip.specs.Close.{WithLog, withLog, closed}
+use Rattle.chip.specs.Close.{closed}
 use Rattle.chip.specs.Report.{logged}
 use Rattle.start.specs.Start.{withBusyFor, isPowered, unpowered, sensingTime, vcomSensed, pointed}
 use Rattle.acts.specs.Reserved.{reserved, checked}
 use Rattle.acts.specs.Acts.{withHvNotReady, withVciLow, vciLevel, hvDetected, hvReady, vciDetected, vciSensed}
 use Rattle.parameter.specs.Parameter.{registerTaken}
+use Rattle.data.specs.Data.{outOfRange}
 use Rattle.history.proofs.Blind.{plainLog, seenLog, Quiet, quiet-then, quiet-pick}
 
 -- of the state and the log
@@ -79,6 +82,14 @@ pub quiet-checked : (listed : Bool) (command value : ℕ) → QuietLog (checked 
 unfolding checked reserved
 quiet-checked true command value = record { blind = λ k. refl; still = λ k. refl }
 quiet-checked false command value = record { blind = λ k. refl; still = λ k. refl }
+
+-- 31 says where the counter is, which the core has
+pub quiet-range : (a : Active) → QuietLog (outOfRange a)
+unfolding outOfRange logged
+quiet-range a =
+    pickLog (λ _. a .«range_reported») (λ k. k)
+    (λ k. logged (RamOutOfRange (a .command) (k .device .regs .counter .x) (k .device .regs .counter .y)) k) (λ k. refl) none
+    (record { blind = λ k. refl; still = λ k. refl })
 
 -- ---- the parameters that concern the state and the log
 abbrev not-ready : WithLog → WithLog

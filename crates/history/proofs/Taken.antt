@@ -10,19 +10,16 @@ use Rattle.numbers.specs.Choice.{pick}
 use Rattle.config.specs.declared.Ssd1677Config.{Ssd1677Config}
 use Rattle.device.specs.declared.Power.{Power}
 use Rattle.device.specs.declared.Power.the-variants.{Running, Asleep, InReset}
+use Rattle.world.specs.World.{World, withLog, WithGlass, WithGlassLog, withRam, WithBuffers, lentOf, on, glassInGlassLog, logInBuffers, glassInWorld, glassLogInWorld, buffersInWorld}
 use Rattle.busy.specs.Busy.{pending}
-use Rattle.clock.specs.Advance.{WithGlass, advanced}
-use Rattle.chip.specs.Close.{withLog, closed}
-use Rattle.reset.specs.Reset.{WithGlassLog, onGlass}
-use Rattle.activation.specs.Activation.{WithBuffers}
-use Rattle.acts.specs.Ram.{withRam}
-use Rattle.begin.specs.Begin as begin
+use Rattle.clock.specs.Advance.{advanced}
+use Rattle.chip.specs.Close.{closed}
 use Rattle.res.specs.Line.{lineTaken}
-use Rattle.low.specs.Command.{arrived, commandTaken}
+use Rattle.low.specs.Command.{movedTo, commandTaken}
 use Rattle.high.specs.Data.{dataIn}
 use Rattle.driven.specs.Read.{readIn}
-use Rattle.calls.specs.World.{World, Call, advance, set-reset, write-command, write-data, read-data, set-ambient, take-diagnostics, glassOf, glassLogOf, buffersOf, lentOf, taken}
-use Rattle.history.specs.Reckon.{Core, coreOf, Worked, falls, activates, stepped, numberOver}
+use Rattle.calls.specs.World.{Call, advance, set-reset, write-command, write-data, read-data, set-ambient, take-diagnostics, taken}
+use Rattle.history.specs.Reckon.{Core, coreOf, Worked, falls, activates, coreAfter, numberOver}
 use Rattle.history.proofs.Blind.{Seen, seenBy, seenGlass, seenBuffers, behind}
 use Rattle.history.proofs.Steps.{quiet-closed}
 use Rattle.history.proofs.Written.{quiet-data}
@@ -82,7 +79,7 @@ workedBy otp w (set-reset time low) =
     ++ pick (falls low (w .device .bus .power)) (cutAt (w .luts) (max (w .device .now) time) (w .device)) []
 workedBy otp w (write-command time command) =
     endsIn (w .luts) time (w .device)
-    ++ pick (activates (max (w .device .now) time) command (coreOf w)) (atOnce otp (stepped otp (coreOf w) (advance time))) []
+    ++ pick (activates (max (w .device .now) time) command (coreOf w)) (atOnce otp (coreAfter otp (coreOf w) (advance time))) []
 workedBy otp w (write-data time byte) = endsIn (w .luts) time (w .device)
 workedBy otp w (read-data time) = endsIn (w .luts) time (w .device)
 workedBy otp w (set-ambient register) = []
@@ -91,7 +88,7 @@ workedBy otp w take-diagnostics = []
 module _ (otp : List ℕ) (w : World) (number : Marks) (h : Shows (seen w) number) where
   -- the glass after the clock's move
   abbrev g : ℕ → WithGlass
-  g time = advanced (w .luts) time (glassOf w)
+  g time = advanced (w .luts) time (glassInWorld .get w)
 
   -- what ended
   abbrev first : ℕ → List Worked
@@ -101,52 +98,52 @@ module _ (otp : List ℕ) (w : World) (number : Marks) (h : Shows (seen w) numbe
   c = w .device .config
 
   moves : (time : ℕ) → Shows (seenGlass (g time)) (over c (first time) number)
-  moves time = advance-shows (w .luts) time (glassOf w) number h
+  moves time = advance-shows (w .luts) time (glassInWorld .get w) number h
 
   -- ---- the reset line
   resets : (time : ℕ) (low : Bool) → Shows (seen (taken otp w (set-reset time low))) (over c (workedBy otp w (set-reset time low)) number)
   unfolding lineTaken
   resets time low =
-      let a : WithGlassLog = onGlass (advanced (w .luts) time) (glassLogOf w) in
+      let a : WithGlassLog = on glassInGlassLog (advanced (w .luts) time) (glassLogInWorld .get w) in
       let t = max (w .device .now) time in
       joins (seen (taken otp w (set-reset time low))) c (g time .device .config) (first time) (pick (falls low (w .device .bus .power)) (cutAt (w .luts) t (w .device)) []) number
-      (config-moved (w .luts) time (glassOf w))
+      (config-moved (w .luts) time (glassInWorld .get w))
       (subst (λ (ws : List Worked). Shows (seen (taken otp w (set-reset time low))) (over (g time .device .config) ws (over c (first time) number)))
-      (ap (λ (p : Power). pick (falls low p) (cutIn (w .luts) (g time .device)) []) (power-moved (w .luts) time (glassOf w))
-      ∙ ap (λ (ws : List Worked). pick (falls low (w .device .bus .power)) ws []) (cut-moved (w .luts) time (glassOf w)))
-      (line-shows (w .luts) low a (over c (first time) number) (g time .device .bus .power) (not-over (w .luts) time (glassOf w)) (moves time)))
+      (ap (λ (p : Power). pick (falls low p) (cutIn (w .luts) (g time .device)) []) (power-moved (w .luts) time (glassInWorld .get w))
+      ∙ ap (λ (ws : List Worked). pick (falls low (w .device .bus .power)) ws []) (cut-moved (w .luts) time (glassInWorld .get w)))
+      (line-shows (w .luts) low a (over c (first time) number) (g time .device .bus .power) (not-over (w .luts) time (glassInWorld .get w)) (moves time)))
 
   -- ---- a command byte
   module _ (time : ℕ) where
     -- the clock moved and the last command closed
     abbrev a : WithBuffers
-    a = begin.onLog closed (arrived time (buffersOf w))
+    a = on logInBuffers closed (movedTo time (buffersInWorld .get w))
 
     abbrev t : ℕ
     t = max (w .device .now) time
 
     closes : Shows (seenBuffers a) (over c (first time) number)
     closes =
-        subst (λ (s : Seen). Shows s (over c (first time) number)) (sym (quiet-log closed quiet-closed .still (arrived time (buffersOf w)))) (moves time)
+        subst (λ (s : Seen). Shows s (over c (first time) number)) (sym (quiet-log closed quiet-closed .still (movedTo time (buffersInWorld .get w)))) (moves time)
 
     -- 0x20, as the reckoning has it
     abbrev starts : List Worked
-    starts = pick (activates t 0x20 (coreOf w)) (atOnce otp (stepped otp (coreOf w) (advance time))) []
+    starts = pick (activates t 0x20 (coreOf w)) (atOnce otp (coreAfter otp (coreOf w) (advance time))) []
 
     starts-is : pick (reaches (a .device .bus .power) (pending (a .device .bus .«busy_until») (a .device .now))) (onceIn (lentOf otp w) (a .device) (a .luts)) [] ≡ starts
     unfolding closed
     starts-is =
-        let once : onceIn (lentOf otp w) (a .device) (a .luts) ≡ atOnce otp (stepped otp (coreOf w) (advance time)) =
+        let once : onceIn (lentOf otp w) (a .device) (a .luts) ≡ atOnce otp (coreAfter otp (coreOf w) (advance time)) =
         sym (at-once otp (taken otp w (advance time))) ∙ ap (atOnce otp) (core-taken otp w (advance time)) in
         ap (λ (p : Power). pick (reaches p (pending (g time .device .bus .«busy_until») (g time .device .now))) (onceIn (lentOf otp w) (a .device) (a .luts)) [])
-        (power-moved (w .luts) time (glassOf w))
-        ∙ ap (λ (b : Bool). pick (reaches (w .device .bus .power) b) (onceIn (lentOf otp w) (a .device) (a .luts)) []) (pending-moved (w .luts) time (glassOf w))
+        (power-moved (w .luts) time (glassInWorld .get w))
+        ∙ ap (λ (b : Bool). pick (reaches (w .device .bus .power) b) (onceIn (lentOf otp w) (a .device) (a .luts)) []) (pending-moved (w .luts) time (glassInWorld .get w))
         ∙ ap (λ (ws : List Worked). pick (reaches (w .device .bus .power) (pending (w .device .bus .«busy_until») t)) ws []) once
-        ∙ ap (λ (b : Bool). pick b (atOnce otp (stepped otp (coreOf w) (advance time))) []) (sym (reaches-is t (coreOf w)))
+        ∙ ap (λ (b : Bool). pick b (atOnce otp (coreAfter otp (coreOf w) (advance time))) []) (sym (reaches-is t (coreOf w)))
 
     config-is : a .device .config ≡ c
     unfolding closed
-    config-is = config-moved (w .luts) time (glassOf w)
+    config-is = config-moved (w .luts) time (glassInWorld .get w)
 
     abbrev left : ℕ → World
     left command = taken otp w (write-command time command)
@@ -162,9 +159,9 @@ module _ (otp : List ℕ) (w : World) (number : Marks) (h : Shows (seen w) numbe
         (activation-shows (lentOf otp w) (over c (first time) number) a (a .device .bus .power) closes)))
     commands command false e =
         joins (seen (left command)) c c (first time)
-        (pick (activates t command (coreOf w)) (atOnce otp (stepped otp (coreOf w) (advance time))) [])
+        (pick (activates t command (coreOf w)) (atOnce otp (coreAfter otp (coreOf w) (advance time))) [])
         number refl
-        (subst (λ (b : Bool). Shows (seen (left command)) (over c (pick b (atOnce otp (stepped otp (coreOf w) (advance time))) []) (over c (first time) number)))
+        (subst (λ (b : Bool). Shows (seen (left command)) (over c (pick b (atOnce otp (coreAfter otp (coreOf w) (advance time))) []) (over c (first time) number)))
         (sym (reaches-not t command (coreOf w) e))
         (subst (λ (s : Seen). Shows s (over c (first time) number)) (sym (still-begun (lentOf otp w) command e (a .device .bus .power) a)) closes))
 

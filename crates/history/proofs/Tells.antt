@@ -11,14 +11,14 @@ use Rattle.numbers.specs.Saturation.{largest}
 use Rattle.diagnostic.specs.declared.DiagnosticKind.{DiagnosticKind}
 use Rattle.diagnostic.specs.declared.DiagnosticKind.the-variants.{ReservedValue}
 use Rattle.diagnostic.specs.declared.Journal.{Journal}
-use Rattle.diagnostic.specs.Log.{Entries, room, kept, dropped, reported, marked, reservedReported}
+use Rattle.diagnostic.specs.Log.{Entries, room, kept, oneMoreDropped, reported, marked, reservedReported}
 use Rattle.diagnostic.specs.Record.{fieldsOf, recordOf}
-use Rattle.chip.specs.Close.{fresh}
+use Rattle.chip.specs.Close.{reservedUnreported}
 use Rattle.history.proofs.Blind.{Blind, blind-then}
 
 -- ---- journals
 abbrev pub journal : ℕ → ℕ → Bool → Journal
-journal count dropped flag = record { count = count; dropped = dropped; «reserved_reported» = flag }
+journal count oneMoreDropped flag = record { count = count; dropped = oneMoreDropped; «reserved_reported» = flag }
 
 pub journals : {c c′ d d′ : ℕ} {f f′ : Bool} → c ≡ c′ → d ≡ d′ → f ≡ f′ → journal c d f ≡ journal c′ d′ f′
 journals ec ed ef = λ i. journal (ec i) (ed i) (ef i)
@@ -42,7 +42,7 @@ unfolding reported
 reported-one e time kind = by (ltb (e .journal .count) room)
   where
     by : (b : Bool)
-        → pick b (kept e (recordOf time (fieldsOf kind))) (dropped e) .journal
+        → pick b (kept e (recordOf time (fieldsOf kind))) (oneMoreDropped e) .journal
         ≡ pick b (journal (e .journal .count + 1) (e .journal .dropped) (e .journal .«reserved_reported»))
         (journal (e .journal .count) (min (e .journal .dropped + 1) (largest 64)) (e .journal .«reserved_reported»))
     by true = refl
@@ -66,7 +66,7 @@ pub record Adds (n : ℕ) (h : Journal → Journal) : Type 0 where
 pub adds-none : Adds 0 (λ j. j)
 adds-none = record { few = λ l h. omega arith; grows = λ j l h. refl }
 
-pub adds-fresh : Adds 0 fresh
+pub adds-fresh : Adds 0 reservedUnreported
 adds-fresh = record { few = λ l h. omega arith; grows = λ j l h. refl }
 
 pub adds-then : (m n : ℕ) (f g : Journal → Journal) → Adds m f → Adds n g → Adds (m + n) (λ j. g (f j))

@@ -15,23 +15,22 @@ use Rattle.device.specs.declared.Kind.{Kind}
 use Rattle.device.specs.declared.Kind.the-variants.{Write, Read, Unsupported, Reserved}
 use Rattle.device.specs.declared.Power.{Power}
 use Rattle.device.specs.declared.Power.the-variants.{Running, Asleep, InReset}
+use Rattle.world.specs.World.{WithLog, withLog, WithGlass, withGlass, WithGlassLog, withGlassLog, WithRam, withRam, WithBuffers, withBuffers, Lent, WithPlanes, withPlanes, on, deviceInGlassLog, logInGlassLog, glassInGlassLog, deviceInBuffers, logInBuffers}
 use Rattle.command.specs.declared.Known.{Known}
 use Rattle.command.specs.declared.Known.the-variants.{Of, Unknown}
 use Rattle.command.specs.Table.{kindOf}
-use Rattle.clock.specs.Advance.{WithGlass, withGlass, isOver, clocked, quieted, published, endingOf, glassOf, ended, advanced}
-use Rattle.chip.specs.Close.{WithLog, withLog, closed}
+use Rattle.clock.specs.Advance.{isOver, clocked, quieted, glassPublished, endingOf, glassOf, ended, advanced}
+use Rattle.chip.specs.Close.{closed}
 use Rattle.chip.specs.Report.{logged}
-use Rattle.reset.specs.Reset.{WithGlassLog, withGlassLog, restored, isDriving, cutShort, dropped, cut, inReset, asserted, released, byLine}
-use Rattle.reset.specs.Reset as reset
+use Rattle.reset.specs.Reset.{restored, isDriving, displayCut, displayDropped, cut, inReset, asserted, released, byLine}
 use Rattle.start.specs.Start.{softReset, vcomSensed, pointed}
-use Rattle.activation.specs.Activation.{withLuts, Lent, WithBuffers, withBuffers, stagedIn, activated}
-use Rattle.acts.specs.Ram.{WithRam, withRam}
+use Rattle.activation.specs.Activation.{withLuts, stagedIn, activated}
 use Rattle.data.specs.Data.{dataTaken}
-use Rattle.begin.specs.Begin.{onDevice, onLog, made, run, byKind, isHeldOff, begun}
+use Rattle.begin.specs.Begin.{commandMade, run, commandByKind, isHeldOff, begun}
 use Rattle.reading.specs.Reading.{readTaken}
 use Rattle.res.specs.Line.{lineTaken}
-use Rattle.low.specs.Command.{arrived, commandTaken}
-use Rattle.high.specs.Data.{WithPlanes, withPlanes, dataIn}
+use Rattle.low.specs.Command.{movedTo, commandTaken}
+use Rattle.high.specs.Data.{dataIn}
 use Rattle.driven.specs.Read.{readIn}
 use Rattle.history.proofs.Blind.{plainGlass, plainGlassLog, plainBuffers, plainPlanes}
 use Rattle.history.proofs.Begun.{blind-advanced, blind-activated}
@@ -58,7 +57,7 @@ unfolding advanced ended
 advanced-same luts time g = by (isOver (clocked time g .device))
   where
     over : WithGlass → WithGlass
-    over x = published x (finished (endingOf (x .device) (x .device .display .ends) Whole) luts (glassOf x))
+    over x = glassPublished x (finished (endingOf (x .device) (x .device .display .ends) Whole) luts (glassOf x))
 
     by : (b : Bool) → quieted (pick b (over (clocked time g)) (clocked time g)) .device .journal ≡ g .device .journal
     by true = refl
@@ -74,7 +73,7 @@ TellsLine = Tells inGlassLog inGlassLog
 abbrev thenLine : (m n : ℕ) (f g : WithGlassLog → WithGlassLog) → TellsLine m f → TellsLine n g → TellsLine (m + n) (λ w. g (f w))
 thenLine = tells-then inGlassLog inGlassLog inGlassLog
 
-line-log : (n : ℕ) (f : WithLog → WithLog) → TellsLog n f → TellsLine n (reset.onLog f)
+line-log : (n : ℕ) (f : WithLog → WithLog) → TellsLog n f → TellsLine n (on logInGlassLog f)
 line-log n f t =
     record {
       blind = λ (w : WithGlassLog). ap (λ (k : WithLog). withGlassLog (k .device) [] [] (k .log)) (t .blind (withLog (w .device) (w .log)));
@@ -85,20 +84,20 @@ line-log n f t =
 
 -- 39, or nothing
 tells-cut : (luts : List ℕ) → TellsLine 1 (cut luts)
-unfolding cut cutShort
+unfolding cut displayCut
 tells-cut luts =
     tells-pick inGlassLog inGlassLog 1 0 (λ (w : WithGlassLog). isDriving (w .device))
-    (λ w. reset.onGlass (cutShort luts) (reset.onLog (logged ResetDuringDisplay) w)) (reset.onDevice dropped) (λ w. refl)
-    (thenLine 1 0 (reset.onLog (logged ResetDuringDisplay)) (reset.onGlass (cutShort luts)) (line-log 1 (logged ResetDuringDisplay) (tells-logged ResetDuringDisplay))
-    (tells-none inGlassLog inGlassLog (reset.onGlass (cutShort luts)) (λ w. refl) (λ w. refl)))
-    (tells-none inGlassLog inGlassLog (reset.onDevice dropped) (λ w. refl) (λ w. refl))
+    (λ w. on glassInGlassLog (displayCut luts) (on logInGlassLog (logged ResetDuringDisplay) w)) (on deviceInGlassLog displayDropped) (λ w. refl)
+    (thenLine 1 0 (on logInGlassLog (logged ResetDuringDisplay)) (on glassInGlassLog (displayCut luts)) (line-log 1 (logged ResetDuringDisplay) (tells-logged ResetDuringDisplay))
+    (tells-none inGlassLog inGlassLog (on glassInGlassLog (displayCut luts)) (λ w. refl) (λ w. refl)))
+    (tells-none inGlassLog inGlassLog (on deviceInGlassLog displayDropped) (λ w. refl) (λ w. refl))
 
 tells-asserted : (luts : List ℕ) → TellsLine 2 (asserted luts)
 unfolding asserted inReset restored
 tells-asserted luts =
-    let low : WithGlassLog → WithGlassLog = λ (w : WithGlassLog). reset.onDevice inReset (reset.onDevice restored w) in
-    thenLine 2 0 (λ w. cut luts (reset.onLog closed w)) low
-    (thenLine 1 1 (reset.onLog closed) (cut luts) (line-log 1 closed tells-closed) (tells-cut luts))
+    let low : WithGlassLog → WithGlassLog = λ (w : WithGlassLog). on deviceInGlassLog inReset (on deviceInGlassLog restored w) in
+    thenLine 2 0 (λ w. cut luts (on logInGlassLog closed w)) low
+    (thenLine 1 1 (on logInGlassLog closed) (cut luts) (line-log 1 closed tells-closed) (tells-cut luts))
     (tells-none inGlassLog inGlassLog low (λ w. refl) (λ w. refl))
 
 line-none : TellsLine 2 (λ w. w)
@@ -110,14 +109,14 @@ tells-line luts true InReset = line-none
 tells-line luts true Running = tells-asserted luts
 tells-line luts true Asleep = tells-asserted luts
 tells-line luts false InReset =
-    tells-more inGlassLog inGlassLog 0 2 (reset.onDevice released) (omega arith)
-    (tells-none inGlassLog inGlassLog (reset.onDevice released) (λ w. refl) (λ w. refl))
+    tells-more inGlassLog inGlassLog 0 2 (on deviceInGlassLog released) (omega arith)
+    (tells-none inGlassLog inGlassLog (on deviceInGlassLog released) (λ w. refl) (λ w. refl))
 tells-line luts false Running = line-none
 tells-line luts false Asleep = line-none
 
-line-clock : (luts : List ℕ) (time : ℕ) → TellsLine 0 (reset.onGlass (advanced luts time))
+line-clock : (luts : List ℕ) (time : ℕ) → TellsLine 0 (on glassInGlassLog (advanced luts time))
 line-clock luts time =
-    tells-none inGlassLog inGlassLog (reset.onGlass (advanced luts time))
+    tells-none inGlassLog inGlassLog (on glassInGlassLog (advanced luts time))
     (λ (w : WithGlassLog).
     ap (λ (g : WithGlass). withGlassLog (g .device) (g .states) (g .pixels) []) (blind-advanced luts time (withGlass (w .device) (w .states) (w .pixels))))
     (λ (w : WithGlassLog). advanced-same luts time (withGlass (w .device) (w .states) (w .pixels)))
@@ -125,7 +124,7 @@ line-clock luts time =
 pub tells-reset : (luts : List ℕ) (time : ℕ) (low : Bool) → TellsLine 2 (lineTaken luts time low)
 unfolding lineTaken
 tells-reset luts time low =
-    thenLine 0 2 (reset.onGlass (advanced luts time)) (λ (w : WithGlassLog). byLine luts low w (w .device .bus .power)) (line-clock luts time)
+    thenLine 0 2 (on glassInGlassLog (advanced luts time)) (λ (w : WithGlassLog). byLine luts low w (w .device .bus .power)) (line-clock luts time)
     (tells-by inGlassLog inGlassLog 2 (λ (w : WithGlassLog). w .device .bus .power) (λ (power : Power) (w : WithGlassLog). byLine luts low w power) (λ w. refl)
     (tells-line luts low))
 
@@ -134,7 +133,7 @@ pub tells-read-in : (luts blackWhite red : List ℕ) (time : ℕ) → TellsLine 
 unfolding readIn
 tells-read-in luts blackWhite red time =
     let reads : WithLog → WithLog = λ (k : WithLog). readTaken blackWhite red k (k .device .bus .power) .left in
-    thenLine 0 1 (reset.onGlass (advanced luts time)) (reset.onLog reads) (line-clock luts time)
+    thenLine 0 1 (on glassInGlassLog (advanced luts time)) (on logInGlassLog reads) (line-clock luts time)
     (line-log 1 reads
     (tells-by inLog inLog 1 (λ (k : WithLog). k .device .bus .power) (λ (power : Power) (k : WithLog). readTaken blackWhite red k power .left) (λ k. refl)
     (tells-read blackWhite red)))
@@ -179,7 +178,7 @@ TellsBuffers = Tells inBuffers inBuffers
 abbrev thenBuffers : (m n : ℕ) (f g : WithBuffers → WithBuffers) → TellsBuffers m f → TellsBuffers n g → TellsBuffers (m + n) (λ w. g (f w))
 thenBuffers = tells-then inBuffers inBuffers inBuffers
 
-buffers-log : (n : ℕ) (f : WithLog → WithLog) → TellsLog n f → TellsBuffers n (onLog f)
+buffers-log : (n : ℕ) (f : WithLog → WithLog) → TellsLog n f → TellsBuffers n (on logInBuffers f)
 buffers-log n f t =
     record {
       blind = λ (w : WithBuffers). ap (λ (k : WithLog). withBuffers (k .device) [] (w .luts) [] (k .log)) (t .blind (withLog (w .device) (w .log)));
@@ -205,55 +204,55 @@ up : (n : ℕ) (f : WithBuffers → WithBuffers) → n ≤ 8 → TellsBuffers n 
 up n f le = tells-more inBuffers inBuffers n 8 f le
 
 module _ (k : Lent) (command : ℕ) where
-  tells-soft : TellsBuffers 0 (onDevice softReset)
+  tells-soft : TellsBuffers 0 (on deviceInBuffers softReset)
   unfolding softReset restored
-  tells-soft = tells-none inBuffers inBuffers (onDevice softReset) (λ w. refl) (λ w. refl)
+  tells-soft = tells-none inBuffers inBuffers (on deviceInBuffers softReset) (λ w. refl) (λ w. refl)
 
-  tells-made : (kind : Kind) → TellsBuffers 0 (onDevice (made command kind))
-  unfolding made
-  tells-made kind = tells-none inBuffers inBuffers (onDevice (made command kind)) (λ w. refl) (λ w. refl)
+  tells-made : (kind : Kind) → TellsBuffers 0 (on deviceInBuffers (commandMade command kind))
+  unfolding commandMade
+  tells-made kind = tells-none inBuffers inBuffers (on deviceInBuffers (commandMade command kind)) (λ w. refl) (λ w. refl)
 
   tells-run : TellsBuffers 8 (run k command)
   unfolding run
   tells-run = by (eqb command 0x12) (eqb command 0x20) (eqb command 0x28) (eqb command 0x24 || eqb command 0x26 || eqb command 0x27)
     where
       by : (a b c d : Bool)
-          → TellsBuffers 8 (λ w. pick a (onDevice softReset w) (pick b (activated k w) (pick c (onLog vcomSensed w) (pick d (onLog (pointed command) w) w))))
-      by true b c d = up 0 (onDevice softReset) (omega arith) tells-soft
+          → TellsBuffers 8 (λ w. pick a (on deviceInBuffers softReset w) (pick b (activated k w) (pick c (on logInBuffers vcomSensed w) (pick d (on logInBuffers (pointed command) w) w))))
+      by true b c d = up 0 (on deviceInBuffers softReset) (omega arith) tells-soft
       by false true c d = tells-activated k
-      by false false true d = up 2 (onLog vcomSensed) (omega arith) (buffers-log 2 vcomSensed tells-sensed)
-      by false false false true = up 1 (onLog (pointed command)) (omega arith) (buffers-log 1 (pointed command) (tells-pointed command))
+      by false false true d = up 2 (on logInBuffers vcomSensed) (omega arith) (buffers-log 2 vcomSensed tells-sensed)
+      by false false false true = up 1 (on logInBuffers (pointed command)) (omega arith) (buffers-log 1 (pointed command) (tells-pointed command))
       by false false false false = up 0 (λ w. w) (omega arith) (tells-none inBuffers inBuffers (λ w. w) (λ w. refl) (λ w. refl))
 
-  tells-told : (kind : DiagnosticKind) → TellsBuffers 8 (onLog (logged kind))
-  tells-told kind = up 1 (onLog (logged kind)) (omega arith) (buffers-log 1 (logged kind) (tells-logged kind))
+  tells-told : (kind : DiagnosticKind) → TellsBuffers 8 (on logInBuffers (logged kind))
+  tells-told kind = up 1 (on logInBuffers (logged kind)) (omega arith) (buffers-log 1 (logged kind) (tells-logged kind))
 
-  tells-kind : (known : Known) → TellsBuffers 8 (λ (w : WithBuffers). byKind k command w known)
-  unfolding byKind
+  tells-kind : (known : Known) → TellsBuffers 8 (λ (w : WithBuffers). commandByKind k command w known)
+  unfolding commandByKind
   tells-kind Unknown = tells-told (UnknownCommand command)
   tells-kind (Of Reserved) = tells-told (ReservedCommand command)
   tells-kind (Of Unsupported) = tells-told (UnsupportedCommand command)
-  tells-kind (Of (Write params)) = thenBuffers 0 8 (onDevice (made command (Write params))) (run k command) (tells-made (Write params)) tells-run
-  tells-kind (Of Read) = thenBuffers 0 8 (onDevice (made command Read)) (run k command) (tells-made Read) tells-run
+  tells-kind (Of (Write params)) = thenBuffers 0 8 (on deviceInBuffers (commandMade command (Write params))) (run k command) (tells-made (Write params)) tells-run
+  tells-kind (Of Read) = thenBuffers 0 8 (on deviceInBuffers (commandMade command Read)) (run k command) (tells-made Read) tells-run
 
   tells-begun : (power : Power) → TellsBuffers 16 (λ (w : WithBuffers). begun k command w power)
   unfolding begun
-  tells-begun InReset = tells-more inBuffers inBuffers 8 16 (onLog (logged (WhileInReset command))) (omega arith) (tells-told (WhileInReset command))
-  tells-begun Asleep = tells-more inBuffers inBuffers 8 16 (onLog (logged (WhileAsleep command))) (omega arith) (tells-told (WhileAsleep command))
+  tells-begun InReset = tells-more inBuffers inBuffers 8 16 (on logInBuffers (logged (WhileInReset command))) (omega arith) (tells-told (WhileInReset command))
+  tells-begun Asleep = tells-more inBuffers inBuffers 8 16 (on logInBuffers (logged (WhileAsleep command))) (omega arith) (tells-told (WhileAsleep command))
   tells-begun Running =
-      tells-pick inBuffers inBuffers 8 8 (λ (w : WithBuffers). isHeldOff command (w .device)) (onLog (logged (WhileBusy command)))
-      (λ w. byKind k command w (kindOf command)) (λ w. refl)
+      tells-pick inBuffers inBuffers 8 8 (λ (w : WithBuffers). isHeldOff command (w .device)) (on logInBuffers (logged (WhileBusy command)))
+      (λ w. commandByKind k command w (kindOf command)) (λ w. refl)
       (tells-told (WhileBusy command))
       (tells-kind (kindOf command))
 
   pub tells-command : (time : ℕ) → TellsBuffers 17 (commandTaken k time command)
   unfolding commandTaken
   tells-command time =
-      thenBuffers 0 17 (arrived time) (λ (w : WithBuffers). begun k command (onLog closed w) (onLog closed w .device .bus .power))
-      (tells-none inBuffers inBuffers (arrived time)
+      thenBuffers 0 17 (movedTo time) (λ (w : WithBuffers). begun k command (on logInBuffers closed w) (on logInBuffers closed w .device .bus .power))
+      (tells-none inBuffers inBuffers (movedTo time)
       (λ (w : WithBuffers).
       ap (λ (g : WithGlass). withBuffers (g .device) (g .states) (w .luts) (g .pixels) []) (blind-advanced (w .luts) time (withGlass (w .device) (w .states) (w .pixels))))
       (λ (w : WithBuffers). advanced-same (w .luts) time (withGlass (w .device) (w .states) (w .pixels))))
-      (thenBuffers 1 16 (onLog closed) (λ (w : WithBuffers). begun k command w (w .device .bus .power)) (buffers-log 1 closed tells-closed)
+      (thenBuffers 1 16 (on logInBuffers closed) (λ (w : WithBuffers). begun k command w (w .device .bus .power)) (buffers-log 1 closed tells-closed)
       (tells-by inBuffers inBuffers 16 (λ (w : WithBuffers). w .device .bus .power) (λ (power : Power) (w : WithBuffers). begun k command w power) (λ w. refl)
       tells-begun))

@@ -23,15 +23,17 @@ use Rattle.device.specs.declared.Kind.the-variants.{Write, Read, Unsupported, R
 use Rattle.device.specs.declared.Power.{Power}
 use Rattle.device.specs.declared.Power.the-variants.{Running, Asleep, InReset}
 use Rattle.device.specs.Parts.{withRegs}
+use Rattle.world.specs.World.{WithLog, withLog}
 use Rattle.registers.specs.Store.{stored}
 use Rattle.listed.specs.Listed.{listed}
-use Rattle.chip.specs.Close.{WithLog, withLog, expectedOf, missing, entriesOf, fresh, ignoring, closed}
+use Rattle.chip.specs.Close.{expectedOf, missing, entriesOf, reservedUnreported, ignoring, closed}
 use Rattle.chip.specs.Report.{logged}
 use Rattle.start.specs.Start.{withBusyFor, isPowered, unpowered, sensingTime, vcomSensed, pointed}
 use Rattle.acts.specs.Reserved.{reserved, checked}
 use Rattle.acts.specs.Acts.{withHvNotReady, withVciLow, vciLevel, hvDetected, hvReady, vciDetected, vciSensed}
 use Rattle.parameter.specs.Parameter.{registerTaken}
-use Rattle.reading.specs.Reading.{WithByte, withByte, going, nothingRead, registerRead, chosen, outOfRange, moved, ramFound, ramRead, byteRead, byKind, byCurrent, readTaken}
+use Rattle.data.specs.Data.{outOfRange}
+use Rattle.reading.specs.Reading.{WithByte, withByte, readingOn, nothingRead, registerRead, chosen, moved, ramFound, ramRead, byteRead, readByKind, byCurrent, readTaken}
 use Rattle.history.proofs.Blind.{plainLog}
 use Rattle.history.proofs.Tells.{one, oneReserved, reported-one, reserved-one, adds-fresh, adds-then, adds-more, adds-one, adds-reserved, Bundle, Tells, tells-none, tells-more, tells-by, tells-pick, tells-then}
 
@@ -72,15 +74,15 @@ unfolding closed missing
 tells-closed = tells-by inLog inLog 1 (λ k. k .device .bus .current) (λ c k. ignoring k (missing (k .device .now) (entriesOf k) c)) (λ k. refl) by
   where
     leaves : TellsLog 1 (λ (k : WithLog). ignoring k (entriesOf k))
-    leaves = record { blind = λ k. refl; makes = λ _. fresh; is = λ k. refl; adds = λ _. adds-more 0 1 fresh (omega arith) adds-fresh }
+    leaves = record { blind = λ k. refl; makes = λ _. reservedUnreported; is = λ k. refl; adds = λ _. adds-more 0 1 reservedUnreported (omega arith) adds-fresh }
 
     lacks : (kind : DiagnosticKind) → TellsLog 1 (λ (k : WithLog). ignoring k (reported (entriesOf k) (k .device .now) kind))
     lacks kind =
         record {
           blind = λ k. refl;
-          makes = λ _ j. fresh (one j);
-          is = λ (k : WithLog). ap fresh (reported-one (entriesOf k) (k .device .now) kind);
-          adds = λ _. adds-then 1 0 one fresh adds-one adds-fresh;
+          makes = λ _ j. reservedUnreported (one j);
+          is = λ (k : WithLog). ap reservedUnreported (reported-one (entriesOf k) (k .device .now) kind);
+          adds = λ _. adds-then 1 0 one reservedUnreported adds-one adds-fresh;
         }
 
     whether : (b : Bool) (kind : DiagnosticKind) → TellsLog 1 (λ (k : WithLog). ignoring k (pick b (reported (entriesOf k) (k .device .now) kind) (entriesOf k)))
@@ -187,37 +189,37 @@ abbrev TellsRead : ℕ → (WithLog → WithByte) → Type 0
 TellsRead n f = TellsLog n (λ k. f k .left)
 
 module _ (a : Active) where
-  tells-going : (range nothing : Bool) → TellsLog 0 (going a range nothing)
-  tells-going range nothing = tells-none inLog inLog (going a range nothing) (λ k. refl) (λ k. refl)
+  tells-going : (range nothing : Bool) → TellsLog 0 (readingOn a range nothing)
+  tells-going range nothing = tells-none inLog inLog (readingOn a range nothing) (λ k. refl) (λ k. refl)
 
   tells-nothing : TellsRead 1 (nothingRead a)
   unfolding nothingRead
   tells-nothing =
-      thenLog 1 0 (λ k. pick (a .«nothing_reported») k (logged (NothingToRead (a .command)) k)) (going a (a .«range_reported») true)
+      thenLog 1 0 (λ k. pick (a .«nothing_reported») k (logged (NothingToRead (a .command)) k)) (readingOn a (a .«range_reported») true)
       (pickLog 0 1 (λ _. a .«nothing_reported») (λ k. k) (logged (NothingToRead (a .command))) (λ k. refl) none (tells-logged (NothingToRead (a .command))))
       (tells-going (a .«range_reported») true)
 
   tells-register-read : TellsRead 1 (registerRead a)
   unfolding registerRead
   tells-register-read =
-      let next = going a (a .«range_reported») (a .«nothing_reported») in
+      let next = readingOn a (a .«range_reported») (a .«nothing_reported») in
       tells-more inLog inLog 0 1 next (omega arith) (tells-going (a .«range_reported») (a .«nothing_reported»))
 
-  tells-range : TellsLog 1 (outOfRange a)
+  pub tells-range : TellsLog 1 (outOfRange a)
   unfolding outOfRange
   tells-range =
       pickLog 0 1 (λ _. a .«range_reported») (λ k. k)
       (λ k. logged (RamOutOfRange (a .command) (k .device .regs .counter .x) (k .device .regs .counter .y)) k) (λ k. refl) none
       (tells-told (λ k. RamOutOfRange (a .command) (k .device .regs .counter .x) (k .device .regs .counter .y)))
 
-  tells-moved : (range : Bool) → TellsLog 0 (λ k. going a range (a .«nothing_reported») (moved k))
-  tells-moved range = tells-none inLog inLog (λ k. going a range (a .«nothing_reported») (moved k)) (λ k. refl) (λ k. refl)
+  tells-moved : (range : Bool) → TellsLog 0 (λ k. readingOn a range (a .«nothing_reported») (moved k))
+  tells-moved range = tells-none inLog inLog (λ k. readingOn a range (a .«nothing_reported») (moved k)) (λ k. refl) (λ k. refl)
 
   tells-found : (byte : Byte) → TellsRead 1 (λ k. ramFound a k byte)
   unfolding ramFound
   tells-found (Is b) =
-      tells-more inLog inLog 0 1 (λ k. going a (a .«range_reported») (a .«nothing_reported») (moved k)) (omega arith) (tells-moved (a .«range_reported»))
-  tells-found Nothing = thenLog 1 0 (outOfRange a) (λ k. going a true (a .«nothing_reported») (moved k)) tells-range (tells-moved true)
+      tells-more inLog inLog 0 1 (λ k. readingOn a (a .«range_reported») (a .«nothing_reported») (moved k)) (omega arith) (tells-moved (a .«range_reported»))
+  tells-found Nothing = thenLog 1 0 (outOfRange a) (λ k. readingOn a true (a .«nothing_reported») (moved k)) tells-range (tells-moved true)
 
   module _ (blackWhite red : List ℕ) where
     -- the byte at the counter, which the core has
@@ -234,7 +236,7 @@ module _ (a : Active) where
     tells-ram : TellsRead 1 (ramRead blackWhite red a)
     unfolding ramRead
     tells-ram =
-        let next = going a (a .«range_reported») (a .«nothing_reported») in
+        let next = readingOn a (a .«range_reported») (a .«nothing_reported») in
         either (eqb (a .read) 0) (λ k. withByte (next k) (Is 0)) (λ k. ramFound a k (at k))
         (tells-more inLog inLog 0 1 next (omega arith) (tells-going (a .«range_reported») (a .«nothing_reported»))) tells-at
 
@@ -242,8 +244,8 @@ module _ (a : Active) where
     unfolding byteRead
     tells-byte = either (eqb (a .command) 0x27) (ramRead blackWhite red a) (registerRead a) tells-ram tells-register-read
 
-    tells-kind : (kind : Kind) → TellsRead 1 (λ k. byKind blackWhite red a k kind)
-    unfolding byKind
+    tells-kind : (kind : Kind) → TellsRead 1 (λ k. readByKind blackWhite red a k kind)
+    unfolding readByKind
     tells-kind Read = tells-byte
     tells-kind (Write params) = tells-nothing
     tells-kind Unsupported = tells-nothing

@@ -9,12 +9,13 @@ use Rattle.diagnostic.specs.declared.DiagnosticKind.{DiagnosticKind}
 use Rattle.diagnostic.specs.declared.DiagnosticKind.the-variants.{WithoutClock, WithoutAnalog, RamPingPong}
 use Rattle.diagnostic.specs.declared.Stage.the-variants as stage
 use Rattle.device.specs.declared.Ssd1677.{Ssd1677}
+use Rattle.world.specs.World.{Lent}
 use Rattle.stages.specs.declared.Control.{Control}
 use Rattle.stages.specs.declared.Run.{Run}
 use Rattle.stages.specs.Run.{controlOf, Step, step, withClock, withAnalog, noted, waited}
 use Rattle.stages.specs.Stages.{loaded}
-use Rattle.activation.specs.Display.{Displayed, unchanged, warned, begun, shown}
-use Rattle.activation.specs.Activation.{WithLuts, Lent, runOf, analogOff, clockOff, settled, during, after, staged}
+use Rattle.activation.specs.Display.{Displayed, unchanged, warned, displayBegun, displayShown}
+use Rattle.activation.specs.Activation.{WithLuts, runOf, analogOff, clockOff, runSettled, during, after, staged}
 use Rattle.history.proofs.Blind.{plain}
 use Rattle.history.proofs.Stages.{plainStep, plainDisplayed, plainLuts}
 use Rattle.history.proofs.Display.{blind-begun, staged-plain}
@@ -41,17 +42,17 @@ module _ (blackWhite red gates : List ℕ) (d : Ssd1677) (luts : List ℕ) where
   tells-unlit : (kind : DiagnosticKind) → Tells inStep inDisplayed 1 (λ (s : Step). unchanged (d .display) luts (noted (d .now) kind s))
   tells-unlit kind = tells-then inStep inStep inDisplayed 1 0 (noted (d .now) kind) (unchanged (d .display) luts) (tells-noted (d .now) (λ _. kind)) tells-unchanged
 
-  tells-begun : (two : Bool) → Tells inStep inDisplayed 1 (λ (s : Step). begun blackWhite red gates d two s luts)
-  unfolding begun waited
+  tells-begun : (two : Bool) → Tells inStep inDisplayed 1 (λ (s : Step). displayBegun blackWhite red gates d two s luts)
+  unfolding displayBegun waited
   tells-begun two =
       let w = tells-warned (d .now) two (d .regs .«display_option») in
       record { blind = blind-begun blackWhite red gates d luts two; makes = w .makes; is = w .is; adds = w .adds }
 
   -- 33, 34 or 37
-  tells-shown : (wanted two : Bool) → Tells inStep inDisplayed 3 (λ (s : Step). shown blackWhite red gates d wanted two s luts)
-  unfolding shown
+  tells-shown : (wanted two : Bool) → Tells inStep inDisplayed 3 (λ (s : Step). displayShown blackWhite red gates d wanted two s luts)
+  unfolding displayShown
   tells-shown wanted two =
-      let lit : Step → Displayed = λ (s : Step). begun blackWhite red gates d two s luts in
+      let lit : Step → Displayed = λ (s : Step). displayBegun blackWhite red gates d two s luts in
       let no-analog : Step → Displayed = λ (s : Step). unchanged (d .display) luts (noted (d .now) (WithoutAnalog stage.Display) s) in
       let no-clock : Step → Displayed = λ (s : Step). unchanged (d .display) luts (noted (d .now) (WithoutClock stage.Display) s) in
       tells-pick inStep inDisplayed 3 0 (λ s. wanted && s .run .«waveform_found»)
@@ -67,23 +68,23 @@ module _ (blackWhite red gates : List ℕ) (d : Ssd1677) (luts : List ℕ) where
 -- up to the display, of a device
 abbrev shows : Lent → Ssd1677 → List ℕ → Control → Step → Displayed
 shows k d luts c x =
-    shown (k .blackWhite) (k .red) (k .gates) d (c .display) (c .«mode_two») (loaded (d .now) c (d .regs .sensor) (d .config) (k .otp) x) luts
+    displayShown (k .blackWhite) (k .red) (k .gates) d (c .display) (c .«mode_two») (loaded (d .now) c (d .regs .sensor) (d .config) (k .otp) x) luts
 
 tells-shows : (k : Lent) (d : Ssd1677) (luts : List ℕ) (c : Control) → Tells inStep inDisplayed 8 (shows k d luts c)
 tells-shows k d luts c =
     tells-then inStep inStep inDisplayed 5 3 (loaded (d .now) c (d .regs .sensor) (d .config) (k .otp))
-    (λ (x : Step). shown (k .blackWhite) (k .red) (k .gates) d (c .display) (c .«mode_two») x luts)
+    (λ (x : Step). displayShown (k .blackWhite) (k .red) (k .gates) d (c .display) (c .«mode_two») x luts)
     (tells-loaded (d .now) c (d .regs .sensor) (d .config) (k .otp))
     (tells-shown (k .blackWhite) (k .red) (k .gates) d luts (c .display) (c .«mode_two»))
 
 -- the journal and the log are not looked at
 shows-plain : (k : Lent) (d : Ssd1677) (luts : List ℕ) (c : Control) (x : Step) → shows k d luts c x ≡ shows k (plain d) luts c x
-unfolding shown begun
+unfolding displayShown displayBegun
 shows-plain k d luts c x = refl
 
 -- the supplies' end reports nothing
 off-same : (k : Lent) (s : WithLuts) (c : Control) (t : Displayed) → after k s c t .device .journal ≡ t .run .journal
-unfolding settled clockOff analogOff waited
+unfolding runSettled clockOff analogOff waited
 off-same k s c t = by (c .«clock_off») (c .«analog_off» && t .run .analog)
   where
     kept : Bool → Run → Run

@@ -6,7 +6,7 @@ use lib.Dec.{eqb, ltb}
 use Rattle.numbers.specs.Choice.{pick}
 use Rattle.ram.specs.declared.Plane.{Plane}
 use Rattle.ram.specs.declared.Plane.the-variants.{BlackWhite, Red}
-use Rattle.diagnostic.specs.declared.DiagnosticKind.the-variants.{DataWithoutCommand, ExtraData, RamOutOfRange}
+use Rattle.diagnostic.specs.declared.DiagnosticKind.the-variants.{DataWithoutCommand, ExtraData}
 use Rattle.device.specs.declared.Active.{Active}
 use Rattle.device.specs.declared.Current.{Current}
 use Rattle.device.specs.declared.Current.the-variants as current
@@ -15,16 +15,15 @@ use Rattle.device.specs.declared.Kind.the-variants.{Write, Read, Unsupported, R
 use Rattle.device.specs.declared.Params.the-variants.{Exactly, Between, Stream}
 use Rattle.device.specs.declared.Power.{Power}
 use Rattle.device.specs.declared.Power.the-variants.{Running, Asleep, InReset}
+use Rattle.world.specs.World.{WithLog, withLog, WithRam, withRam, on, deviceInRam, logInRam}
 use Rattle.listed.specs.Listed.{listed}
-use Rattle.chip.specs.Close.{WithLog, withLog}
 use Rattle.chip.specs.Report.{logged}
-use Rattle.acts.specs.Ram.{WithRam, withRam, onDevice, onLog}
 use Rattle.acts.specs.Reserved.{checked}
-use Rattle.acts.specs.Acts.{asleep, emptied, sleeps, slept, hvReady, vciSensed}
+use Rattle.acts.specs.Acts.{asleep, ramLost, sleeps, slept, hvReady, vciSensed}
 use Rattle.parameter.specs.Parameter.{registerTaken, writing, autoFilled, autoTaken, parameterTaken}
-use Rattle.data.specs.Data.{made, going, surplus, upTo, planeFor, put, isInside, stepped, outOfRange, ramWritten, byKind, unasked, dataTaken}
+use Rattle.data.specs.Data.{made, writingOn, surplus, upTo, planeFor, planeWritten, isInside, counterStepped, outOfRange, ramWritten, dataByKind, unasked, dataTaken}
 use Rattle.history.proofs.Blind.{plainRam, seenRam, Quiet, quiet-then, quiet-pick}
-use Rattle.history.proofs.Steps.{QuietLog, quiet-logged, quiet-checked, quiet-hv, quiet-vci, quiet-register}
+use Rattle.history.proofs.Steps.{QuietLog, quiet-logged, quiet-checked, quiet-hv, quiet-vci, quiet-register, quiet-range}
 
 -- of the state, the planes and the log
 abbrev pub QuietRam : (WithRam → WithRam) → Type 0
@@ -41,7 +40,7 @@ none : QuietRam (λ w. w)
 none = record { blind = λ w. refl; still = λ w. refl }
 
 -- what concerns the state and the log
-quiet-log : (f : WithLog → WithLog) → QuietLog f → QuietRam (onLog f)
+quiet-log : (f : WithLog → WithLog) → QuietLog f → QuietRam (on logInRam f)
 quiet-log f q =
     record {
       blind = λ (w : WithRam). ap (λ (k : WithLog). withRam (k .device) (w .blackWhite) (w .red) (k .log)) (q .blind (withLog (w .device) (w .log)));
@@ -49,23 +48,23 @@ quiet-log f q =
     }
 
 -- ---- the parameters
-quiet-asleep : QuietRam (onDevice asleep)
+quiet-asleep : QuietRam (on deviceInRam asleep)
 unfolding asleep
 quiet-asleep = record { blind = λ w. refl; still = λ w. refl }
 
 quiet-sleeps : (byte : ℕ) → QuietRam (sleeps byte)
 unfolding sleeps
 quiet-sleeps byte =
-    pickRam (λ _. eqb (byte % 4) 0) (λ w. w) (λ w. pick (eqb (byte % 4) 3) (onDevice asleep (emptied w)) (onDevice asleep w)) (λ w. refl) none
-    (pickRam (λ _. eqb (byte % 4) 3) (λ w. onDevice asleep (emptied w)) (onDevice asleep) (λ w. refl)
-    (thenRam emptied (onDevice asleep) (record { blind = λ w. refl; still = λ w. refl }) quiet-asleep)
+    pickRam (λ _. eqb (byte % 4) 0) (λ w. w) (λ w. pick (eqb (byte % 4) 3) (on deviceInRam asleep (ramLost w)) (on deviceInRam asleep w)) (λ w. refl) none
+    (pickRam (λ _. eqb (byte % 4) 3) (λ w. on deviceInRam asleep (ramLost w)) (on deviceInRam asleep) (λ w. refl)
+    (thenRam ramLost (on deviceInRam asleep) (record { blind = λ w. refl; still = λ w. refl }) quiet-asleep)
     quiet-asleep)
 
 quiet-slept : (byte : ℕ) → QuietRam (slept byte)
 unfolding slept
 quiet-slept byte =
     let c = checked (eqb byte 0 || eqb byte 3) 0x10 byte in
-    thenRam (onLog c) (sleeps byte) (quiet-log c (quiet-checked (eqb byte 0 || eqb byte 3) 0x10 byte)) (quiet-sleeps byte)
+    thenRam (on logInRam c) (sleeps byte) (quiet-log c (quiet-checked (eqb byte 0 || eqb byte 3) 0x10 byte)) (quiet-sleeps byte)
 
 quiet-filled : (command byte : ℕ) → QuietRam (autoFilled command byte)
 quiet-filled command byte =
@@ -77,10 +76,10 @@ unfolding autoTaken
 quiet-auto command byte =
     record { blind = λ (w : WithRam). by (listed (w .device .regs) command 0 byte) .blind w; still = λ (w : WithRam). by (listed (w .device .regs) command 0 byte) .still w }
   where
-    by : (b : Bool) → QuietRam (λ (w : WithRam). onDevice writing (onLog (checked b command byte) (autoFilled command byte w)))
+    by : (b : Bool) → QuietRam (λ (w : WithRam). on deviceInRam writing (on logInRam (checked b command byte) (autoFilled command byte w)))
     by b =
-        thenRam (autoFilled command byte) (λ w. onDevice writing (onLog (checked b command byte) w)) (quiet-filled command byte)
-        (thenRam (onLog (checked b command byte)) (onDevice writing) (quiet-log (checked b command byte) (quiet-checked b command byte))
+        thenRam (autoFilled command byte) (λ w. on deviceInRam writing (on logInRam (checked b command byte) w)) (quiet-filled command byte)
+        (thenRam (on logInRam (checked b command byte)) (on deviceInRam writing) (quiet-log (checked b command byte) (quiet-checked b command byte))
         (record { blind = λ w. refl; still = λ w. refl }))
 
 quiet-parameter : (command index byte : ℕ) → QuietRam (parameterTaken command index byte)
@@ -88,8 +87,8 @@ unfolding parameterTaken
 quiet-parameter command index byte = by (eqb command 0x10) (eqb command 0x14) (eqb command 0x15) (eqb command 0x46) (eqb command 0x47)
   where
     by : (a b c d e : Bool) → QuietRam (λ (w : WithRam).
-        pick a (slept byte w) (pick b (onLog (hvReady byte) w) (pick c (onLog (vciSensed byte) w)
-        (pick d (autoTaken 0x46 byte w) (pick e (autoTaken 0x47 byte w) (onLog (registerTaken command index byte) w))))))
+        pick a (slept byte w) (pick b (on logInRam (hvReady byte) w) (pick c (on logInRam (vciSensed byte) w)
+        (pick d (autoTaken 0x46 byte w) (pick e (autoTaken 0x47 byte w) (on logInRam (registerTaken command index byte) w))))))
     by true b c d e = quiet-slept byte
     by false true c d e = quiet-log (hvReady byte) (quiet-hv byte)
     by false false true d e = quiet-log (vciSensed byte) (quiet-vci byte)
@@ -98,42 +97,36 @@ quiet-parameter command index byte = by (eqb command 0x10) (eqb command 0x14) (e
     by false false false false false = quiet-log (registerTaken command index byte) (quiet-register command index byte)
 
 -- ---- the command's own count
-quiet-going : (a : Active) (extra range : Bool) → QuietRam (going a extra range)
+quiet-going : (a : Active) (extra range : Bool) → QuietRam (writingOn a extra range)
 quiet-going a extra range = record { blind = λ w. refl; still = λ w. refl }
 
 quiet-surplus : (a : Active) → QuietRam (surplus a)
 unfolding surplus
 quiet-surplus a =
-    thenRam (λ w. pick (a .«extra_reported») w (onLog (logged (ExtraData (a .command))) w)) (going a true (a .«range_reported»))
-    (pickRam (λ _. a .«extra_reported») (λ w. w) (onLog (logged (ExtraData (a .command)))) (λ w. refl) none
+    thenRam (λ w. pick (a .«extra_reported») w (on logInRam (logged (ExtraData (a .command))) w)) (writingOn a true (a .«range_reported»))
+    (pickRam (λ _. a .«extra_reported») (λ w. w) (on logInRam (logged (ExtraData (a .command)))) (λ w. refl) none
     (quiet-log (logged (ExtraData (a .command))) (quiet-logged (ExtraData (a .command)))))
     (quiet-going a true (a .«range_reported»))
 
 quiet-up-to : (most byte : ℕ) (a : Active) → QuietRam (upTo most byte a)
 unfolding upTo
 quiet-up-to most byte a =
-    let next = going a (a .«extra_reported») (a .«range_reported») in
+    let next = writingOn a (a .«extra_reported») (a .«range_reported») in
     pickRam (λ _. ltb (a .received) most) (λ w. next (parameterTaken (a .command) (a .received) byte w)) (surplus a) (λ w. refl)
     (thenRam (parameterTaken (a .command) (a .received) byte) next (quiet-parameter (a .command) (a .received) byte)
     (quiet-going a (a .«extra_reported») (a .«range_reported»)))
     (quiet-surplus a)
 
 -- ---- the planes
-quiet-put : (plane : Plane) (byte : ℕ) → QuietRam (put plane byte)
+quiet-put : (plane : Plane) (byte : ℕ) → QuietRam (planeWritten plane byte)
 quiet-put BlackWhite byte = record { blind = λ w. refl; still = λ w. refl }
 quiet-put Red byte = record { blind = λ w. refl; still = λ w. refl }
 
-quiet-stepped : QuietRam (onDevice stepped)
+quiet-stepped : QuietRam (on deviceInRam counterStepped)
 quiet-stepped = record { blind = λ w. refl; still = λ w. refl }
 
-quiet-out : (a : Active) → QuietRam (outOfRange a)
-unfolding outOfRange logged
-quiet-out a =
-    pickRam (λ _. a .«range_reported») (λ w. w)
-    (λ (w : WithRam). onLog (logged (RamOutOfRange (a .command) (w .device .regs .counter .x) (w .device .regs .counter .y))) w)
-    (λ w. refl)
-    none
-    (record { blind = λ w. refl; still = λ w. refl })
+quiet-out : (a : Active) → QuietRam (on logInRam (outOfRange a))
+quiet-out a = quiet-log (outOfRange a) (quiet-range a)
 
 inside-same : (plane : Plane) (w : WithRam) → isInside plane w ≡ isInside plane (plainRam w)
 inside-same BlackWhite w = refl
@@ -143,17 +136,17 @@ quiet-ram : (byte : ℕ) (a : Active) → QuietRam (ramWritten byte a)
 unfolding ramWritten
 quiet-ram byte a =
     let plane = planeFor (a .command) in
-    let in-it = going a (a .«extra_reported») (a .«range_reported») in
-    let past-it = going a (a .«extra_reported») true in
-    pickRam (isInside plane) (λ w. in-it (onDevice stepped (put plane byte w))) (λ w. past-it (onDevice stepped (outOfRange a w))) (inside-same plane)
-    (thenRam (put plane byte) (λ w. in-it (onDevice stepped w)) (quiet-put plane byte)
-    (thenRam (onDevice stepped) in-it quiet-stepped (quiet-going a (a .«extra_reported») (a .«range_reported»))))
-    (thenRam (outOfRange a) (λ w. past-it (onDevice stepped w)) (quiet-out a)
-    (thenRam (onDevice stepped) past-it quiet-stepped (quiet-going a (a .«extra_reported») true)))
+    let in-it = writingOn a (a .«extra_reported») (a .«range_reported») in
+    let past-it = writingOn a (a .«extra_reported») true in
+    pickRam (isInside plane) (λ w. in-it (on deviceInRam counterStepped (planeWritten plane byte w))) (λ w. past-it (on deviceInRam counterStepped (on logInRam (outOfRange a) w))) (inside-same plane)
+    (thenRam (planeWritten plane byte) (λ w. in-it (on deviceInRam counterStepped w)) (quiet-put plane byte)
+    (thenRam (on deviceInRam counterStepped) in-it quiet-stepped (quiet-going a (a .«extra_reported») (a .«range_reported»))))
+    (thenRam (on logInRam (outOfRange a)) (λ w. past-it (on deviceInRam counterStepped w)) (quiet-out a)
+    (thenRam (on deviceInRam counterStepped) past-it quiet-stepped (quiet-going a (a .«extra_reported») true)))
 
 -- ---- by the command that the byte belongs to
-quiet-kind : (byte : ℕ) (a : Active) (kind : Kind) → QuietRam (λ w. byKind byte a w kind)
-unfolding byKind
+quiet-kind : (byte : ℕ) (a : Active) (kind : Kind) → QuietRam (λ w. dataByKind byte a w kind)
+unfolding dataByKind
 quiet-kind byte a (Write (Exactly count)) = quiet-up-to count byte a
 quiet-kind byte a (Write (Between least most)) = quiet-up-to most byte a
 quiet-kind byte a (Write Stream) = quiet-ram byte a
@@ -172,9 +165,9 @@ unfolding dataTaken
 quiet-data byte current.Idle =
     record { blind = λ (w : WithRam). by (w .device .bus .power) .blind w; still = λ (w : WithRam). by (w .device .bus .power) .still w }
   where
-    by : (power : Power) → QuietRam (λ (w : WithRam). onDevice (made current.Ignoring) (unasked byte w power))
+    by : (power : Power) → QuietRam (λ (w : WithRam). on deviceInRam (made current.Ignoring) (unasked byte w power))
     by power =
-        thenRam (λ w. unasked byte w power) (onDevice (made current.Ignoring)) (quiet-unasked byte power)
+        thenRam (λ w. unasked byte w power) (on deviceInRam (made current.Ignoring)) (quiet-unasked byte power)
         (record { blind = λ w. refl; still = λ w. refl })
 quiet-data byte current.Ignoring = none
 quiet-data byte (current.Active a) = quiet-kind byte a (a .kind)

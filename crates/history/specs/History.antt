@@ -5,18 +5,19 @@ use mathlib.Core.List.{List, [], _∷_}
 use lib.IntN.{pos}
 use lib.ListN.{length, getD}
 use Rattle.glass.specs.Greys.{grayZ}
-use Rattle.calls.specs.World.{World, Call}
-use Rattle.history.specs.Reckon.{coreOf, shownBy, Worked, worked, swingOf, Reckoning, reckonCall}
+use Rattle.world.specs.World.{World}
+use Rattle.calls.specs.World.{Call}
+use Rattle.history.specs.Reckon.{coreOf, shownBy, Worked, worked, swingS, Reckoning, reckonCall}
 
 -- a world beside the reckoning: each lent state is its pixel's whole number, which lies from 0 to S, and each pixel shows the grey of it
 -- (those that a finished or cut refresh has driven among them); the refresh under way is the one that the reckoning follows
 pub record Agrees (w : World) (r : Reckoning) : Type 0 where
   pub core : coreOf w ≡ r .core
   pub under-way : shownBy (w .device .display) (w .luts) ≡ r .underWay
-  pub swing : w .device .panel .swing ≡ pos (swingOf (w .device .config))
+  pub swing : w .device .panel .swing ≡ pos (swingS (w .device .config))
   pub states : (pixel : ℕ) → pixel < length (w .states) → getD (w .states) pixel (pos 0) ≡ pos (r .number pixel)
-  pub within : (pixel : ℕ) → pixel < length (w .states) → r .number pixel ≤ swingOf (w .device .config)
-  pub pixels : (pixel : ℕ) → pixel < length (w .states) → getD (w .pixels) pixel 0 ≡ grayZ (pos (r .number pixel)) (pos (swingOf (w .device .config)))
+  pub within : (pixel : ℕ) → pixel < length (w .states) → r .number pixel ≤ swingS (w .device .config)
+  pub pixels : (pixel : ℕ) → pixel < length (w .states) → getD (w .pixels) pixel 0 ≡ grayZ (pos (r .number pixel)) (pos (swingS (w .device .config)))
 
 -- how many refreshes a list of calls works in: the image's generation, held at 2^64 − 1
 abbrev pub worksIn : List ℕ → Reckoning → List Call → ℕ
@@ -29,6 +30,6 @@ SameLut i j [] = Unit {0}
 SameLut i j (w ∷ ws) = (getD (w .luts) i 0 ≡ getD (w .luts) j 0) × SameLut i j ws
 
 -- in every refresh that the calls work in: such pixels keep the order of their states
-abbrev pub Alike : ℕ → ℕ → List ℕ → Reckoning → List Call → Type 0
-Alike i j otp r [] = Unit {0}
-Alike i j otp r (call ∷ calls) = SameLut i j (worked otp r call) × Alike i j otp (reckonCall otp r call) calls
+abbrev pub AlwaysSameLut : ℕ → ℕ → List ℕ → Reckoning → List Call → Type 0
+AlwaysSameLut i j otp r [] = Unit {0}
+AlwaysSameLut i j otp r (call ∷ calls) = SameLut i j (worked otp r call) × AlwaysSameLut i j otp (reckonCall otp r call) calls

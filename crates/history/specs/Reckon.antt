@@ -21,10 +21,11 @@ use Rattle.device.specs.declared.Power.{Power}
 use Rattle.device.specs.declared.Power.the-variants.{Running, Asleep, InReset}
 use Rattle.device.specs.declared.Ssd1677.{Ssd1677}
 use Rattle.device.specs.Parts.{withDisplay}
+use Rattle.world.specs.World.{World, lentOf}
 use Rattle.busy.specs.Busy.{pending}
 use Rattle.activation.specs.Activation.{withLuts, staged}
 use Rattle.power_on.specs.Start.{noDisplay}
-use Rattle.calls.specs.World.{World, Call, advance, set-reset, write-command, write-data, read-data, set-ambient, take-diagnostics, lentOf, taken}
+use Rattle.calls.specs.World.{Call, advance, set-reset, write-command, write-data, read-data, set-ambient, take-diagnostics, taken}
 
 -- ---- what it keeps, but for the whole numbers
 -- clock, registers, planes, reset line, sleep, command, busy work, refresh under way, and what decides these
@@ -96,8 +97,8 @@ bare c =
     }
 
 -- an accepted call steps all this as its definition says (SCOPE, History)
-abbrev pub stepped : List ℕ → Core → Call → Core
-stepped otp c call = coreOf (taken otp (bare c) call)
+abbrev pub coreAfter : List ℕ → Core → Call → Core
+coreAfter otp c call = coreOf (taken otp (bare c) call)
 
 -- ---- the refresh under way
 -- a refresh: its start of driving and end, the 112 bytes that it began with and each pixel's LUT (SCOPE, History: an activation that displays)
@@ -163,7 +164,7 @@ goesOn otp r (advance time) = unreached (later r time) (r .underWay)
 goesOn otp r (set-reset time low) = pick (falls low (r .core .bus .power)) none (unreached (later r time) (r .underWay))
 goesOn otp r (write-command time command) =
     unreached (later r time)
-    (pick (activates (later r time) command (r .core)) (instead (begins otp (stepped otp (r .core) (advance time))) (r .underWay)) (r .underWay))
+    (pick (activates (later r time) command (r .core)) (instead (begins otp (coreAfter otp (r .core) (advance time))) (r .underWay)) (r .underWay))
 goesOn otp r (write-data time byte) = unreached (later r time) (r .underWay)
 goesOn otp r (read-data time) = unreached (later r time) (r .underWay)
 goesOn otp r (set-ambient register) = r .underWay
@@ -182,27 +183,27 @@ pub record Worked : Type 0 where
   pub part : Part
 
 -- so much of a refresh
-abbrev pub counted : Refresh → Part → Worked
-counted r part = record { luts = r .luts; setting = r .setting; part = part }
+abbrev pub workedOf : Refresh → Part → Worked
+workedOf r part = record { luts = r .luts; setting = r .setting; part = part }
 
 -- when the clock, at t, reaches the end of the refresh under way, all of it is added
 unfoldable pub reached : ℕ → Refreshing → List Worked
 reached t none = []
-reached t (one r) = pick (leb (r .ends) t) (counted r all ∷ []) []
+reached t (one r) = pick (leb (r .ends) t) (workedOf r all ∷ []) []
 
 -- a reset at t from the start of driving on and before the end: what t less that start lets it finish; an earlier one adds nothing
-unfoldable pub cutShort : ℕ → Refreshing → List Worked
-cutShort t none = []
-cutShort t (one r) = pick (leb (r .started) t && ltb t (r .ends)) (counted r (upTo (t - r .started)) ∷ []) []
+unfoldable pub cutAt : ℕ → Refreshing → List Worked
+cutAt t none = []
+cutAt t (one r) = pick (leb (r .started) t && ltb t (r .ends)) (workedOf r (upTo (t - r .started)) ∷ []) []
 
 -- by call; one call may end two refreshes: 0x20 one before it, and at once the one that it begins, of no frame or at 2^64 − 1
 unfoldable pub worked : List ℕ → Reckoning → Call → List Worked
 worked otp r (advance time) = reached (later r time) (r .underWay)
 worked otp r (set-reset time low) =
-    reached (later r time) (r .underWay) ++ pick (falls low (r .core .bus .power)) (cutShort (later r time) (r .underWay)) []
+    reached (later r time) (r .underWay) ++ pick (falls low (r .core .bus .power)) (cutAt (later r time) (r .underWay)) []
 worked otp r (write-command time command) =
     reached (later r time) (r .underWay)
-    ++ pick (activates (later r time) command (r .core)) (reached (later r time) (begins otp (stepped otp (r .core) (advance time)))) []
+    ++ pick (activates (later r time) command (r .core)) (reached (later r time) (begins otp (coreAfter otp (r .core) (advance time)))) []
 worked otp r (write-data time byte) = reached (later r time) (r .underWay)
 worked otp r (read-data time) = reached (later r time) (r .underWay)
 worked otp r (set-ambient register) = []
@@ -210,8 +211,8 @@ worked otp r take-diagnostics = []
 
 -- ---- the whole numbers
 -- swing S: the smaller of full swing and 2^63 − 1 (SCOPE, Glass)
-abbrev pub swingOf : Ssd1677Config → ℕ
-swingOf c = min (c .optics .«full_swing») 9223372036854775807
+abbrev pub swingS : Ssd1677Config → ℕ
+swingS c = min (c .optics .«full_swing») 9223372036854775807
 
 -- the exact drives of a LUT in a refresh: millivolts times frames times period, negated if positive drives black
 abbrev pub drivesBy : Bool → Part → List Phase → List ℤ
@@ -223,7 +224,7 @@ unfoldable pub numberAfter : Ssd1677Config → ℕ → ℕ → Worked → ℕ
 numberAfter c pixel x w =
     let lut = getD (w .luts) pixel 0 in
     pick (ltb lut 4)
-    (drives (swingOf c) (drivesBy (c .optics .«positive_drives_black») (w .part) (settingPhases (w .setting) (c .timing .«frame_period») (Lut lut))) x)
+    (drives (swingS c) (drivesBy (c .optics .«positive_drives_black») (w .part) (settingPhases (w .setting) (c .timing .«frame_period») (Lut lut))) x)
     x
 
 -- after a list of refreshes, in order
@@ -235,7 +236,7 @@ numberOver c pixel x (w ∷ ws) = numberOver c pixel (numberAfter c pixel x w) w
 abbrev pub reckonCall : List ℕ → Reckoning → Call → Reckoning
 reckonCall otp r call =
     record {
-      core = stepped otp (r .core) call;
+      core = coreAfter otp (r .core) call;
       underWay = goesOn otp r call;
       number = λ pixel. numberOver (r .core .config) pixel (r .number pixel) (worked otp r call);
     }
@@ -247,8 +248,8 @@ reckon otp r (call ∷ calls) = reckon otp (reckonCall otp r call) calls
 
 -- at first: the core that start gives, and S × grey / 255 rounded down for each pixel (SCOPE, Glass)
 abbrev pub firstNumber : Ssd1677Config → ℕ
-firstNumber c = swingOf c * c .optics .«initial_gray» / 255
+firstNumber c = swingS c * c .optics .«initial_gray» / 255
 
 -- the reckoning at the start: no refresh is under way
-abbrev pub begun : Core → Reckoning
-begun c = record { core = c; underWay = none; number = λ pixel. firstNumber (c .config) }
+abbrev pub firstReckoning : Core → Reckoning
+firstReckoning c = record { core = c; underWay = none; number = λ pixel. firstNumber (c .config) }

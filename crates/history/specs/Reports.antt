@@ -5,12 +5,13 @@ use mathlib.Core.Bool.{Bool, true, false}
 use mathlib.Core.List.{List, [], _∷_}
 use Rattle.numbers.specs.Saturation.{largest}
 use Rattle.device.specs.Parts.{withJournal}
-use Rattle.calls.specs.World.{World, Call, advance, set-reset, write-command, write-data, read-data, set-ambient, take-diagnostics, putDevice, taken}
-use Rattle.history.specs.Reckon.{Core, deviceOf, bare, stepped}
+use Rattle.world.specs.World.{World, deviceInWorld}
+use Rattle.calls.specs.World.{Call, advance, set-reset, write-command, write-data, read-data, set-ambient, take-diagnostics, taken}
+use Rattle.history.specs.Reckon.{Core, deviceOf, bare, coreAfter}
 
 -- a world that has a core, nothing in its log, and whether the command has reported a reserved value, which it does once (30)
 abbrev pub bareWith : Core → Bool → World
-bareWith c flag = putDevice (bare c) (withJournal (deviceOf c) (record { count = 0; dropped = 0; «reserved_reported» = flag }))
+bareWith c flag = deviceInWorld .put (bare c) (withJournal (deviceOf c) (record { count = 0; dropped = 0; «reserved_reported» = flag }))
 
 -- how many reports a call makes: the records that it writes to an empty log, whose room is far more
 abbrev pub reportsOf : List ℕ → Core → Bool → Call → ℕ
@@ -27,8 +28,8 @@ pub record Tally : Type 0 where
   pub flag : Bool
 
 -- so many reports more: they wait while there is room for 1,024, and those beyond are counted, stopping at 2^64 − 1
-abbrev pub reported : Tally → ℕ → Bool → Tally
-reported t n flag =
+abbrev pub withReports : Tally → ℕ → Bool → Tally
+withReports t n flag =
     record {
       waiting = min (t .waiting + n) 1024;
       dropped = min (t .dropped + (t .waiting + n - 1024)) (largest 64);
@@ -37,7 +38,7 @@ reported t n flag =
 
 -- the reports of a call
 abbrev pub told : List ℕ → Core → Tally → Call → Tally
-told otp c t call = reported t (reportsOf otp c (t .flag) call) (flagAfter otp c (t .flag) call)
+told otp c t call = withReports t (reportsOf otp c (t .flag) call) (flagAfter otp c (t .flag) call)
 
 -- by call; take_diagnostics alone takes the records that wait
 abbrev pub tallyCall : List ℕ → Core → Tally → Call → Tally
@@ -52,7 +53,7 @@ tallyCall otp c t take-diagnostics = record { waiting = 0; dropped = t .dropped;
 -- over a list of accepted calls
 unfoldable pub tally : List ℕ → Core → Tally → List Call → Tally
 tally otp c t [] = t
-tally otp c t (call ∷ calls) = tally otp (stepped otp c call) (tallyCall otp c t call) calls
+tally otp c t (call ∷ calls) = tally otp (coreAfter otp c call) (tallyCall otp c t call) calls
 
 -- at first
 abbrev pub noReport : Tally
@@ -61,7 +62,7 @@ noReport = record { waiting = 0; dropped = 0; flag = false }
 -- how many reports a list of calls makes
 abbrev pub reportsIn : List ℕ → Core → Bool → List Call → ℕ
 reportsIn otp c flag [] = 0
-reportsIn otp c flag (call ∷ calls) = reportsOf otp c flag call + reportsIn otp (stepped otp c call) (flagAfter otp c flag call) calls
+reportsIn otp c flag (call ∷ calls) = reportsOf otp c flag call + reportsIn otp (coreAfter otp c call) (flagAfter otp c flag call) calls
 
 -- a call that takes the records that wait
 abbrev pub takes : Call → Bool

@@ -4,24 +4,16 @@ use Prim.Native.Nat.{ℕ, _≤_}
 use mathlib.Core.Path.{_≡_}
 use mathlib.Core.List.{List, [], _∷_}
 use Rattle.query.specs.Outcome.{Outcome, outcome}
-use Rattle.calls.specs.World.{World, Call, called}
+use Rattle.world.specs.World.{World}
+use Rattle.calls.specs.World.{Call, called}
 
--- one part of a run beside a call that was handed a part and hands one back: the call was handed another and the run's stays, or it was
--- handed the run's own, and the run goes on with what came back
-pub data Lent {A : Type 0} (own handed back next : A) : Type 0 where
-  another : next ≡ own → Lent own handed back next
-  its-own : handed ≡ own → next ≡ back → Lent own handed back next
-
--- the same of every part
+-- a caller beside a refused call: its own state and buffers are put together from what it hands over and what it keeps, and afterwards in the same
+-- way from what it is handed back. `put` says how, and is any: a buffer in its own slot or in another (`put w .red` is `w .blackWhite`), a piece of
+-- one (`put w .states` is `w .states ++ rest`), a copy of the state, or nothing of its own (`put w` is the same for every w)
 pub record Beside (own handed back next : World) : Type 0 where
-  pub device : Lent (own .device) (handed .device) (back .device) (next .device)
-  pub states : Lent (own .states) (handed .states) (back .states) (next .states)
-  pub luts : Lent (own .luts) (handed .luts) (back .luts) (next .luts)
-  pub pixels : Lent (own .pixels) (handed .pixels) (back .pixels) (next .pixels)
-  pub blackWhite : Lent (own .blackWhite) (handed .blackWhite) (back .blackWhite) (next .blackWhite)
-  pub red : Lent (own .red) (handed .red) (back .red) (next .red)
-  pub gates : Lent (own .gates) (handed .gates) (back .gates) (next .gates)
-  pub log : Lent (own .log) (handed .log) (back .log) (next .log)
+  pub put : World → World
+  pub before : own ≡ put handed
+  pub after : next ≡ put back
 
 -- a run from one world to another, by the calls that it accepted
 pub data Runs (otp : List ℕ) : World → List Call → World → Type 0 where

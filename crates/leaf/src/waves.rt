@@ -10,7 +10,9 @@ use waveform::Waveform;
 ghost use mathlib.Core.Path.{_≡_};
 ghost use mathlib.Core.Bool.{true};
 ghost use Prim.Native.Nat.{ℕ, _<_};
+ghost use lib.Dec.{eqb};
 ghost use lib.ListN.{getD};
+ghost use Rattle.config.specs.Tests.{zeroPeriod};
 ghost use Rattle.waveform.specs.Phases.{Takes};
 
 fn bytes(text: &mut [u8; text::ROOM], at: usize, bytes: [u8; 20]) -> usize {
@@ -85,8 +87,9 @@ fn frame_rate_code(text: &mut [u8; text::ROOM], at: usize, numbers: &[u64]) -> u
     at
 }
 
-// Whether every frame lasts.
+// Whether every frame lasts: no period is 0.
 pub fn lasting(periods: [u64; 16]) -> bool
+    ensures { λ r. ⌜ r ≡ eqb (zeroPeriod periods) 16 ⌝ }
     ensures { λ r. ⌜ (r ≡ true → (code : ℕ) → code < 16 → 0 < getD periods code 0) ⌝ }
 {
     let mut i: usize = 0;

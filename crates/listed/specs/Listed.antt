@@ -1,19 +1,12 @@
 -- Whether the datasheet lists a parameter byte, by command and index (Table 7-1, as mod.rs has it).
-use mathlib.Core.Bool.{Bool, true, false, not, _&&_, _||_}
+use mathlib.Core.Bool.{Bool, true, not, _&&_, _||_}
 use mathlib.Core.List.{List, [], _∷_}
 use Prim.Native.Nat.{ℕ, _+_, _/_, _%_}
 use lib.Dec.{eqb, ltb, leb}
 use Rattle.numbers.specs.Choice.{pick}
 use Rattle.numbers.specs.Rows.{Row, lookup}
-use Rattle.voltage.specs.declared.Millivolts.{Millivolts}
-use Rattle.voltage.specs.declared.Millivolts.the-variants.{Listed, Unlisted}
-use Rattle.voltage.specs.Codes.{sourceVoltage, vslVoltage, vcomVoltage, gateListed}
+use Rattle.voltage.specs.Codes.{isVoltage, sourceVoltage, vslVoltage, vcomVoltage, gateListed}
 use Rattle.device.specs.declared.Registers.{Registers}
-
--- the code stands for a voltage
-abbrev pub isVoltage : Millivolts → Bool
-isVoltage (Listed millivolts) = true
-isVoltage Unlisted = false
 
 -- 0x01: byte B has bits 9:8 of MUX alone, and MUX + 1 is 300 to 680 lines; byte C has SM and GD alone, bits 1 and 2
 abbrev pub driverListed : ℕ → ℕ → ℕ → Bool

@@ -3,12 +3,12 @@
 ghost use mathlib.Core.Path.{_≡_};
 ghost use lib.Dec.{eqb, ltb};
 ghost use Prim.Native.Nat.{_/_, _%_};
-ghost use Rattle.listed.specs.Listed.{isVoltage, driverListed, sourcesListed, temperatureListed, planeOption, optionsListed, hasCode3, lutListed, windowListed, listed};
+ghost use Rattle.listed.specs.Listed.{driverListed, sourcesListed, temperatureListed, planeOption, optionsListed, hasCode3, lutListed, windowListed, listed};
 use device::Registers;
 use ram::RAM_GATES;
 use ram::RAM_SOURCES;
-use voltage::Millivolts;
 use voltage::gate_code_is_listed;
+use voltage::is_voltage;
 use voltage::source_millivolts;
 use voltage::vcom_millivolts;
 use voltage::vsl_millivolts;
@@ -39,16 +39,6 @@ fn driver_output(mux: u16, index: u16, byte: u8) -> bool
         return two_bits(byte) & ((FEWEST_LINES - 1 <= mux) & (mux <= RAM_GATES - 1));
     }
     byte & 0b1111_1001 == 0
-}
-
-// Whether a code stands for a voltage.
-fn is_voltage(millivolts: Millivolts) -> bool
-    ensures { λ r. ⌜ r ≡ isVoltage millivolts ⌝ }
-{
-    match millivolts {
-        Millivolts::Listed(_) => true,
-        Millivolts::Unlisted => false,
-    }
 }
 
 // 0x04.

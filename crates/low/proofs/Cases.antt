@@ -9,20 +9,21 @@ use lib.ListN.{length}
 use native.Mathlib.Nat.{mul-comm}
 use Rattle.device.specs.declared.Registers.{Registers}
 use Rattle.device.specs.declared.Ssd1677.{Ssd1677}
+use Rattle.world.specs.World.{WithLog, withLog, WithGlass, withGlass, WithBuffers, withBuffers, Lent}
 use Rattle.config.specs.declared.PanelGeometry.{PanelGeometry}
-use Rattle.clock.specs.Advance.{Ready, WithGlass, withGlass, advanced}
-use Rattle.chip.specs.Close.{WithLog, withLog, closed}
+use Rattle.clock.specs.Advance.{Ready, advanced}
+use Rattle.chip.specs.Close.{closed}
 use Rattle.clock.proofs.Arrived.{config-advanced, regs-advanced}
 use Rattle.reset.proofs.Kept.{ready-closed}
 use Rattle.activation.specs.Display.{Startable}
-use Rattle.activation.specs.Activation.{WithBuffers, withBuffers, Lent, Activatable}
+use Rattle.activation.specs.Activation.{Activatable}
 use Rattle.activation.proofs.Kept.{ready-advanced}
 use Rattle.begin.specs.Begin.{begun}
 use Rattle.guard_lengths.specs.declared.Lengths.{Lengths}
 use Rattle.guard_lengths.specs.declared.Lent.the-variants.{Of}
 use Rattle.guard.specs.declared.Refusal.{Refusal}
 use Rattle.guard_lengths.specs.Lengths.{allLent}
-use Rattle.guard.specs.Refusals.{numberOf, accepts, guardedWithTable}
+use Rattle.guard.specs.Refusals.{refusalNumber, accepts, guardedWithTable}
 use Rattle.guard_laws.proofs.Accepted.{fine-state, fine-lengths}
 use Rattle.query.specs.Outcome.{outcome}
 use Rattle.query.proofs.Cases.{grants, refuses}
@@ -99,7 +100,7 @@ module _ (k : Lent) (time command : ℕ) (w : WithBuffers) (l : Lengths) (r : Re
       record {
         startable =
             record {
-              mux-small = let n = f .registers .mux in omega arith;
+              mux-small = let n = f .registers .mux-ten in omega arith;
               sources = f .panel .sources;
               luts-long = g .luts ∙ mul-comm (w .device .config .panel .width) (w .device .config .panel .height);
               gates-long = g .gates (length (k .gates)) refl;
@@ -112,10 +113,10 @@ module _ (k : Lent) (time command : ℕ) (w : WithBuffers) (l : Lengths) (r : Re
             (Of (length (k .gates))) fine fit;
       }
 
-  pub command-moves : (v : WithBuffers) → b ≡ true → v ≡ commandTaken k time command w → outcome (numberOf r) v ≡ commandWritten k time command w
+  pub command-moves : (v : WithBuffers) → b ≡ true → v ≡ commandTaken k time command w → outcome (refusalNumber r) v ≡ commandWritten k time command w
   unfolding commandWritten
   command-moves v h e = grants r _ same-table w (commandTaken k time command w) b v t h e
 
-  pub command-refused : b ≡ false → outcome (numberOf r) w ≡ commandWritten k time command w
+  pub command-refused : b ≡ false → outcome (refusalNumber r) w ≡ commandWritten k time command w
   unfolding commandWritten
   command-refused h = refuses r _ same-table w (commandTaken k time command w) b t h

@@ -1,8 +1,9 @@
 // A byte with D/C# low (mod.rs, `write_command`).
 ghost use mathlib.Core.Path.{_≡_};
-ghost use Rattle.guard.specs.Refusals.{numberOf};
+ghost use Rattle.guard.specs.Refusals.{refusalNumber};
 ghost use Rattle.query.specs.Outcome.{outcome};
-ghost use Rattle.activation.specs.Activation.{withBuffers, lent, Activatable};
+ghost use Rattle.world.specs.World.{withBuffers, lent};
+ghost use Rattle.activation.specs.Activation.{Activatable};
 ghost use Rattle.low.specs.Command.{commandTaken, commandWritten};
 use device::Ssd1677;
 use query::Answer;
@@ -54,7 +55,7 @@ pub fn write_command(
     time: u64,
     command: u8,
 ) -> Answer
-    ensures { λ r. ⌜ outcome (numberOf (r .refusal)) (withBuffers (r .state) (now (states .exit)) (now (luts .exit)) (now (pixels .exit)) (now (log .exit))) ≡ commandWritten (lent (now («black_white» .entry)) (now (red .entry)) (now (gates .entry)) (now (otp .entry))) time command (withBuffers state (now (states .entry)) (now (luts .entry)) (now (pixels .entry)) (now (log .entry))) ⌝ }
+    ensures { λ r. ⌜ outcome (refusalNumber (r .refusal)) (withBuffers (r .state) (now (states .exit)) (now (luts .exit)) (now (pixels .exit)) (now (log .exit))) ≡ commandWritten (lent (now («black_white» .entry)) (now (red .entry)) (now (gates .entry)) (now (otp .entry))) time command (withBuffers state (now (states .entry)) (now (luts .entry)) (now (pixels .entry)) (now (log .entry))) ⌝ }
 {
     let lengths = guard_lengths::all_lent(
         states.len(),

@@ -1,20 +1,25 @@
 -- What each return of the code hands over, over plain variables. Assumes nothing.
 use Prim.Native.Nat.{ℕ, _≤_, _<_}
 use mathlib.Core.Path.{_≡_}
+use mathlib.Core.Bool.{Bool, true, false, _&&_, not}
 use lib.Dec.{leb}
 use borrow.Author.Tests.{lt-ltb, le-ltb, le-leb, lt-leb}
 use Rattle.device.specs.declared.Bus.{Bus}
 use Rattle.device.specs.declared.Deadline.{Deadline}
 use Rattle.device.specs.declared.Deadline.the-variants.{Never, At}
 use Rattle.device.specs.Parts.{withUntil}
-use Rattle.moment.specs.Moments.{afterNs, hasCome, lowered, busyFor}
+use Rattle.moment.specs.Moments.{afterNs, hasCome, lowered, quietAt, busyFor}
 
-module _ (bus : Bus) (u : Deadline) (moment until : ℕ) (is : u ≡ At until) where
-  pub falls : (r : Bus) → until ≤ moment → r ≡ withUntil bus Never → r ≡ lowered u bus moment
-  falls r h e = rw (is, le-leb until moment h) e
+module _ (bus : Bus) (until : Deadline) (moment : ℕ) (come : Bool) (tells : come ≡ hasCome until moment) where
+  pub falls : (r : Bus) → come ≡ true → r ≡ withUntil bus Never → r ≡ lowered until bus moment
+  falls r h e = rw (← tells, h) e
 
-  pub stays : moment < until → bus ≡ lowered u bus moment
-  stays h = rw (is, lt-leb until moment h)
+  pub stays : come ≡ false → bus ≡ lowered until bus moment
+  stays h = rw (← tells, h)
+
+pub quiet-or-not : (running : Bool) (ends : ℕ) (until : Deadline) (moment : ℕ) (come : Bool) → come ≡ hasCome until moment
+    → (not (running && leb ends moment) && not come) ≡ quietAt running ends until moment
+quiet-or-not running ends until moment come tells = rw tells
 
 module _ (bus : Bus) (moment ns : ℕ) where
   pub rises : (r : Bus) (until : ℕ) → 0 < ns → until ≡ afterNs moment ns → r ≡ withUntil bus (At until) → r ≡ busyFor bus moment ns

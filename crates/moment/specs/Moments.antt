@@ -1,6 +1,6 @@
 -- Moments in nanoseconds, and BUSY (SCOPE, Time: computed moments stop at 2^64 − 1).
 use Prim.Native.Nat.{ℕ, _+_, _-_, min}
-use mathlib.Core.Bool.{Bool, false}
+use mathlib.Core.Bool.{Bool, false, _&&_, not}
 use lib.Dec.{leb, ltb}
 use Rattle.numbers.specs.Choice.{pick}
 use Rattle.numbers.specs.Saturation.{largest}
@@ -24,8 +24,11 @@ hasCome (At until) moment = leb until moment
 
 -- BUSY falls when its time has come (mod.rs, `advance`)
 abbrev pub lowered : Deadline → Bus → ℕ → Bus
-lowered Never bus moment = bus
-lowered (At until) bus moment = pick (leb until moment) (withUntil bus Never) bus
+lowered until bus moment = pick (hasCome until moment) (withUntil bus Never) bus
+
+-- at a moment a display, if one runs, does not end, and BUSY does not fall
+abbrev pub quietAt : Bool → ℕ → Deadline → ℕ → Bool
+quietAt running ends until moment = not (running && leb ends moment) && not (hasCome until moment)
 
 -- BUSY is high for a span from a moment on; a span of 0 leaves it as it is (mod.rs, `busy_for`)
 unfoldable pub busyFor : Bus → ℕ → ℕ → Bus

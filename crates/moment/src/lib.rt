@@ -1,6 +1,6 @@
 // Moments, and when BUSY rises and falls (mod.rs, `after`, `ns_between`, `busy_for`, `advance`).
 ghost use mathlib.Core.Path.{_≡_};
-ghost use Rattle.moment.specs.Moments.{afterNs, nsBetween, hasCome, lowered, busyFor};
+ghost use Rattle.moment.specs.Moments.{afterNs, nsBetween, hasCome, lowered, quietAt, busyFor};
 use device::Bus;
 use device::Deadline;
 use device::part;
@@ -34,16 +34,19 @@ pub fn lower_busy(bus: Bus, moment: u64) -> Bus
     ensures { λ r. ⌜ r ≡ lowered (bus .«busy_until») bus moment ⌝ }
 {
     let busy_until = bus.busy_until;
-    match busy_until {
-        Deadline::Never => bus,
-        Deadline::At(until) => {
-            if until <= moment {
-                part::set_until(bus, Deadline::Never)
-            } else {
-                bus
-            }
-        }
+    if has_come(busy_until, moment) {
+        return part::set_until(bus, Deadline::Never);
     }
+    bus
+}
+
+// Whether at a moment a display, if one runs, does not end, and BUSY does not fall.
+pub fn is_quiet(running: bool, ends: u64, busy_until: Deadline, moment: u64) -> bool
+    ensures { λ r. ⌜ r ≡ quietAt running ends «busy_until» moment ⌝ }
+{
+    let over = running & (ends <= moment);
+    let falls = has_come(busy_until, moment);
+    !over & !falls
 }
 
 // BUSY high for `ns` nanoseconds from a moment on; nothing for 0.

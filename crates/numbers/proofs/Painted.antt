@@ -61,16 +61,6 @@ module _ {A : Type 0} where
   pub paint-next : (n : ℕ) (f : ℕ → A) (d s : List A) (z : A) → s ≡ paint n f d → n < length d → getD s n z ≡ getD d n z
   paint-next n f d s z e l = ap (λ (t : List A). getD t n z) e ∙ paint-at n f d z l
 
-  paint-len : (n : ℕ) (f : ℕ → A) (d : List A) → n ≤ length d → length (paint n f d) ≡ length d
-  unfolding tab paint
-  paint-len zero f d l = refl
-  paint-len (suc n) f [] l = absurd (not-suc-le-zero l)
-  paint-len (suc n) f (x ∷ d) l = ap suc (paint-len n (λ k. f (suc k)) d (le-of-suc-le-suc l))
-
-  -- the length stays
-  pub paint-length : (n : ℕ) (f : ℕ → A) (d s : List A) → s ≡ paint n f d → n ≤ length d → length s ≡ length d
-  paint-length n f d s e l = ap length e ∙ paint-len n f d l
-
   paint-whole : (f : ℕ → A) (d : List A) → paint (length d) f d ≡ tab (length d) f
   unfolding tab paint
   paint-whole f [] = refl

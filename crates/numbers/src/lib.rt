@@ -1,7 +1,8 @@
 // Whole numbers of fixed width that stop at their ends, as the reference's saturating_add, saturating_mul, saturating_neg, clamp, min and max do.
 ghost use mathlib.Core.Path.{_≡_};
-ghost use Prim.Native.Nat.{_+_, _-_, _*_, min, max};
+ghost use Prim.Native.Nat.{_+_, _-_, _*_, _%_, min, max};
 ghost use lib.IntN.{pos, _+ℤ_, _*ℤ_, negℤ, natAbs};
+ghost use lib.Signed.{ltZ};
 ghost use Rattle.numbers.specs.Saturation.{largest, clampZ, satZ};
 
 const LARGEST: u64 = 18446744073709551615;
@@ -13,6 +14,18 @@ pub fn wide(byte: u8) -> u64
     ensures { λ r. ⌜ r ≡ byte ⌝ }
 {
     byte as u64
+}
+
+pub fn low_nibble(byte: u8) -> u8
+    ensures { λ r. ⌜ r ≡ byte % 16 ⌝ }
+{
+    byte & 0x0F
+}
+
+pub fn is_negative(z: i64) -> bool
+    ensures { λ r. ⌜ r ≡ ltZ z (pos 0) ⌝ }
+{
+    z < 0
 }
 
 pub fn min_u64(a: u64, b: u64) -> u64

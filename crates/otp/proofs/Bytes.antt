@@ -11,10 +11,11 @@ use lib.ListN.{getD}
 use mir.Syntax.{w16}
 use mir.Val.{toZ, ofZ}
 use Rattle.numbers.proofs.Lin.{back}
+use Rattle.config.specs.Mode.{modeNumber}
 use Rattle.config.specs.Temperature.{sixteenthsOf}
 use Rattle.config.specs.declared.DisplayMode.{DisplayMode}
 use Rattle.otp.specs.Table.{modeAt, lowerAt, upperAt, badEntry}
-use Rattle.otp.specs.Waveform.{modeByte, covers}
+use Rattle.otp.specs.Waveform.{covers}
 
 -- the two bytes that are read at a place
 abbrev pub read : List ℕ → ℕ → ℕ
@@ -40,7 +41,7 @@ module _ (o : List ℕ) (entry : ℕ) where
   got ok e = back {w = w16} (record { sfits = ok }) ∙ e
 
   pub covers-is : (mode : DisplayMode) (register byte lower upper : ℕ) (cold warm t : ℤ)
-      → byte ≡ modeByte mode → lower ≡ read o (118 * entry + 2) → upper ≡ read o (118 * entry + 4)
+      → byte ≡ modeNumber mode → lower ≡ read o (118 * entry + 2) → upper ≡ read o (118 * entry + 4)
       → mag cold < 2 ^ 15 → cold ≡ sixteenthsOf lower → mag warm < 2 ^ 15 → warm ≡ sixteenthsOf upper → mag t < 2 ^ 15 → t ≡ sixteenthsOf register
       → eqb (getD o (118 * entry) 0) byte && ltZ (toZ w16 (ofZ w16 cold)) (toZ w16 (ofZ w16 t)) && leZ (toZ w16 (ofZ w16 t)) (toZ w16 (ofZ w16 warm))
       ≡ covers o mode register entry

@@ -7,27 +7,22 @@ use lib.Signed.{ltZ, leZ}
 use lib.ListN.{take, drop}
 use Rattle.numbers.specs.Choice.{pick}
 use Rattle.config.specs.declared.DisplayMode.{DisplayMode}
-use Rattle.config.specs.declared.DisplayMode.the-variants.{One, Two}
+use Rattle.config.specs.Mode.{modeNumber}
 use Rattle.config.specs.Temperature.{sixteenthsOf}
 use Rattle.otp.specs.declared.Entry.{Entry}
 use Rattle.otp.specs.declared.Entry.the-variants.{At, Nothing}
-use Rattle.otp.specs.Table.{entryBytes, entriesOf, modeAt, lowerAt, upperAt, badTable}
+use Rattle.otp.specs.Table.{entryBytes, entryCount, modeAt, lowerAt, upperAt, badTable}
 use Rattle.otp.specs.Search.{lastOf}
-
--- mode bytes (SCOPE, OTP table)
-abbrev pub modeByte : DisplayMode → ℕ
-modeByte One = 0
-modeByte Two = 1
 
 -- the entry is of the mode, and its range holds the register's temperature: lower < T ≤ upper
 unfoldable pub covers : List ℕ → DisplayMode → ℕ → ℕ → Bool
 covers otp mode register entry =
-    eqb (modeAt otp entry) (modeByte mode) && ltZ (sixteenthsOf (lowerAt otp entry)) (sixteenthsOf register)
+    eqb (modeAt otp entry) (modeNumber mode) && ltZ (sixteenthsOf (lowerAt otp entry)) (sixteenthsOf register)
     && leZ (sixteenthsOf register) (sixteenthsOf (upperAt otp entry))
 
 -- "The last match will be selected"; none of a table that 12 refuses
 unfoldable pub foundEntry : List ℕ → DisplayMode → ℕ → Entry
-foundEntry otp mode register = pick (badTable otp) Nothing (lastOf (covers otp mode register) (entriesOf otp))
+foundEntry otp mode register = pick (badTable otp) Nothing (lastOf (covers otp mode register) (entryCount otp))
 
 -- the bytes of an entry
 abbrev pub partOf : List ℕ → Entry → List ℕ

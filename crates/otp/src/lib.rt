@@ -6,9 +6,9 @@ ghost use Prim.Native.Nat.{_+_, _*_, _<_};
 ghost use lib.ListN.{length, getD};
 ghost use Rattle.config.specs.Answer.{firstOf, answerOf};
 ghost use Rattle.config.specs.Temperature.{sixteenthsOf};
-ghost use Rattle.otp.specs.Table.{entriesOf, badEntry, badTable, tableTest};
+ghost use Rattle.otp.specs.Table.{entryCount, badEntry, badTable, tableTest};
 ghost use Rattle.otp.specs.Search.{anyOf, lastOf};
-ghost use Rattle.otp.specs.Waveform.{modeByte, covers, foundEntry, partOf};
+ghost use Rattle.otp.specs.Waveform.{covers, foundEntry, partOf};
 use config::ConfigError;
 use config::DisplayMode;
 use config::Temperature;
@@ -27,7 +27,7 @@ fn pair(otp: &[u8], at: usize) -> u16
 }
 
 fn bad_entry(otp: &[u8], entry: usize) -> bool
-    requires { ⌜ entry < entriesOf (now otp) ⌝ }
+    requires { ⌜ entry < entryCount (now otp) ⌝ }
     ensures { λ r. ⌜ r ≡ badEntry (now (otp .entry)) entry ⌝ }
 {
     let at = ENTRY_BYTES * entry;
@@ -37,7 +37,7 @@ fn bad_entry(otp: &[u8], entry: usize) -> bool
 }
 
 fn any_bad_entry(otp: &[u8]) -> bool
-    ensures { λ r. ⌜ r ≡ anyOf (badEntry (now (otp .entry))) (entriesOf (now (otp .entry))) ⌝ }
+    ensures { λ r. ⌜ r ≡ anyOf (badEntry (now (otp .entry))) (entryCount (now (otp .entry))) ⌝ }
 {
     let entries = otp.len() / ENTRY_BYTES;
     let mut entry: usize = 0;
@@ -76,15 +76,6 @@ pub enum Entry {
     Nothing,
 }
 
-fn mode_byte(mode: DisplayMode) -> u8
-    ensures { λ r. ⌜ r ≡ modeByte mode ⌝ }
-{
-    match mode {
-        DisplayMode::One => 0,
-        DisplayMode::Two => 1,
-    }
-}
-
 fn sixteenths_of(register: u16) -> i16
     ensures { λ r. ⌜ r ≡ sixteenthsOf register ⌝ }
 {
@@ -93,11 +84,11 @@ fn sixteenths_of(register: u16) -> i16
 
 // Whether the entry is of the mode and its range, lower < T ≤ upper, holds the register's temperature.
 fn covers_register(otp: &[u8], mode: DisplayMode, register: u16, entry: usize) -> bool
-    requires { ⌜ entry < entriesOf (now otp) ⌝ }
+    requires { ⌜ entry < entryCount (now otp) ⌝ }
     ensures { λ r. ⌜ r ≡ covers (now (otp .entry)) mode register entry ⌝ }
 {
     let at = ENTRY_BYTES * entry;
-    let byte = mode_byte(mode);
+    let byte = config::mode_number(mode);
     let lower = sixteenths_of(pair(otp, at + 2));
     let upper = sixteenths_of(pair(otp, at + 4));
     let temperature = sixteenths_of(register);
@@ -105,7 +96,7 @@ fn covers_register(otp: &[u8], mode: DisplayMode, register: u16, entry: usize) -
 }
 
 fn last_covering(otp: &[u8], mode: DisplayMode, register: u16) -> Entry
-    ensures { λ r. ⌜ r ≡ lastOf (covers (now (otp .entry)) mode register) (entriesOf (now (otp .entry))) ⌝ }
+    ensures { λ r. ⌜ r ≡ lastOf (covers (now (otp .entry)) mode register) (entryCount (now (otp .entry))) ⌝ }
 {
     let mut entry = otp.len() / ENTRY_BYTES;
     while 0 < entry {

@@ -14,7 +14,8 @@ use Rattle.waveform.specs.declared.Drive.{Drive}
 use Rattle.waveform.specs.declared.Drive.the-variants.{Lut}
 use Rattle.waveform.specs.declared.Until.{Until}
 use Rattle.waveform.specs.declared.Until.the-variants.{Whole, Cut}
-use Rattle.waveform.specs.Walks.{wholeTransfer, cutTransfer}
+use Rattle.waveform.specs.Setting.{waveformOf}
+use Rattle.waveform.specs.Walks.{transferOf}
 use Rattle.panel.specs.declared.Border.{Border}
 use Rattle.panel.specs.declared.Border.the-variants.{Driven, Left}
 use Rattle.panel.specs.declared.Display.{Display}
@@ -53,8 +54,7 @@ pub record Finishable (periods : List ℕ) (swing : ℤ) (states : List ℤ) (lu
 
 -- the transfer of a setting's display, whole or up to the cut
 abbrev pub settingTransfer : List ℕ → List ℕ → Drive → ℤ → Bool → Until → Transfer
-settingTransfer s p drive swing black Whole = wholeTransfer s p drive swing black
-settingTransfer s p drive swing black (Cut until) = cutTransfer s p drive swing black until
+settingTransfer s p = transferOf (waveformOf s p)
 
 -- that of the 112 bytes which the running refresh kept
 unfoldable pub transferBy : Ending → ℤ → Drive → Transfer

@@ -10,6 +10,10 @@ use Rattle.glass.specs.declared.Transfer.{Transfer}
 use Rattle.glass.specs.Greys.{grayZ}
 use Rattle.glass.specs.Transfers.{applyT}
 
+-- the LUT of a pixel that no gate or source drives (panel.rs, `UNDRIVEN`)
+abbrev pub undriven : ℕ
+undriven = 255
+
 -- a pixel's state: LUTs 0 to 3 move it, each by its transfer, and any other byte leaves it
 unfoldable pub stateBy : (ℕ → Transfer) → ℕ → ℤ → ℤ
 stateBy transfer lut state = pick (ltb lut 4) (applyT (transfer lut) state) state

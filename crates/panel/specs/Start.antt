@@ -10,6 +10,7 @@ use Rattle.glass.specs.declared.RefreshKind.the-variants.{PowerOn}
 use Rattle.glass.specs.Greys.{levelZ, grayZ}
 use Rattle.config.specs.declared.PanelGeometry.{PanelGeometry}
 use Rattle.panel.specs.declared.Panel.{Panel}
+use Rattle.panel.specs.Pixels.{undriven}
 
 -- the smaller of full swing and 2^63 − 1 (SCOPE, Glass)
 abbrev pub swingOf : Optics → ℤ
@@ -48,10 +49,10 @@ pub record Fresh : Type 0 where
 abbrev pub fresh : Panel → List ℤ → List ℕ → List ℕ → Fresh
 fresh p s l x = record { panel = p; states = s; luts = l; pixels = x }
 
--- every state that of the initial grey, every LUT 255, every pixel the grey of its state; buffers of so many states, LUTs and pixels
+-- every state that of the initial grey, no pixel driven, every pixel the grey of its state; buffers of so many states, LUTs and pixels
 unfoldable pub powerOn : PanelGeometry → Optics → ℕ → ℕ → ℕ → Fresh
 powerOn g o states luts pixels =
     fresh (panelAtPowerOn g o)
     (tab states (λ _. firstState o))
-    (tab luts (λ _. 255))
+    (tab luts (λ _. undriven))
     (tab pixels (λ _. grayZ (firstState o) (swingOf o)))

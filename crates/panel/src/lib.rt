@@ -5,6 +5,9 @@ use waveform::Drive;
 ghost use mathlib.Core.Path.{_≡_};
 ghost use Rattle.panel.specs.Border.{borderDrive};
 
+// The LUT of a pixel that no gate or source drives in a refresh.
+pub const UNDRIVEN: u8 = 255;
+
 // A display in progress. Its chosen LUTs are a lent buffer; the setting is the one that it began with.
 pub struct Display {
     // After an end, a cut or a drop this falls and the rest stays.

@@ -24,11 +24,12 @@ use Rattle.waveform.specs.declared.Drive.the-variants.{Lut}
 use Rattle.waveform.specs.declared.Until.{Until}
 use Rattle.waveform.specs.declared.Until.the-variants.{Whole, Cut}
 use Rattle.waveform.specs.Exact.{settingPhases}
+use Rattle.waveform.specs.Walks.{wholeTransfer, cutTransfer}
 use Rattle.waveform_laws.proofs.Exactly.{whole-exact, cut-exact}
 use Rattle.panel.specs.Pixels.{stateBy, statesBy, grays}
 use Rattle.panel.specs.Finish.{Ending, settingTransfer, transferBy}
 use Rattle.panel_laws.specs.Exactly.{drivesUntil, exactDrives}
-unfoldable pub use Rattle.panel_laws.specs.Exactly.{byLut, Told, exactAfter}
+unfoldable pub use Rattle.panel_laws.specs.Exactly.{byLut, CutBelowLargest, exactAfter}
 
 -- ---- undriven
 pub undriven : (transfer : ℕ → Transfer) (lut : ℕ) (state : ℤ) → 4 ≤ lut → stateBy transfer lut state ≡ state
@@ -36,12 +37,12 @@ unfolding stateBy
 undriven transfer lut state h = rw (le-ltb lut 4 h)
 
 -- ---- driven
-module _ (e : Ending) (S : ℕ) (some : 1 ≤ S) (room : S ≤ 9223372036854775807) (told : Told (e .until)) where
+module _ (e : Ending) (S : ℕ) (some : 1 ≤ S) (room : S ≤ 9223372036854775807) (below : CutBelowLargest (e .until)) where
   pub drive-exactly : (drive : Drive) (x : ℕ) → x ≤ S → applyT (transferBy e (pos S) drive) (pos x) ≡ pos (drives S (exactDrives e drive) x)
-  unfolding transferBy
-  drive-exactly drive x h = by (e .until) told
+  unfolding transferBy wholeTransfer cutTransfer
+  drive-exactly drive x h = by (e .until) below
     where
-      by : (until : Until) → Told until
+      by : (until : Until) → CutBelowLargest until
           → applyT (settingTransfer (e .display .setting) (e .periods) drive (pos S) (e .black) until) (pos x)
           ≡ pos (drives S (drivesUntil (e .black) until (settingPhases (e .display .setting) (e .periods) drive)) x)
       by Whole t = whole-exact S some room (e .display .setting) (e .periods) drive (e .black) x h

@@ -29,10 +29,10 @@ drivesUntil black (Cut until) ps = cutDrives black until ps
 abbrev pub exactDrives : Ending → Drive → List ℤ
 exactDrives e drive = drivesUntil (e .black) (e .until) (settingPhases (e .display .setting) (e .periods) drive)
 
--- a cut that the exact drives are told for
-abbrev pub Told : Until → Type 0
-Told Whole = Unit {0}
-Told (Cut until) = until < largest 64
+-- whole, or cut before 2^64 − 1, where every sum of durations stops: a cut at 2^64 − 1 itself follows the Rust (SCOPE, Settings)
+abbrev pub CutBelowLargest : Until → Type 0
+CutBelowLargest Whole = Unit {0}
+CutBelowLargest (Cut until) = until < largest 64
 
 -- a pixel's whole number afterwards, by its LUT
 unfoldable pub exactAfter : Ending → ℕ → ℕ → ℕ → ℕ

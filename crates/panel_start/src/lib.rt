@@ -4,6 +4,7 @@ use glass::Optics;
 use glass::PanelImage;
 use glass::RefreshKind;
 use panel::Panel;
+use panel::UNDRIVEN;
 ghost use mathlib.Core.Path.{_≡_};
 ghost use Prim.Native.Nat.{_≤_};
 ghost use lib.ListN.{length};
@@ -40,9 +41,6 @@ fn fill_states(states: &mut [i64], state: i64)
         states[i] = state;
     }
 }
-
-// A pixel that no gate or source drives in this refresh.
-const UNDRIVEN: u8 = 255;
 
 // The glass at power-on, and its buffers, however long.
 pub fn new(

@@ -8,10 +8,9 @@ use Rattle.auto_write.specs.Auto.{autoWritten}
 use Rattle.device.specs.declared.Ssd1677.{Ssd1677}
 use Rattle.device.specs.declared.Registers.{Registers}
 use Rattle.device.specs.Parts.{withRegs}
+use Rattle.world.specs.World.{WithLog, withLog, WithRam, withRam, logInRam}
 use Rattle.registers.specs.Store.{stored}
 use Rattle.listed.specs.Listed.{listed}
-use Rattle.chip.specs.Close.{WithLog, withLog}
-use Rattle.acts.specs.Ram.{WithRam, withRam, putLog}
 use Rattle.acts.specs.Reserved.{checked}
 use Rattle.acts.specs.Acts.{slept, hvReady, vciSensed}
 use Rattle.parameter.specs.Parameter.{registerTaken, writing, autoTaken, parameterTaken}
@@ -50,16 +49,16 @@ module _ (command index byte : ℕ) (w z : WithRam) where
   fills-0x47 h e = rw h e
 
 module _ (command index byte : ℕ) (w : WithRam) (k : WithLog) where
-  pub readies : command ≡ 0x14 → k ≡ hvReady byte (withLog (w .device) (w .log)) → putLog w k ≡ parameterTaken command index byte w
+  pub readies : command ≡ 0x14 → k ≡ hvReady byte (withLog (w .device) (w .log)) → logInRam .put w k ≡ parameterTaken command index byte w
   unfolding parameterTaken
   readies h e = rw (h, e)
 
-  pub senses : command ≡ 0x15 → k ≡ vciSensed byte (withLog (w .device) (w .log)) → putLog w k ≡ parameterTaken command index byte w
+  pub senses : command ≡ 0x15 → k ≡ vciSensed byte (withLog (w .device) (w .log)) → logInRam .put w k ≡ parameterTaken command index byte w
   unfolding parameterTaken
   senses h e = rw (h, e)
 
   pub takes : (command ≡ 0x10 → ⊥) → (command ≡ 0x14 → ⊥) → (command ≡ 0x15 → ⊥) → (command ≡ 0x46 → ⊥) → (command ≡ 0x47 → ⊥)
-      → k ≡ registerTaken command index byte (withLog (w .device) (w .log)) → putLog w k ≡ parameterTaken command index byte w
+      → k ≡ registerTaken command index byte (withLog (w .device) (w .log)) → logInRam .put w k ≡ parameterTaken command index byte w
   unfolding parameterTaken
   takes h₁ h₂ h₃ h₄ h₅ e =
       rw (ne-eqb command 0x10 h₁, ne-eqb command 0x14 h₂, ne-eqb command 0x15 h₃, ne-eqb command 0x46 h₄, ne-eqb command 0x47 h₅, e)

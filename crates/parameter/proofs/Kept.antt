@@ -11,11 +11,10 @@ use Rattle.numbers.specs.Choice.{pick}
 use Rattle.numbers.proofs.Painted.{length-tab}
 use Rattle.auto_write.specs.Auto.{autoWritten}
 use Rattle.device.specs.Parts.{withRegs}
+use Rattle.world.specs.World.{WithLog, withLog, WithRam, withRam, on, deviceInRam, logInRam}
 use Rattle.registers.specs.Store.{stored}
 use Rattle.registers.proofs.Bounds.{stored-bounded}
 use Rattle.listed.specs.Listed.{listed}
-use Rattle.chip.specs.Close.{WithLog, withLog}
-use Rattle.acts.specs.Ram.{WithRam, withRam, onDevice, onLog}
 use Rattle.acts.specs.Reserved.{checked}
 use Rattle.acts.specs.Acts.{slept, hvReady, vciSensed}
 use Rattle.acts_laws.proofs.Kept.{Kept, KeptRam, same-all, kept-then, ram-then, on-log, checked-kept, busy-kept, slept-kept, hv-ready-kept, vci-sensed-kept}
@@ -48,7 +47,7 @@ module _ (command byte : ℕ) where
       by true = record { same = same-all (w .device); sound = λ s. s; black-white-long = refl; red-long = auto-length byte (w .red) }
       by false = record { same = same-all (w .device); sound = λ s. s; black-white-long = auto-length byte (w .blackWhite); red-long = refl }
 
-  writing-kept : (w : WithRam) → KeptRam w (onDevice writing w)
+  writing-kept : (w : WithRam) → KeptRam w (on deviceInRam writing w)
   writing-kept w =
       let p = busy-kept (w .device) (w .log) (w .device .config .timing .«auto_write») in
       record { same = p .same; sound = p .sound; black-white-long = refl; red-long = refl }
@@ -58,9 +57,9 @@ module _ (command byte : ℕ) where
   auto-kept w =
       let f = checked (listed (w .device .regs) command 0 byte) command byte in
       let v = autoFilled command byte w in
-      ram-then w (onLog f v) (onDevice writing (onLog f v))
-      (ram-then w v (onLog f v) (filled-kept w) (on-log f v (checked-kept (listed (w .device .regs) command 0 byte) command byte (withLog (v .device) (v .log)))))
-      (writing-kept (onLog f v))
+      ram-then w (on logInRam f v) (on deviceInRam writing (on logInRam f v))
+      (ram-then w v (on logInRam f v) (filled-kept w) (on-log f v (checked-kept (listed (w .device .regs) command 0 byte) command byte (withLog (v .device) (v .log)))))
+      (writing-kept (on logInRam f v))
 
 pub parameter-kept : (command index byte : ℕ) (w : WithRam) → byte ≤ 255 → KeptRam w (parameterTaken command index byte w)
 unfolding parameterTaken
@@ -72,9 +71,9 @@ parameter-kept command index byte w small = by (eqb command 0x10) (eqb command 0
     by : (b₁ b₂ b₃ b₄ b₅ : Bool)
         → KeptRam w
         (pick b₁ (slept byte w)
-        (pick b₂ (onLog (hvReady byte) w)
-        (pick b₃ (onLog (vciSensed byte) w)
-        (pick b₄ (autoTaken 0x46 byte w) (pick b₅ (autoTaken 0x47 byte w) (onLog (registerTaken command index byte) w))))))
+        (pick b₂ (on logInRam (hvReady byte) w)
+        (pick b₃ (on logInRam (vciSensed byte) w)
+        (pick b₄ (autoTaken 0x46 byte w) (pick b₅ (autoTaken 0x47 byte w) (on logInRam (registerTaken command index byte) w))))))
     by true b₂ b₃ b₄ b₅ = slept-kept byte w
     by false true b₃ b₄ b₅ = on-log (hvReady byte) w (hv-ready-kept byte k)
     by false false true b₄ b₅ = on-log (vciSensed byte) w (vci-sensed-kept byte k)

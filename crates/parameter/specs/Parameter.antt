@@ -5,11 +5,10 @@ use Rattle.numbers.specs.Choice.{pick}
 use Rattle.auto_write.specs.Auto.{autoWritten}
 use Rattle.device.specs.declared.Ssd1677.{Ssd1677}
 use Rattle.device.specs.Parts.{withRegs}
+use Rattle.world.specs.World.{WithLog, withLog, WithRam, withRam, on, deviceInRam, logInRam}
 use Rattle.registers.specs.Store.{stored}
 use Rattle.listed.specs.Listed.{listed}
-use Rattle.chip.specs.Close.{WithLog, withLog}
 use Rattle.start.specs.Start.{withBusyFor}
-use Rattle.acts.specs.Ram.{WithRam, withRam, onDevice, onLog}
 use Rattle.acts.specs.Reserved.{checked}
 use Rattle.acts.specs.Acts.{slept, hvReady, vciSensed}
 
@@ -33,14 +32,14 @@ autoFilled command byte w =
 -- 0x46 and 0x47: the plane written, 30 unless the byte is listed, and BUSY
 unfoldable pub autoTaken : ℕ → ℕ → WithRam → WithRam
 autoTaken command byte w =
-    onDevice writing (onLog (checked (listed (w .device .regs) command 0 byte) command byte) (autoFilled command byte w))
+    on deviceInRam writing (on logInRam (checked (listed (w .device .regs) command 0 byte) command byte) (autoFilled command byte w))
 
 -- parameter byte `index` of a command
 unfoldable pub parameterTaken : ℕ → ℕ → ℕ → WithRam → WithRam
 parameterTaken command index byte w =
     pick (eqb command 0x10) (slept byte w)
-    (pick (eqb command 0x14) (onLog (hvReady byte) w)
-    (pick (eqb command 0x15) (onLog (vciSensed byte) w)
+    (pick (eqb command 0x14) (on logInRam (hvReady byte) w)
+    (pick (eqb command 0x15) (on logInRam (vciSensed byte) w)
     (pick (eqb command 0x46) (autoTaken 0x46 byte w)
     (pick (eqb command 0x47) (autoTaken 0x47 byte w)
-    (onLog (registerTaken command index byte) w)))))
+    (on logInRam (registerTaken command index byte) w)))))

@@ -3,9 +3,8 @@
 // A register's byte is stored; 0x10, 0x14, 0x15, 0x46 and 0x47 act at once. A value that the datasheet does not list is reported (30).
 ghost use mathlib.Core.Path.{_≡_};
 ghost use lib.ListN.{length};
-ghost use Rattle.chip.specs.Close.{withLog};
+ghost use Rattle.world.specs.World.{withLog, withRam};
 ghost use Rattle.listed.specs.Listed.{listed};
-ghost use Rattle.acts.specs.Ram.{withRam};
 ghost use Rattle.acts.specs.Reserved.{checked};
 ghost use Rattle.parameter.specs.Parameter.{registerTaken, writing, autoTaken, parameterTaken};
 use device::Ssd1677;

@@ -1,5 +1,5 @@
 -- What each return of the code hands over, over plain variables. Assumes nothing.
-use Prim.Native.Nat.{ℕ, _≤_}
+use Prim.Native.Nat.{ℕ}
 use mathlib.Core.Path.{_≡_, refl, sym, ap, _∙_}
 use mathlib.Core.Bool.{Bool, true, false, not}
 use mathlib.Core.List.{List, [], _∷_}
@@ -14,6 +14,8 @@ use Rattle.config.specs.Answer.{Answer, accepted, refused, isAccepted, firstOf,
 use Rattle.config.proofs.Answers.{stops, goes-on}
 use Rattle.otp.specs.Table.{startTests}
 use Rattle.gates.specs.Gates.{gatesStored}
+use Rattle.gates_laws.specs.OneToOne.{Scanned}
+use Rattle.gates_laws.proofs.OneToOne.{gates-table}
 use Rattle.panel.specs.declared.Display.{Display}
 use Rattle.panel.specs.declared.Panel.{Panel}
 use Rattle.panel.specs.Start.{Fresh, powerOn}
@@ -25,7 +27,6 @@ use Rattle.device.specs.declared.Ssd1677.{Ssd1677}
 use Rattle.registers.specs.Reset.{resetOf}
 use Rattle.guard_lengths.specs.declared.Lengths.{Lengths}
 use Rattle.guard_lengths.specs.Lengths.{lengthsFit}
-use Rattle.guard_laws.proofs.Started.{started-swing, both}
 use Rattle.power_on.specs.declared.StartError.{StartError}
 use Rattle.power_on.specs.declared.StartError.the-variants.{Parameters, Buffer}
 use Rattle.power_on.specs.Start.{bufferTest, allTests, startAnswerOf, noDisplay, chipWith, poweredOn, unstarted, Buffers, buffers, lengthsIn, Clean, clean, cleared, filled, Powered, powered, poweredUp, start, started}
@@ -87,15 +88,14 @@ pub powers-up : (c : Ssd1677Config) (b : Buffers) (x : Fresh) (e : Clean) (g : L
     → x ≡ powerOn (c .panel) (c .optics) (length (b .states)) (length (b .luts)) (length (b .pixels))
     → e ≡ cleared (length (b .blackWhite)) (length (b .red)) (length (b .log))
     → g ≡ gatesStored (c .panel) (c .panel .height) (b .gates)
+    → Scanned (c .panel .«native_scan») (c .panel .height)
+    → length (b .gates) ≡ c .panel .height
     → d ≡ chipWith c (x .panel)
     → powered d (buffers (x .states) (x .luts) (x .pixels) (e .blackWhite) (e .red) g (e .log)) ≡ poweredUp c b
 unfolding poweredUp poweredOn filled powerOn
-powers-up c b x e g d p q r s = rw (s, r, q, p)
+powers-up c b x e g d p q r scanned long s = rw (s, r ∙ gates-table (c .panel) scanned (b .gates) long, q, p)
 
 -- ---- the start
-pub swings : (c : Ssd1677Config) (otp : List ℕ) (l : Lengths) (x : Answer) → x ≡ firstOf (allTests c otp l) → isAccepted x ≡ true → 1 ≤ c .optics .«full_swing»
-swings c otp l x e h = started-swing c otp (both (startTests c otp) (bufferTest (c .panel) l ∷ []) (ap isAccepted (sym e) ∙ h) .0)
-
 module _ (c : Ssd1677Config) (otp : List ℕ) (b : Buffers) (l : Lengths) (x : Answer) (is : l ≡ lengthsIn b) (told : x ≡ firstOf (allTests c otp l)) where
   same : x ≡ firstOf (allTests c otp (lengthsIn b))
   same = told ∙ ap (λ (z : Lengths). firstOf (allTests c otp z)) is

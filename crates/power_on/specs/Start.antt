@@ -2,6 +2,7 @@
 use Prim.Native.Nat.{ℕ}
 use mathlib.Core.Bool.{Bool, true, false, not}
 use mathlib.Core.List.{List, [], _∷_, _++_}
+use lib.Dec.{eqb}
 use lib.IntN.{ℤ, pos}
 use lib.ListN.{length, replicate}
 use Rattle.numbers.specs.Choice.{pick}
@@ -10,9 +11,9 @@ use Rattle.glass.specs.declared.RefreshKind.the-variants.{PowerOn}
 use Rattle.config.specs.declared.ConfigError.{ConfigError}
 use Rattle.config.specs.declared.PanelGeometry.{PanelGeometry}
 use Rattle.config.specs.declared.Ssd1677Config.{Ssd1677Config}
-use Rattle.config.specs.Answer.{Answer, refused, isAccepted, Test, firstOf, answerOf}
+use Rattle.config.specs.Answer.{Answer, accepted, refused, isAccepted, Test, firstOf, answerOf}
 use Rattle.otp.specs.Table.{startTests}
-use Rattle.gates.specs.Gates.{gatesStored}
+use Rattle.gates_laws.specs.OneToOne.{gateOfRow}
 use Rattle.panel.specs.declared.Display.{Display}
 use Rattle.panel.specs.declared.Panel.{Panel}
 use Rattle.panel.specs.Start.{panelAtPowerOn, powerOn}
@@ -24,6 +25,7 @@ use Rattle.registers.specs.Reset.{resetOf}
 use Rattle.guard_lengths.specs.declared.Lengths.{Lengths}
 use Rattle.guard_lengths.specs.Lengths.{lengthsFit, allLent}
 use Rattle.power_on.specs.declared.StartError.{StartError}
+use Rattle.power_on.specs.declared.StartRefusal.{StartRefusal}
 use Rattle.power_on.specs.declared.StartError.the-variants.{Parameters, Buffer}
 
 -- all that is lent to a start but the table
@@ -57,6 +59,10 @@ allTests c otp l = startTests c otp ++ bufferTest (c .panel) l ∷ []
 unfoldable pub startAnswerOf : StartError → Answer
 startAnswerOf (Parameters error) = answerOf error
 startAnswerOf Buffer = refused 11 0
+
+-- a number and its value as the answer that they stand for: 0 for an accepted start
+abbrev pub toldBy : StartRefusal → Answer
+toldBy r = pick (eqb (r .number) 0) accepted (refused (r .number) (r .value))
 
 -- no display has been started
 abbrev pub noDisplay : Display
@@ -109,13 +115,13 @@ clean b r l = record { blackWhite = b; red = r; log = l }
 unfoldable pub cleared : ℕ → ℕ → ℕ → Clean
 cleared b r l = clean (tab b (λ _. 0)) (tab r (λ _. 0)) (tab l (λ _. 0))
 
--- buffers at power-on: planes and log 0x00, chosen LUTs 255, the rest as `Panel::new` (SCOPE, Buffers)
+-- buffers at power-on: planes and log 0x00, chosen LUTs 255, the gate of each row of the glass, the rest as `Panel::new` (SCOPE, Buffers)
 unfoldable pub filled : Ssd1677Config → Buffers → Buffers
 filled c b =
     let glass = powerOn (c .panel) (c .optics) (length (b .states)) (length (b .luts)) (length (b .pixels)) in
     let empty = cleared (length (b .blackWhite)) (length (b .red)) (length (b .log)) in
     buffers (glass .states) (glass .luts) (glass .pixels) (empty .blackWhite) (empty .red)
-    (gatesStored (c .panel) (c .panel .height) (b .gates))
+    (tab (c .panel .height) (gateOfRow (c .panel)))
     (empty .log)
 
 -- a state and all that it was lent

@@ -2,8 +2,9 @@
 ghost use mathlib.Core.Path.{_≡_};
 ghost use Prim.Native.Nat.{_≤_};
 ghost use lib.ListN.{length};
-ghost use Rattle.config.specs.Answer.{isAccepted, firstOf};
-ghost use Rattle.power_on.specs.Start.{allTests, startAnswerOf, noDisplay, chipWith, unstarted, clean, cleared, buffers, powered, poweredUp, start, started};
+ghost use Rattle.config.specs.Answer.{isAccepted, firstOf, answerOf};
+ghost use Rattle.gates_laws.specs.OneToOne.{Scanned};
+ghost use Rattle.power_on.specs.Start.{allTests, startAnswerOf, noDisplay, chipWith, unstarted, clean, cleared, buffers, powered, poweredUp, start, started, toldBy};
 use config::ConfigError;
 use config::Ssd1677Config;
 use device::Bus;
@@ -31,6 +32,64 @@ pub enum StartError {
 pub struct Started {
     pub error: StartError,
     pub state: Ssd1677,
+}
+
+// A refused start's number and its value, 0 where it has none (SCOPE, Refusals); number 0 for an accepted one.
+pub struct StartRefusal {
+    pub number: u8,
+    pub value: usize,
+}
+
+fn number_of_parameters(error: ConfigError) -> StartRefusal
+    ensures { λ r. ⌜ toldBy r ≡ answerOf error ⌝ }
+{
+    match error {
+        ConfigError::Accepted => StartRefusal {
+            number: 0,
+            value: 0,
+        },
+        ConfigError::EmptyPanel => StartRefusal {
+            number: 1,
+            value: 0,
+        },
+        ConfigError::PanelOutsideRam => StartRefusal {
+            number: 2,
+            value: 0,
+        },
+        ConfigError::OddRowsWithGd => StartRefusal {
+            number: 3,
+            value: 0,
+        },
+        ConfigError::ZeroSwing => StartRefusal {
+            number: 4,
+            value: 0,
+        },
+        ConfigError::ZeroFramePeriod(code) => StartRefusal {
+            number: 5,
+            value: code,
+        },
+        ConfigError::BadTable => StartRefusal {
+            number: 12,
+            value: 0,
+        },
+        ConfigError::OtpVoltage(index) => StartRefusal {
+            number: 6,
+            value: index,
+        },
+    }
+}
+
+// The number that a program tells of a start.
+pub fn number_of(error: StartError) -> StartRefusal
+    ensures { λ r. ⌜ toldBy r ≡ startAnswerOf error ⌝ }
+{
+    match error {
+        StartError::Parameters(parameters) => number_of_parameters(parameters),
+        StartError::Buffer => StartRefusal {
+            number: 11,
+            value: 0,
+        },
+    }
 }
 
 // By SCOPE, Refusals: the configuration and the table, then the lengths.
@@ -148,7 +207,7 @@ fn power_up(
     gates: &mut [u16],
     log: &mut [u8],
 ) -> Ssd1677
-    requires { ⌜ 1 ≤ config .optics .«full_swing» ⌝ }
+    requires { ⌜ (1 ≤ config .optics .«full_swing») × Scanned (config .panel .«native_scan») (config .panel .height) × (length (now gates) ≡ config .panel .height) ⌝ }
     ensures { λ r. ⌜ powered r (buffers (now (states .exit)) (now (luts .exit)) (now (pixels .exit)) (now («black_white» .exit)) (now (red .exit)) (now (gates .exit)) (now (log .exit))) ≡ poweredUp config (buffers (now (states .entry)) (now (luts .entry)) (now (pixels .entry)) (now («black_white» .entry)) (now (red .entry)) (now (gates .entry)) (now (log .entry))) ⌝ }
 {
     let panel = panel_start::new(config.panel, config.optics, states, luts, pixels);

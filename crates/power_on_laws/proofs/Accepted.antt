@@ -1,59 +1,32 @@
--- What an accepted start has found, and what it leaves: the gate of each row, no line lost in any scan order, and the first picture (#113).
+-- What an accepted start leaves: the gate of each row, no line lost in any scan order, and the first picture (#113).
 -- Assumes nothing.
 use Prim.Native.Nat.{ℕ, _%_, _≤_, _<_, min}
-use mathlib.Core.Path.{_≡_, refl, sym, ap, _∙_}
+use mathlib.Core.Path.{_≡_, sym, ap, _∙_}
 use mathlib.Core.Bool.{true}
-use mathlib.Core.List.{List, [], _∷_}
+use mathlib.Core.List.{List}
 use lib.IntN.{ℤ}
-use lib.ListN.{length, getD}
-use borrow.Author.Tests.{not-false}
+use lib.ListN.{getD}
 use Rattle.numbers.specs.Lists.{tab}
 use Rattle.numbers.proofs.Painted.{getD-tab}
 use Rattle.glass.specs.Greys.{levelZ, grayZ}
 use Rattle.config.specs.declared.GateScan.{GateScan}
 use Rattle.config.specs.declared.Ssd1677Config.{Ssd1677Config}
-use Rattle.config.specs.Answer.{isAccepted, firstOf}
-use Rattle.otp.specs.Table.{startTests}
+use Rattle.config.specs.Answer.{isAccepted}
 use Rattle.gates.specs.Gates.{rowOfGate}
-use Rattle.gates_laws.specs.OneToOne.{gateOfRow, Scanned, ShownOnce}
+use Rattle.gates_laws.specs.OneToOne.{gateOfRow, ShownOnce}
 use Rattle.gates_laws.proofs.OneToOne as rows
 use Rattle.panel.specs.Start as panel
 use Rattle.power_on_laws.specs.First.{fineSwing}
 use Rattle.power_on_laws.proofs.First.{swing-is, gray-of-level}
-use Rattle.guard_lengths.specs.Lengths.{pixelsOf, lengthsFit}
-use Rattle.guard_laws.proofs.Accepted.{none-refuses, FinePanel, fine-panel, FineLengths, fine-lengths}
-use Rattle.guard_laws.proofs.Started.{both, started-panel}
-use Rattle.power_on.specs.Start.{Buffers, Powered, lengthsIn, bufferTest, allTests, filled, poweredUp, started}
+use Rattle.guard_lengths.specs.Lengths.{pixelsOf}
+use Rattle.power_on.specs.Start.{Buffers, Powered, lengthsIn, filled, poweredUp, started}
+use Rattle.power_on.proofs.Accepted.{scanned, lengths, passed, left-is}
 
 module _ (c : Ssd1677Config) (otp : List ℕ) (b : Buffers) (ok : isAccepted (started c otp b .answer) ≡ true) where
-  pub passed : isAccepted (firstOf (allTests c otp (lengthsIn b))) ≡ true
-  unfolding started
-  passed = ok
-
-  -- the chip and its buffers at power-on
-  pub left-is : started c otp b .left ≡ poweredUp c b
-  unfolding started
-  left-is = rw ok
-
-  each : (isAccepted (firstOf (startTests c otp)) ≡ true) × (isAccepted (firstOf (bufferTest (c .panel) (lengthsIn b) ∷ [])) ≡ true)
-  each = both (startTests c otp) (bufferTest (c .panel) (lengthsIn b) ∷ []) passed
-
-  panel-fine : FinePanel (c .panel)
-  panel-fine = fine-panel (c .panel) (started-panel c otp (each .0))
-
-  pub lengths-fine : FineLengths (c .panel) (lengthsIn b)
-  lengths-fine =
-      fine-lengths (c .panel) (lengthsIn b)
-      (not-false (lengthsFit (c .panel) (lengthsIn b)) (none-refuses (bufferTest (c .panel) (lengthsIn b)) [] (each .1) .0))
-
-  scanned : Scanned (c .panel .«native_scan») (c .panel .height)
-  scanned = record { some = panel-fine .height; most = panel-fine .gates; even = panel-fine .even }
-
   -- the gate of each row, whatever the lent list held
   pub gates-left : started c otp b .left .buffers .gates ≡ tab (c .panel .height) (gateOfRow (c .panel))
   unfolding poweredUp filled
-  gates-left =
-      ap (λ (p : Powered). p .buffers .gates) left-is ∙ rows.gates-table (c .panel) scanned (b .gates) (lengths-fine .gates (length (b .gates)) refl)
+  gates-left = ap (λ (p : Powered). p .buffers .gates) (left-is c otp b ok)
 
   -- the gate of a row of the glass, as the lent list has it after the start
   abbrev pub gateLeft : ℕ → ℕ
@@ -75,7 +48,7 @@ module _ (c : Ssd1677Config) (otp : List ℕ) (b : Buffers) (ok : isAccepted (st
       }
     where
       once : ShownOnce (gateOfRow (c .panel)) (c .panel .height) order row
-      once = rows.no-line-lost (c .panel) scanned order even row l
+      once = rows.no-line-lost (c .panel) (scanned c otp (lengthsIn b) (passed c otp b ok)) order even row l
 
   -- the first picture: with S from 510 on, every pixel shows the starting grey
   pub first-picture : c .optics .«initial_gray» ≤ 255
@@ -83,8 +56,8 @@ module _ (c : Ssd1677Config) (otp : List ℕ) (b : Buffers) (ok : isAccepted (st
       → started c otp b .left .buffers .pixels ≡ tab (pixelsOf (c .panel)) (λ _. c .optics .«initial_gray»)
   unfolding poweredUp filled panel.powerOn
   first-picture byte wide =
-      ap (λ (p : Powered). p .buffers .pixels) left-is
-      ∙ ap (λ (n : ℕ). tab n (λ _. grayZ (panel.firstState (c .optics)) (panel.swingOf (c .optics)))) (lengths-fine .pixels)
+      ap (λ (p : Powered). p .buffers .pixels) (left-is c otp b ok)
+      ∙ ap (λ (n : ℕ). tab n (λ _. grayZ (panel.firstState (c .optics)) (panel.swingOf (c .optics)))) (lengths c otp (lengthsIn b) (passed c otp b ok) .pixels)
       ∙ ap (λ (g : ℕ). tab (pixelsOf (c .panel)) (λ _. g)) shown
     where
       S : ℕ

@@ -64,9 +64,9 @@ abbrev pub withCount : Ssd1677 → ℕ → WithCount
 withCount d n = record { device = d; count = n }
 
 -- no record waits any more; the dropped count and the log's bytes stay
-abbrev pub emptied : Journal → Journal
-emptied j = record { count = 0; dropped = j .dropped; «reserved_reported» = j .«reserved_reported» }
+abbrev pub journalEmptied : Journal → Journal
+journalEmptied j = record { count = 0; dropped = j .dropped; «reserved_reported» = j .«reserved_reported» }
 
 -- take_diagnostics
 unfoldable pub diagnosticsTaken : Ssd1677 → Outcome WithCount
-diagnosticsTaken d = unless (stateGuarded d) (withCount d 0) (withCount (withJournal d (emptied (d .journal))) (d .journal .count))
+diagnosticsTaken d = unless (stateGuarded d) (withCount d 0) (withCount (withJournal d (journalEmptied (d .journal))) (d .journal .count))

@@ -1,9 +1,9 @@
 // What a host changes in a state beside the events (mod.rs, `set_ambient`, `take_diagnostics`). Each call refuses a state with 13. What can
 // be asked of one is defined here too; the functions are in `query_busy` and `query_state`.
 ghost use mathlib.Core.Path.{_≡_};
-ghost use Rattle.guard.specs.Refusals.{numberOf};
+ghost use Rattle.guard.specs.Refusals.{refusalNumber};
 ghost use Rattle.query.specs.Outcome.{outcome, stateGuarded};
-ghost use Rattle.query.specs.Queries.{withAmbient, ambientSet, withCount, emptied, diagnosticsTaken};
+ghost use Rattle.query.specs.Queries.{withAmbient, ambientSet, withCount, journalEmptied, diagnosticsTaken};
 use config::Ssd1677Config;
 use device::Ssd1677;
 use device::part;
@@ -43,7 +43,7 @@ fn with_ambient(config: Ssd1677Config, register: u16) -> Ssd1677Config
 
 // Changes what the internal sensor reads, from the next temperature load; the low twelve bits count.
 pub fn set_ambient(state: Ssd1677, register: u16) -> Answer
-    ensures { λ r. ⌜ outcome (numberOf (r .refusal)) (r .state) ≡ ambientSet state register ⌝ }
+    ensures { λ r. ⌜ outcome (refusalNumber (r .refusal)) (r .state) ≡ ambientSet state register ⌝ }
 {
     let refusal = check_state(state);
     if guard::is_accepted(refusal) {
@@ -55,7 +55,7 @@ pub fn set_ambient(state: Ssd1677, register: u16) -> Answer
 }
 
 fn none_waiting(journal: Journal) -> Journal
-    ensures { λ r. ⌜ r ≡ emptied journal ⌝ }
+    ensures { λ r. ⌜ r ≡ journalEmptied journal ⌝ }
 {
     let mut next = journal;
     next.count = 0;
@@ -64,7 +64,7 @@ fn none_waiting(journal: Journal) -> Journal
 
 // The diagnostics since the last call are the log's first records, oldest first; the next one is written at its start.
 pub fn take_diagnostics(state: Ssd1677) -> Taken
-    ensures { λ r. ⌜ outcome (numberOf (r .refusal)) (withCount (r .state) (r .count)) ≡ diagnosticsTaken state ⌝ }
+    ensures { λ r. ⌜ outcome (refusalNumber (r .refusal)) (withCount (r .state) (r .count)) ≡ diagnosticsTaken state ⌝ }
 {
     let refusal = check_state(state);
     if guard::is_accepted(refusal) {

@@ -1,6 +1,6 @@
 // Whether a chip is busy, and its next deadline (mod.rs, `is_busy`, `busy_pin`, `next_deadline`). Each call refuses a state with 13.
 ghost use mathlib.Core.Path.{_≡_};
-ghost use Rattle.guard.specs.Refusals.{numberOf};
+ghost use Rattle.guard.specs.Refusals.{refusalNumber};
 ghost use Rattle.query.specs.Outcome.{outcome};
 ghost use Rattle.query.specs.Queries.{busyAsked, pinAsked, deadlineAsked};
 use device::Deadline;
@@ -22,7 +22,7 @@ pub struct Next {
 
 // Whether the chip is busy: an operation runs, or it sleeps. Not while RES# is low.
 pub fn is_busy(state: Ssd1677, time: u64) -> Level
-    ensures { λ r. ⌜ outcome (numberOf (r .refusal)) (r .level) ≡ busyAsked state time ⌝ }
+    ensures { λ r. ⌜ outcome (refusalNumber (r .refusal)) (r .level) ≡ busyAsked state time ⌝ }
 {
     let refusal = check_state(state);
     let busy = busy::busy(state, time);
@@ -32,7 +32,7 @@ pub fn is_busy(state: Ssd1677, time: u64) -> Level
 
 // The level of the BUSY pin: high while busy, unless the configuration inverts it.
 pub fn busy_pin(state: Ssd1677, time: u64) -> Level
-    ensures { λ r. ⌜ outcome (numberOf (r .refusal)) (r .level) ≡ pinAsked state time ⌝ }
+    ensures { λ r. ⌜ outcome (refusalNumber (r .refusal)) (r .level) ≡ pinAsked state time ⌝ }
 {
     let refusal = check_state(state);
     let pin = busy::pin(state, time);
@@ -42,7 +42,7 @@ pub fn busy_pin(state: Ssd1677, time: u64) -> Level
 
 // When BUSY falls, or a display ends and its image is published.
 pub fn next_deadline(state: Ssd1677) -> Next
-    ensures { λ r. ⌜ outcome (numberOf (r .refusal)) (r .deadline) ≡ deadlineAsked state ⌝ }
+    ensures { λ r. ⌜ outcome (refusalNumber (r .refusal)) (r .deadline) ≡ deadlineAsked state ⌝ }
 {
     let refusal = check_state(state);
     if guard::is_accepted(refusal) {

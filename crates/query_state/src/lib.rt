@@ -1,7 +1,7 @@
 // What a state holds of its parameters, its image and its log (mod.rs, `config`, `panel_image`, `dropped_diagnostics`). Each call refuses
 // a state with 13.
 ghost use mathlib.Core.Path.{_≡_};
-ghost use Rattle.guard.specs.Refusals.{numberOf};
+ghost use Rattle.guard.specs.Refusals.{refusalNumber};
 ghost use Rattle.query.specs.Outcome.{outcome};
 ghost use Rattle.query.specs.Queries.{configAsked, imageAsked, droppedAsked};
 use config::Ssd1677Config;
@@ -30,7 +30,7 @@ pub struct Dropped {
 
 // The parameters that the chip was built with.
 pub fn config(state: Ssd1677) -> Parameters
-    ensures { λ r. ⌜ outcome (numberOf (r .refusal)) (r .config) ≡ configAsked state ⌝ }
+    ensures { λ r. ⌜ outcome (refusalNumber (r .refusal)) (r .config) ≡ configAsked state ⌝ }
 {
     let refusal = check_state(state);
     let config = state.config;
@@ -39,7 +39,7 @@ pub fn config(state: Ssd1677) -> Parameters
 
 // The header of the image that the glass shows since the last refresh (generation 0 before any); its pixels are the lent buffer.
 pub fn panel_image(state: Ssd1677) -> Image
-    ensures { λ r. ⌜ outcome (numberOf (r .refusal)) (r .image) ≡ imageAsked state ⌝ }
+    ensures { λ r. ⌜ outcome (refusalNumber (r .refusal)) (r .image) ≡ imageAsked state ⌝ }
 {
     let refusal = check_state(state);
     let panel = state.panel;
@@ -49,7 +49,7 @@ pub fn panel_image(state: Ssd1677) -> Image
 
 // How many diagnostics were dropped because the log was full.
 pub fn dropped_diagnostics(state: Ssd1677) -> Dropped
-    ensures { λ r. ⌜ outcome (numberOf (r .refusal)) (r .count) ≡ droppedAsked state ⌝ }
+    ensures { λ r. ⌜ outcome (refusalNumber (r .refusal)) (r .count) ≡ droppedAsked state ⌝ }
 {
     let refusal = check_state(state);
     if guard::is_accepted(refusal) {

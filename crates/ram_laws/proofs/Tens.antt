@@ -9,9 +9,7 @@ use Rattle.numbers.specs.Choice.{pick, bitOf}
 use Rattle.counter.specs.declared.Window.{Window}
 use Rattle.counter.specs.declared.Counter.{Counter}
 use Rattle.counter.specs.declared.Entry.{Entry}
-use Rattle.counter.specs.declared.Next.{Next}
-use Rattle.counter.specs.declared.Next.the-variants.{To, Past}
-use Rattle.counter.specs.Counter.{byteStep, rowStep, xFirst, yFirst, advancedOf}
+use Rattle.counter.specs.Counter.{Next, To, Past, byteStep, rowStep, xFirst, yFirst, advancedOf}
 use Rattle.counter.specs.Registers.{tenBits}
 use Rattle.counter.proofs.Steps.{step-below}
 

@@ -10,7 +10,7 @@ use Rattle.ram.specs.declared.Byte.the-variants.{Is, Nothing}
 use Rattle.ram.specs.declared.Plane.{Plane}
 use Rattle.ram.specs.declared.Plane.the-variants.{BlackWhite, Red}
 use Rattle.ram.specs.Plane.{planeOf, readAt}
-use Rattle.diagnostic.specs.declared.DiagnosticKind.the-variants.{RamOutOfRange, NothingToRead}
+use Rattle.diagnostic.specs.declared.DiagnosticKind.the-variants.{NothingToRead}
 use Rattle.device.specs.declared.Active.{Active}
 use Rattle.device.specs.declared.Current.{Current}
 use Rattle.device.specs.declared.Current.the-variants as current
@@ -19,11 +19,11 @@ use Rattle.device.specs.declared.Kind.the-variants.{Write, Read, Unsupported, R
 use Rattle.device.specs.declared.Power.{Power}
 use Rattle.device.specs.declared.Power.the-variants.{Running, Asleep, InReset}
 use Rattle.device.specs.declared.Ssd1677.{Ssd1677}
+use Rattle.world.specs.World.{WithLog, withLog}
 use Rattle.registers.specs.Read.{readRegister}
 use Rattle.busy.specs.Busy.{busyAt}
-use Rattle.chip.specs.Close.{WithLog, withLog}
 use Rattle.chip.specs.Report.{logged}
-use Rattle.data.specs.Data.{made, stepped}
+use Rattle.data.specs.Data.{made, counterStepped, outOfRange}
 
 -- the state and the log with the byte read, or none: the line floats
 pub record WithByte : Type 0 where
@@ -35,8 +35,8 @@ abbrev pub withByte : WithLog → Byte → WithByte
 withByte k b = record { left = k; byte = b }
 
 -- the command with one read more, the count stopping at 65,535 (mod.rs), and what it has reported
-abbrev pub counted : Active → Bool → Bool → Active
-counted a range nothing =
+abbrev pub oneReadMore : Active → Bool → Bool → Active
+oneReadMore a range nothing =
     record {
       command = a .command;
       kind = a .kind;
@@ -48,45 +48,40 @@ counted a range nothing =
     }
 
 -- a command of which a byte more was read
-abbrev pub going : Active → Bool → Bool → WithLog → WithLog
-going a range nothing k = withLog (made (current.Active (counted a range nothing)) (k .device)) (k .log)
+abbrev pub readingOn : Active → Bool → Bool → WithLog → WithLog
+readingOn a range nothing k = withLog (made (current.Active (oneReadMore a range nothing)) (k .device)) (k .log)
 
 -- 38 for a command that has nothing to read, once a command
 unfoldable pub nothingRead : Active → WithLog → WithByte
 nothingRead a k =
-    withByte (going a (a .«range_reported») true (pick (a .«nothing_reported») k (logged (NothingToRead (a .command)) k))) Nothing
+    withByte (readingOn a (a .«range_reported») true (pick (a .«nothing_reported») k (logged (NothingToRead (a .command)) k))) Nothing
 
 -- the registers' bytes: 0x1B, 0x2D, 0x2E and 0x2F, which says whether the controller is busy at the clock
 unfoldable pub registerRead : Active → WithLog → WithByte
 registerRead a k =
     let d = k .device in
-    withByte (going a (a .«range_reported») (a .«nothing_reported») k)
+    withByte (readingOn a (a .«range_reported») (a .«nothing_reported») k)
     (readRegister (d .regs) (d .status) (busyAt (d .bus) (d .now)) (a .command) (a .read))
 
 -- the plane that 0x41 chose
 abbrev pub chosen : Ssd1677 → Plane
 chosen d = pick (d .regs .«read_ram_red») Red BlackWhite
 
--- 31 past the RAM, once a command
-unfoldable pub outOfRange : Active → WithLog → WithLog
-outOfRange a k =
-    pick (a .«range_reported») k (logged (RamOutOfRange (a .command) (k .device .regs .counter .x) (k .device .regs .counter .y)) k)
-
 -- the counter steps
 abbrev pub moved : WithLog → WithLog
-moved k = withLog (stepped (k .device)) (k .log)
+moved k = withLog (counterStepped (k .device)) (k .log)
 
 -- a byte, or 31; the counter steps in either case
 unfoldable pub ramFound : Active → WithLog → Byte → WithByte
 ramFound a k (Is b) =
-    withByte (going a (a .«range_reported») (a .«nothing_reported») (moved k)) (Is b)
-ramFound a k Nothing = withByte (going a true (a .«nothing_reported») (moved (outOfRange a k))) Nothing
+    withByte (readingOn a (a .«range_reported») (a .«nothing_reported») (moved k)) (Is b)
+ramFound a k Nothing = withByte (readingOn a true (a .«nothing_reported») (moved (outOfRange a k))) Nothing
 
 -- 0x27: 0x00 first with the counter unmoved, then RAM at the counter (SCOPE, Commands)
 unfoldable pub ramRead : List ℕ → List ℕ → Active → WithLog → WithByte
 ramRead blackWhite red a k =
     pick (eqb (a .read) 0)
-    (withByte (going a (a .«range_reported») (a .«nothing_reported») k) (Is 0))
+    (withByte (readingOn a (a .«range_reported») (a .«nothing_reported») k) (Is 0))
     (ramFound a k (readAt (planeOf blackWhite red (chosen (k .device))) (k .device .regs .counter)))
 
 -- a read command's byte
@@ -94,17 +89,17 @@ unfoldable pub byteRead : List ℕ → List ℕ → Active → WithLog → WithB
 byteRead blackWhite red a k = pick (eqb (a .command) 0x27) (ramRead blackWhite red a k) (registerRead a k)
 
 -- by what the active command is
-unfoldable pub byKind : List ℕ → List ℕ → Active → WithLog → Kind → WithByte
-byKind blackWhite red a k Read = byteRead blackWhite red a k
-byKind blackWhite red a k (Write params) = nothingRead a k
-byKind blackWhite red a k Unsupported = nothingRead a k
-byKind blackWhite red a k Reserved = nothingRead a k
+unfoldable pub readByKind : List ℕ → List ℕ → Active → WithLog → Kind → WithByte
+readByKind blackWhite red a k Read = byteRead blackWhite red a k
+readByKind blackWhite red a k (Write params) = nothingRead a k
+readByKind blackWhite red a k Unsupported = nothingRead a k
+readByKind blackWhite red a k Reserved = nothingRead a k
 
 -- with no active command nothing is driven, and nothing is reported
 unfoldable pub byCurrent : List ℕ → List ℕ → WithLog → Current → WithByte
 byCurrent blackWhite red k current.Idle = withByte k Nothing
 byCurrent blackWhite red k current.Ignoring = withByte k Nothing
-byCurrent blackWhite red k (current.Active a) = byKind blackWhite red a k (a .kind)
+byCurrent blackWhite red k (current.Active a) = readByKind blackWhite red a k (a .kind)
 
 -- nor asleep, nor in reset
 unfoldable pub readTaken : List ℕ → List ℕ → WithLog → Power → WithByte

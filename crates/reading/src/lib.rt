@@ -4,10 +4,10 @@ ghost use lib.ListN.{length};
 ghost use mathlib.Core.List.{List};
 ghost use Prim.Native.Nat.{ℕ};
 ghost use Rattle.ram.specs.Plane.{planeOf, readAt};
-ghost use Rattle.chip.specs.Close.{withLog};
 ghost use Rattle.device.specs.declared.Current.the-variants as current;
-ghost use Rattle.data.specs.Data.{made, stepped};
-ghost use Rattle.reading.specs.Reading.{withByte, counted, nothingRead, registerRead, chosen, outOfRange, ramFound, ramRead, byteRead, byCurrent, readTaken};
+ghost use Rattle.world.specs.World.{withLog};
+ghost use Rattle.data.specs.Data.{made, counterStepped};
+ghost use Rattle.reading.specs.Reading.{withByte, oneReadMore, nothingRead, registerRead, chosen, ramFound, ramRead, byteRead, byCurrent, readTaken};
 use device::Active;
 use device::Current;
 use device::Kind;
@@ -25,7 +25,7 @@ pub struct Reading {
 
 // The command with one read more, and what it has reported.
 fn count(active: Active, range: bool, nothing: bool) -> Active
-    ensures { λ r. ⌜ r ≡ counted active range nothing ⌝ }
+    ensures { λ r. ⌜ r ≡ oneReadMore active range nothing ⌝ }
 {
     let read = numbers::saturating_add_u16(active.read, 1);
     let mut next = active;
@@ -37,7 +37,7 @@ fn count(active: Active, range: bool, nothing: bool) -> Active
 
 // The command stays the current one, with a read more.
 fn go_on(state: Ssd1677, active: Active, range: bool, nothing: bool) -> Ssd1677
-    ensures { λ r. ⌜ r ≡ made (current.Active (counted active range nothing)) state ⌝ }
+    ensures { λ r. ⌜ r ≡ made (current.Active (oneReadMore active range nothing)) state ⌝ }
 {
     let next = count(active, range, nothing);
     let bus = part::set_current(state.bus, Current::Active(next));
@@ -77,7 +77,7 @@ fn read_register(state: Ssd1677, active: Active) -> Reading
 
 // The counter steps.
 fn step(state: Ssd1677) -> Ssd1677
-    ensures { λ r. ⌜ r ≡ stepped state ⌝ }
+    ensures { λ r. ⌜ r ≡ counterStepped state ⌝ }
 {
     let at = state.regs.counter;
     let window = state.regs.window;
@@ -85,27 +85,6 @@ fn step(state: Ssd1677) -> Ssd1677
     let counter = at.advanced(window, entry);
     let regs = part::set_counter(state.regs, counter);
     part::set_regs(state, regs)
-}
-
-// 31, unless the command has reported it.
-fn report_range(state: Ssd1677, log: &mut [u8], active: Active) -> Ssd1677
-    requires { ⌜ length (now log) ≡ 16384 ⌝ }
-    ensures { λ r. ⌜ withLog r (now (log .exit)) ≡ outOfRange active (withLog state (now (log .entry))) ⌝ }
-{
-    if active.range_reported {
-        return state;
-    }
-    let command = active.command;
-    let at = state.regs.counter;
-    chip::report(
-        state,
-        log,
-        DiagnosticKind::RamOutOfRange {
-            command,
-            x: at.x,
-            y: at.y,
-        },
-    )
 }
 
 // What the RAM has at the counter, which steps in either case.
@@ -123,7 +102,7 @@ fn found(state: Ssd1677, log: &mut [u8], active: Active, byte: Byte) -> Reading
             Reading { state, byte }
         }
         Byte::Nothing => {
-            let noted = report_range(state, log, active);
+            let noted = data::report_range(state, log, active);
             let moved = step(noted);
             let state = go_on(moved, active, true, nothing);
             let byte = Byte::Nothing;

@@ -9,7 +9,6 @@ use Rattle.numbers.specs.Choice.{pick}
 use Rattle.ram.specs.declared.Byte.{Byte}
 use Rattle.ram.specs.declared.Byte.the-variants.{Is, Nothing}
 use Rattle.ram.specs.Plane.{planeOf, readAt}
-use Rattle.ram_laws.proofs.Tens.{advanced-ten}
 use Rattle.diagnostic.specs.declared.DiagnosticKind.{DiagnosticKind}
 use Rattle.diagnostic.specs.declared.DiagnosticKind.the-variants.{RamOutOfRange, NothingToRead}
 use Rattle.device.specs.declared.Active.{Active}
@@ -19,135 +18,84 @@ use Rattle.device.specs.declared.Kind.{Kind}
 use Rattle.device.specs.declared.Kind.the-variants.{Write, Read, Unsupported, Reserved}
 use Rattle.device.specs.declared.Power.{Power}
 use Rattle.device.specs.declared.Power.the-variants.{Running, Asleep, InReset}
-use Rattle.chip.specs.Close.{WithLog, withLog}
+use Rattle.world.specs.World.{WithLog}
 use Rattle.chip.specs.Report.{logged}
-use Rattle.acts_laws.proofs.Kept.{Sound, logged-kept}
-use Rattle.data.specs.Data.{made}
-use Rattle.reading.specs.Reading.{WithByte, withByte, counted, going, nothingRead, registerRead, chosen, outOfRange, moved, ramFound, ramRead, byteRead, byKind, byCurrent, readTaken}
+use Rattle.acts_laws.proofs.Kept.{logged-kept}
+use Rattle.data_laws.proofs.Kept.{Rests, rests-all, rests-then, rests-made, rests-stepped}
+use Rattle.data.specs.Data.{made, outOfRange}
+use Rattle.reading.specs.Reading.{WithByte, withByte, oneReadMore, readingOn, nothingRead, registerRead, chosen, moved, ramFound, ramRead, byteRead, readByKind, byCurrent, readTaken}
 
--- what stays, whatever becomes of the current command
-pub record Leaves (k j : WithLog) : Type 0 where
-  pub same-config : j .device .config ≡ k .device .config
-  pub same-now : j .device .now ≡ k .device .now
-  pub same-panel : j .device .panel ≡ k .device .panel
-  pub same-display : j .device .display ≡ k .device .display
+-- what stays of the state and its log, the supplies, BUSY and the power, whatever becomes of the current command
+pub record ReadLeaves (k j : WithLog) : Type 0 where
+  pub rests : Rests k j
   pub same-clock : j .device .clock ≡ k .device .clock
   pub same-analog : j .device .analog ≡ k .device .analog
   pub same-until : j .device .bus .«busy_until» ≡ k .device .bus .«busy_until»
   pub same-power : j .device .bus .power ≡ k .device .bus .power
-  pub sound : Sound (k .device) (k .log) → Sound (j .device) (j .log)
 
-leaves-all : (k : WithLog) → Leaves k k
-leaves-all k =
-    record {
-      same-config = refl;
-      same-now = refl;
-      same-panel = refl;
-      same-display = refl;
-      same-clock = refl;
-      same-analog = refl;
-      same-until = refl;
-      same-power = refl;
-      sound = λ s. s;
-    }
+leaves-all : (k : WithLog) → ReadLeaves k k
+leaves-all k = record { rests = rests-all k; same-clock = refl; same-analog = refl; same-until = refl; same-power = refl }
 
-leaves-then : (k j l : WithLog) → Leaves k j → Leaves j l → Leaves k l
+leaves-then : (k j l : WithLog) → ReadLeaves k j → ReadLeaves j l → ReadLeaves k l
 leaves-then k j l p q =
     record {
-      same-config = q .same-config ∙ p .same-config;
-      same-now = q .same-now ∙ p .same-now;
-      same-panel = q .same-panel ∙ p .same-panel;
-      same-display = q .same-display ∙ p .same-display;
+      rests = rests-then k j l (p .rests) (q .rests);
       same-clock = q .same-clock ∙ p .same-clock;
       same-analog = q .same-analog ∙ p .same-analog;
       same-until = q .same-until ∙ p .same-until;
       same-power = q .same-power ∙ p .same-power;
-      sound = λ s. q .sound (p .sound s);
     }
 
 -- a read more of the current command
-leaves-going : (a : Active) (range nothing : Bool) (k : WithLog) → Leaves k (going a range nothing k)
+leaves-going : (a : Active) (range nothing : Bool) (k : WithLog) → ReadLeaves k (readingOn a range nothing k)
 leaves-going a range nothing k =
     record {
-      same-config = refl;
-      same-now = refl;
-      same-panel = refl;
-      same-display = refl;
+      rests = rests-made (current.Active (oneReadMore a range nothing)) k;
       same-clock = refl;
       same-analog = refl;
       same-until = refl;
       same-power = refl;
-      sound = λ s. record { bounded = s .bounded; room = s .room; long = s .long };
     }
 
--- the counter stays within ten bits
-leaves-moved : (k : WithLog) → Leaves k (moved k)
-leaves-moved k =
-    record {
-      same-config = refl;
-      same-now = refl;
-      same-panel = refl;
-      same-display = refl;
-      same-clock = refl;
-      same-analog = refl;
-      same-until = refl;
-      same-power = refl;
-      sound = λ s.
-          record {
-            bounded =
-                record {
-                  mux-ten = s .bounded .mux-ten;
-                  entry-three = s .bounded .entry-three;
-                  window-ten = s .bounded .window-ten;
-                  counter-ten =
-                      advanced-ten (k .device .regs .counter) (k .device .regs .window) (k .device .regs .entry) (s .bounded .counter-ten) (s .bounded .window-ten);
-                  temperature-twelve = s .bounded .temperature-twelve;
-                };
-            room = s .room;
-            long = s .long;
-          };
-    }
+leaves-moved : (k : WithLog) → ReadLeaves k (moved k)
+leaves-moved k = record { rests = rests-stepped k; same-clock = refl; same-analog = refl; same-until = refl; same-power = refl }
 
 -- a report, unless it was made
-leaves-told : (b : Bool) (kind : DiagnosticKind) (k : WithLog) → Leaves k (pick b k (logged kind k))
+leaves-told : (b : Bool) (kind : DiagnosticKind) (k : WithLog) → ReadLeaves k (pick b k (logged kind k))
 unfolding logged
 leaves-told true kind k = leaves-all k
 leaves-told false kind k =
     record {
-      same-config = refl;
-      same-now = refl;
-      same-panel = refl;
-      same-display = refl;
+      rests = record { same-config = refl; same-now = refl; same-panel = refl; same-display = refl; sound = logged-kept kind k .sound };
       same-clock = refl;
       same-analog = refl;
       same-until = refl;
       same-power = refl;
-      sound = logged-kept kind k .sound;
     }
 
 module _ (a : Active) (k : WithLog) where
-  leaves-nothing : Leaves k (nothingRead a k .left)
+  leaves-nothing : ReadLeaves k (nothingRead a k .left)
   unfolding nothingRead
   leaves-nothing =
       let j = pick (a .«nothing_reported») k (logged (NothingToRead (a .command)) k) in
-      leaves-then k j (going a (a .«range_reported») true j) (leaves-told (a .«nothing_reported») (NothingToRead (a .command)) k)
+      leaves-then k j (readingOn a (a .«range_reported») true j) (leaves-told (a .«nothing_reported») (NothingToRead (a .command)) k)
       (leaves-going a (a .«range_reported») true j)
 
-  leaves-register : Leaves k (registerRead a k .left)
+  leaves-register : ReadLeaves k (registerRead a k .left)
   unfolding registerRead
   leaves-register = leaves-going a (a .«range_reported») (a .«nothing_reported») k
 
-  leaves-out : Leaves k (outOfRange a k)
+  leaves-out : ReadLeaves k (outOfRange a k)
   unfolding outOfRange
   leaves-out = leaves-told (a .«range_reported») (RamOutOfRange (a .command) (k .device .regs .counter .x) (k .device .regs .counter .y)) k
 
   -- a step of the counter, and a read more
-  leaves-on : (range : Bool) (j : WithLog) → Leaves k j → Leaves k (going a range (a .«nothing_reported») (moved j))
+  leaves-on : (range : Bool) (j : WithLog) → ReadLeaves k j → ReadLeaves k (readingOn a range (a .«nothing_reported») (moved j))
   leaves-on range j p =
-      leaves-then k (moved j) (going a range (a .«nothing_reported») (moved j)) (leaves-then k j (moved j) p (leaves-moved j))
+      leaves-then k (moved j) (readingOn a range (a .«nothing_reported») (moved j)) (leaves-then k j (moved j) p (leaves-moved j))
       (leaves-going a range (a .«nothing_reported») (moved j))
 
-  leaves-found : (b : Byte) → Leaves k (ramFound a k b .left)
+  leaves-found : (b : Byte) → ReadLeaves k (ramFound a k b .left)
   unfolding ramFound
   leaves-found (Is b) = leaves-on (a .«range_reported») k (leaves-all k)
   leaves-found Nothing = leaves-on true (outOfRange a k) leaves-out
@@ -157,44 +105,44 @@ module _ (a : Active) (k : WithLog) where
     abbrev there : Byte
     there = readAt (planeOf blackWhite red (chosen (k .device))) (k .device .regs .counter)
 
-    leaves-ram : Leaves k (ramRead blackWhite red a k .left)
+    leaves-ram : ReadLeaves k (ramRead blackWhite red a k .left)
     unfolding ramRead
     leaves-ram = by (eqb (a .read) 0)
       where
         by : (b : Bool)
-            → Leaves k (pick b (withByte (going a (a .«range_reported») (a .«nothing_reported») k) (Is 0)) (ramFound a k there) .left)
+            → ReadLeaves k (pick b (withByte (readingOn a (a .«range_reported») (a .«nothing_reported») k) (Is 0)) (ramFound a k there) .left)
         by true = leaves-going a (a .«range_reported») (a .«nothing_reported») k
         by false = leaves-found there
 
-    leaves-byte : Leaves k (byteRead blackWhite red a k .left)
+    leaves-byte : ReadLeaves k (byteRead blackWhite red a k .left)
     unfolding byteRead
     leaves-byte = by (eqb (a .command) 0x27)
       where
-        by : (b : Bool) → Leaves k (pick b (ramRead blackWhite red a k) (registerRead a k) .left)
+        by : (b : Bool) → ReadLeaves k (pick b (ramRead blackWhite red a k) (registerRead a k) .left)
         by true = leaves-ram
         by false = leaves-register
 
-    leaves-kind : (x : Kind) → Leaves k (byKind blackWhite red a k x .left)
-    unfolding byKind
+    leaves-kind : (x : Kind) → ReadLeaves k (readByKind blackWhite red a k x .left)
+    unfolding readByKind
     leaves-kind Read = leaves-byte
     leaves-kind (Write params) = leaves-nothing
     leaves-kind Unsupported = leaves-nothing
     leaves-kind Reserved = leaves-nothing
 
-leaves-current : (blackWhite red : List ℕ) (k : WithLog) (c : Current) → Leaves k (byCurrent blackWhite red k c .left)
+leaves-current : (blackWhite red : List ℕ) (k : WithLog) (c : Current) → ReadLeaves k (byCurrent blackWhite red k c .left)
 unfolding byCurrent
 leaves-current blackWhite red k current.Idle = leaves-all k
 leaves-current blackWhite red k current.Ignoring = leaves-all k
 leaves-current blackWhite red k (current.Active a) = leaves-kind a k blackWhite red (a .kind)
 
-pub read-leaves : (blackWhite red : List ℕ) (k : WithLog) (p : Power) → Leaves k (readTaken blackWhite red k p .left)
+pub read-leaves : (blackWhite red : List ℕ) (k : WithLog) (p : Power) → ReadLeaves k (readTaken blackWhite red k p .left)
 unfolding readTaken
 read-leaves blackWhite red k Running = leaves-current blackWhite red k (k .device .bus .current)
 read-leaves blackWhite red k Asleep = leaves-all k
 read-leaves blackWhite red k InReset = leaves-all k
 
 -- what goes by the command and its kind alone stays so of the current command
-module _ (P : Current → Type 0) (on : (a : Active) (range nothing : Bool) → P (current.Active a) → P (current.Active (counted a range nothing)))
+module _ (P : Current → Type 0) (on : (a : Active) (range nothing : Bool) → P (current.Active a) → P (current.Active (oneReadMore a range nothing)))
     (blackWhite red : List ℕ) (k : WithLog) where
   -- of the state that a read leaves
   abbrev Still : WithByte → Type 0
@@ -217,7 +165,7 @@ module _ (P : Current → Type 0) (on : (a : Active) (range nothing : Bool) → 
         by : (b : Bool)
             → Still
             (pick b
-            (withByte (going a (a .«range_reported») (a .«nothing_reported») k) (Is 0))
+            (withByte (readingOn a (a .«range_reported») (a .«nothing_reported») k) (Is 0))
             (ramFound a k (readAt (planeOf blackWhite red (chosen (k .device))) (k .device .regs .counter))))
         by true = on a (a .«range_reported») (a .«nothing_reported») h
         by false = still-found (readAt (planeOf blackWhite red (chosen (k .device))) (k .device .regs .counter))
@@ -230,8 +178,8 @@ module _ (P : Current → Type 0) (on : (a : Active) (range nothing : Bool) → 
         by true = still-ram
         by false = on a (a .«range_reported») (a .«nothing_reported») h
 
-    still-kind : (x : Kind) → Still (byKind blackWhite red a k x)
-    unfolding byKind
+    still-kind : (x : Kind) → Still (readByKind blackWhite red a k x)
+    unfolding readByKind
     still-kind Read = still-byte
     still-kind (Write params) = still-nothing
     still-kind Unsupported = still-nothing

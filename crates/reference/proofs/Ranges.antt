@@ -14,12 +14,13 @@ use Rattle.config.specs.declared.DisplayMode.{DisplayMode}
 use Rattle.config.specs.declared.DisplayMode.the-variants.{One, Two}
 use Rattle.config.specs.Lowest.{lowest}
 use Rattle.config.specs.Answer.{accepted, firstOf}
+use Rattle.config.specs.Mode.{modeNumber}
 use Rattle.config.specs.Temperature.{coldest, warmest, sixteenthsOf, registerOf}
 use Rattle.config.proofs.Registers.{ranged, above-coldest}
 use Rattle.otp.specs.declared.Entry.the-variants.{At, Nothing}
-use Rattle.otp.specs.Table.{entriesOf, modeAt, lowerAt, upperAt, badEntry, badTable, unlistedVoltage, tableTest, voltagesTest}
+use Rattle.otp.specs.Table.{entryCount, modeAt, lowerAt, upperAt, badEntry, badTable, unlistedVoltage, tableTest, voltagesTest}
 use Rattle.otp.specs.Search.{anyOf, lastOf}
-use Rattle.otp.specs.Waveform.{modeByte, covers, foundEntry}
+use Rattle.otp.specs.Waveform.{covers, foundEntry}
 use Rattle.reference.specs.Reference.{celsius, referenceTable, settingFor, settingAbove}
 
 -- 12 and 6 refuse nothing
@@ -31,7 +32,7 @@ table-fine : badTable referenceTable ≡ false
 unfolding badTable anyOf badEntry referenceTable tab registerOf
 table-fine = refl
 
-three : entriesOf referenceTable ≡ 3
+three : entryCount referenceTable ≡ 3
 unfolding referenceTable tab registerOf
 three = refl
 
@@ -55,7 +56,7 @@ third = record { mode-is = refl; lower-is = refl; upper-is = refl }
 
 module _ (mode : DisplayMode) (register : ℕ) where
   abbrev holds : ℕ → ℤ → ℤ → Bool
-  holds m lower upper = eqb m (modeByte mode) && ltZ lower (sixteenthsOf register) && leZ (sixteenthsOf register) upper
+  holds m lower upper = eqb m (modeNumber mode) && ltZ lower (sixteenthsOf register) && leZ (sixteenthsOf register) upper
 
   covered : {entry m : ℕ} {lower upper : ℤ} → Says entry m lower upper → covers referenceTable mode register entry ≡ holds m lower upper
   unfolding covers
@@ -89,5 +90,4 @@ found Two register = taken Two register ∙ by-two (sixteenthsOf register) (let 
 
 -- so one is found at every register but 800h
 pub found-above : (mode : DisplayMode) (register : ℕ) → (register % 4096 ≡ 0x800 → ⊥) → foundEntry referenceTable mode register ≡ settingAbove mode (sixteenthsOf register)
-found-above One register h = found One register ∙ rw (is-lt (negsuc 2047) (sixteenthsOf register) (above-coldest register h))
-found-above Two register h = found Two register ∙ rw (is-lt (negsuc 2047) (sixteenthsOf register) (above-coldest register h))
+found-above mode register h = found mode register ∙ rw (is-lt (negsuc 2047) (sixteenthsOf register) (above-coldest register h))

@@ -9,10 +9,10 @@ use Rattle.numbers.specs.Choice.{pick}
 use Rattle.numbers.specs.Lists.{tab}
 use Rattle.config.specs.declared.DisplayMode.{DisplayMode}
 use Rattle.config.specs.declared.DisplayMode.the-variants.{One, Two}
+use Rattle.config.specs.Mode.{modeNumber}
 use Rattle.config.specs.Temperature.{coldest, warmest, registerOf}
 use Rattle.otp.specs.declared.Entry.{Entry}
 use Rattle.otp.specs.declared.Entry.the-variants.{At, Nothing}
-use Rattle.otp.specs.Waveform.{modeByte}
 
 -- a line of the table: the mode, the range, for each group the frames of phase A and those of phase B at VSS, and phase A's codes of LUT0 to LUT3
 pub record Setting : Type 0 where
@@ -106,7 +106,7 @@ settingByte s i =
 -- the mode, 0 for an approximation, and the bounds' registers, high byte first
 abbrev pub header : Setting → List ℕ
 header s =
-    modeByte (s .mode) ∷ 0 ∷ registerOf (s .lower) / 256 ∷ registerOf (s .lower) % 256 ∷ registerOf (s .upper) / 256 ∷ registerOf (s .upper) % 256 ∷ []
+    modeNumber (s .mode) ∷ 0 ∷ registerOf (s .lower) / 256 ∷ registerOf (s .lower) % 256 ∷ registerOf (s .upper) / 256 ∷ registerOf (s .upper) % 256 ∷ []
 
 -- an entry: SCOPE, OTP table
 abbrev pub entryOf : Setting → List ℕ
@@ -116,12 +116,11 @@ entryOf s = header s ++ tab 112 (settingByte s)
 unfoldable pub referenceTable : List ℕ
 referenceTable = entryOf full ++ entryOf warm ++ entryOf differential
 
--- the table's ranges: above −128 °C, mode 1 has setting 0 up to 50 °C and setting 1 above, and mode 2 has setting 2
-abbrev pub settingFor : DisplayMode → ℤ → Entry
-settingFor One t = pick (ltZ (coldest .0) t) (pick (leZ t (celsius 50)) (At 0) (At 1)) Nothing
-settingFor Two t = pick (ltZ (coldest .0) t) (At 2) Nothing
-
--- the setting of a temperature above −128 °C
+-- the setting of a temperature above −128 °C: mode 1 has setting 0 up to 50 °C and setting 1 above, and mode 2 has setting 2
 abbrev pub settingAbove : DisplayMode → ℤ → Entry
 settingAbove One t = pick (leZ t (celsius 50)) (At 0) (At 1)
 settingAbove Two t = At 2
+
+-- the table's ranges: no setting at −128 °C
+abbrev pub settingFor : DisplayMode → ℤ → Entry
+settingFor mode t = pick (ltZ (coldest .0) t) (settingAbove mode t) Nothing

@@ -12,16 +12,16 @@ use Rattle.device.specs.declared.Registers.{Registers}
 use Rattle.device.specs.declared.Status.{Status}
 
 -- what a read command gives: how many bytes, and which
-pub record Answer : Type 0 where
+pub record ReadBytes : Type 0 where
   pub count : ℕ
   pub bytes : List ℕ
 
 -- that many bytes, these
-abbrev pub answer : ℕ → List ℕ → Answer
+abbrev pub answer : ℕ → List ℕ → ReadBytes
 answer count bytes = record { count = count; bytes = bytes }
 
 -- byte `index` of an answer; past its end there is none
-abbrev pub byteOf : Answer → ℕ → Byte
+abbrev pub byteOf : ReadBytes → ℕ → Byte
 byteOf a index = pick (ltb index (a .count)) (Is (getD (a .bytes) index 0)) Nothing
 
 -- 0x1B: A[11:4] of the temperature, then A[3:0] in the high nibble; bits above the twelve are dropped
@@ -37,7 +37,7 @@ abbrev pub statusByte : Status → Bool → ℕ
 statusByte s busy = pick (s .«hv_not_ready») 32 0 + pick (s .«vci_low») 16 0 + pick busy 4 0 + 1
 
 -- the read commands of the registers; 0x2E gives the ten bytes of 0x38
-abbrev pub readRows : Registers → Status → Bool → List (Row Answer)
+abbrev pub readRows : Registers → Status → Bool → List (Row ReadBytes)
 readRows r s busy =
     record { number = 0x1B; gives = answer 2 (temperatureBytes r) } ∷
     record { number = 0x2D; gives = answer 11 (optionBytes r) } ∷

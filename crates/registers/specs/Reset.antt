@@ -3,6 +3,7 @@ use mathlib.Core.Bool.{false}
 use mathlib.Core.List.{List}
 use Prim.Native.Nat.{ℕ}
 use lib.ListN.{set, replicate}
+use Rattle.config.specs.Defaults.{defaultGateScan}
 use Rattle.counter.specs.Counter.{resetWindow, resetEntry}
 use Rattle.device.specs.declared.Registers.{Registers}
 
@@ -15,7 +16,7 @@ unfoldable pub resetOf : List ℕ → Registers
 resetOf user =
     record {
       mux = 0x2A7;
-      «gate_scan» = record { sm = false; gd = false };
+      «gate_scan» = defaultGateScan;
       lut = resetLut;
       entry = resetEntry;
       window = resetWindow;

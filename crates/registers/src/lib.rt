@@ -17,10 +17,7 @@ pub fn reset(user_id: [u8; 10]) -> Registers
     lut[106] = 0x41;
     lut[107] = 0xA8;
     lut[108] = 0x32;
-    let gate_scan = GateScan {
-        sm: false,
-        gd: false,
-    };
+    let gate_scan = GateScan::default();
     let entry = Entry::reset();
     let window = Window::reset();
     let counter = Counter { x: 0, y: 0 };

@@ -3,13 +3,13 @@ use crate::fields;
 use crate::run::Progress;
 use crate::run::Run;
 use crate::say;
-use config::ConfigError;
 use power_on::StartError;
+use power_on::StartRefusal;
 
-fn refused(progress: Progress, text: &mut [u8; text::ROOM], number: u64, value: usize) -> Progress {
+fn refused(progress: Progress, text: &mut [u8; text::ROOM], refusal: StartRefusal) -> Progress {
     let number_at = text::word(text, progress.at, b"start refused");
-    let value_at = say::field(text, number_at, number);
-    let end_at = say::field(text, value_at, value as u64);
+    let value_at = say::field(text, number_at, refusal.number as u64);
+    let end_at = say::field(text, value_at, refusal.value as u64);
     say::said(progress, say::end(text, end_at))
 }
 
@@ -19,27 +19,15 @@ fn ok(progress: Progress, text: &mut [u8; text::ROOM]) -> Progress {
     next
 }
 
-fn answered(progress: Progress, text: &mut [u8; text::ROOM], error: ConfigError) -> Progress {
-    match error {
-        ConfigError::Accepted => ok(progress, text),
-        ConfigError::EmptyPanel => refused(progress, text, 1, 0),
-        ConfigError::PanelOutsideRam => refused(progress, text, 2, 0),
-        ConfigError::OddRowsWithGd => refused(progress, text, 3, 0),
-        ConfigError::ZeroSwing => refused(progress, text, 4, 0),
-        ConfigError::ZeroFramePeriod(code) => refused(progress, text, 5, code),
-        ConfigError::BadTable => refused(progress, text, 12, 0),
-        ConfigError::OtpVoltage(entry) => refused(progress, text, 6, entry),
-    }
-}
-
 // Where a start is refused, nothing is started.
 fn begun(progress: Progress, text: &mut [u8; text::ROOM], error: StartError) -> Progress {
     let mut next = progress;
     next.started = false;
-    match error {
-        StartError::Parameters(error) => answered(next, text, error),
-        StartError::Buffer => refused(next, text, 11, 0),
+    let refusal = power_on::number_of(error);
+    if refusal.number == 0 {
+        return ok(next, text);
     }
+    refused(next, text, refusal)
 }
 
 pub fn start(

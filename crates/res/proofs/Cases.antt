@@ -4,14 +4,15 @@ use mathlib.Core.Path.{_≡_, refl, sym, ap, subst, _∙_}
 use mathlib.Core.Bool.{Bool, true, false}
 use mathlib.Core.List.{List}
 use lib.ListN.{length}
-use Rattle.clock.specs.Advance.{Ready, WithGlass, withGlass, advanced}
-use Rattle.reset.specs.Reset.{WithGlassLog, withGlassLog, byLine}
+use Rattle.world.specs.World.{WithGlass, withGlass, WithGlassLog, withGlassLog}
+use Rattle.clock.specs.Advance.{Ready, advanced}
+use Rattle.reset.specs.Reset.{byLine}
 use Rattle.activation.proofs.Kept.{ready-advanced}
 use Rattle.guard_lengths.specs.declared.Lengths.{Lengths}
 use Rattle.guard_lengths.specs.declared.Lent.the-variants.{Nothing, Of}
 use Rattle.guard.specs.declared.Refusal.{Refusal}
 use Rattle.guard_lengths.specs.Lengths.{glassLogLent}
-use Rattle.guard.specs.Refusals.{numberOf, accepts, guarded}
+use Rattle.guard.specs.Refusals.{refusalNumber, accepts, guarded}
 use Rattle.query.specs.Outcome.{outcome}
 use Rattle.query.proofs.Cases.{grants, refuses}
 use Rattle.entry_laws.proofs.Passed.{ready-fine, log-fine, state-passed, lengths-passed}
@@ -41,10 +42,10 @@ module _ (luts : List ℕ) (time : ℕ) (low : Bool) (w : WithGlassLog) (l : Len
 
   pub line-moves : (a : WithGlass) (v : WithGlassLog) → b ≡ true → a ≡ advanced luts time (withGlass (w .device) (w .states) (w .pixels))
       → v ≡ byLine luts low (withGlassLog (a .device) (a .states) (a .pixels) (w .log)) (a .device .bus .power)
-      → outcome (numberOf r) v ≡ lineMoved luts time low w
+      → outcome (refusalNumber r) v ≡ lineMoved luts time low w
   unfolding lineMoved lineTaken
   line-moves a v h e f = grants r _ same-lent w (lineTaken luts time low w) b v t h (rw (f, e))
 
-  pub line-refused : b ≡ false → outcome (numberOf r) w ≡ lineMoved luts time low w
+  pub line-refused : b ≡ false → outcome (refusalNumber r) w ≡ lineMoved luts time low w
   unfolding lineMoved
   line-refused h = refuses r _ same-lent w (lineTaken luts time low w) b t h

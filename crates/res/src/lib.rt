@@ -1,8 +1,8 @@
 // The reset line (mod.rs, `set_reset`).
 ghost use mathlib.Core.Path.{_≡_};
-ghost use Rattle.guard.specs.Refusals.{numberOf};
+ghost use Rattle.guard.specs.Refusals.{refusalNumber};
 ghost use Rattle.query.specs.Outcome.{outcome};
-ghost use Rattle.reset.specs.Reset.{withGlassLog};
+ghost use Rattle.world.specs.World.{withGlassLog};
 ghost use Rattle.res.specs.Line.{lineMoved};
 use device::Ssd1677;
 use query::Answer;
@@ -18,7 +18,7 @@ pub fn set_reset(
     time: u64,
     asserted: bool,
 ) -> Answer
-    ensures { λ r. ⌜ outcome (numberOf (r .refusal)) (withGlassLog (r .state) (now (states .exit)) (now (pixels .exit)) (now (log .exit))) ≡ lineMoved (now (luts .entry)) time asserted (withGlassLog state (now (states .entry)) (now (pixels .entry)) (now (log .entry))) ⌝ }
+    ensures { λ r. ⌜ outcome (refusalNumber (r .refusal)) (withGlassLog (r .state) (now (states .exit)) (now (pixels .exit)) (now (log .exit))) ≡ lineMoved (now (luts .entry)) time asserted (withGlassLog state (now (states .entry)) (now (pixels .entry)) (now (log .entry))) ⌝ }
 {
     let lengths = guard_lengths::glass_log_lent(states.len(), luts.len(), pixels.len(), log.len());
     let refusal = guard::check(state, lengths);

@@ -21,12 +21,13 @@ use Rattle.device.specs.declared.Power.the-variants.{Running, Asleep, InReset}
 use Rattle.device.specs.declared.Current.the-variants.{Idle}
 use Rattle.device.specs.Parts.{withBus, withDisplay, withJournal, withPowers}
 use Rattle.device.specs.Parts as part
+use Rattle.world.specs.World.{WithLog, withLog, WithGlass, withGlass, WithGlassLog, withGlassLog}
 use Rattle.registers.specs.Reset.{resetOf}
 use Rattle.moment.specs.Moments.{nsBetween, busyFor}
-use Rattle.clock.specs.Advance.{WithGlass, withGlass, stopped, endingOf, glassOf}
-use Rattle.chip.specs.Close.{WithLog, withLog, closed}
+use Rattle.clock.specs.Advance.{stopped, endingOf, glassOf}
+use Rattle.chip.specs.Close.{closed}
 use Rattle.chip.specs.Report.{logged}
-use Rattle.reset.specs.Reset.{restored, WithGlassLog, withGlassLog, isDriving, cutShort, cut, inReset, asserted, released, byLine}
+use Rattle.reset.specs.Reset.{restored, isDriving, displayCut, cut, inReset, asserted, released, byLine}
 
 pub restores : (d r : Ssd1677) (g : Registers) → g ≡ resetOf (d .config .«user_id»)
     → r ≡ withPowers d g false false (record { «hv_not_ready» = false; «vci_low» = false }) → r ≡ restored d
@@ -36,14 +37,14 @@ restores d r g e f = rw (f, e)
 pub shortens : (luts : List ℕ) (g : WithGlass) (into : ℕ) (after : Glass) (off : Display) (r : Ssd1677)
     → into ≡ nsBetween (g .device .display .started) (g .device .now)
     → after ≡ finished (endingOf (g .device) (g .device .now) (Cut into)) luts (glassOf g)
-    → off ≡ stopped (g .device .display) → r ≡ part.withGlass (g .device) (after .panel) off
-    → withGlass r (after .states) (after .pixels) ≡ cutShort luts g
-unfolding cutShort
+    → off ≡ stopped (g .device .display) → r ≡ part.withPanelAndDisplay (g .device) (after .panel) off
+    → withGlass r (after .states) (after .pixels) ≡ displayCut luts g
+unfolding displayCut
 shortens luts g into after off r e₁ e₂ e₃ e₄ = rw (← e₁, ← e₂, e₄, e₃)
 
 module _ (luts : List ℕ) (w : WithGlassLog) where
   pub cuts : (k : WithLog) (g : WithGlass) → isDriving (w .device) ≡ true → k ≡ logged ResetDuringDisplay (withLog (w .device) (w .log))
-      → g ≡ cutShort luts (withGlass (k .device) (w .states) (w .pixels)) → withGlassLog (g .device) (g .states) (g .pixels) (k .log) ≡ cut luts w
+      → g ≡ displayCut luts (withGlass (k .device) (w .states) (w .pixels)) → withGlassLog (g .device) (g .states) (g .pixels) (k .log) ≡ cut luts w
   unfolding cut
   cuts k g h e₁ e₂ = rw (h, e₂, e₁)
 

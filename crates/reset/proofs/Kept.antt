@@ -13,10 +13,11 @@ use Rattle.panel_laws.proofs.Exactly.{states-length, pixels-length}
 use Rattle.device.specs.declared.Ssd1677.{Ssd1677}
 use Rattle.device.specs.declared.Power.{Power}
 use Rattle.device.specs.declared.Power.the-variants.{Running, Asleep, InReset}
-use Rattle.clock.specs.Advance.{Ready, WithGlass, withGlass}
-use Rattle.chip.specs.Close.{WithLog, withLog, closed}
+use Rattle.world.specs.World.{WithLog, withLog, WithGlass, withGlass, WithGlassLog, on, deviceInGlassLog, logInGlassLog, glassInGlassLog}
+use Rattle.clock.specs.Advance.{Ready}
+use Rattle.chip.specs.Close.{closed}
 use Rattle.chip.specs.Report.{logged}
-use Rattle.reset.specs.Reset.{restored, WithGlassLog, onDevice, onLog, onGlass, isDriving, cutShort, dropped, cut, inReset, asserted, released, byLine}
+use Rattle.reset.specs.Reset.{restored, isDriving, displayCut, displayDropped, cut, inReset, asserted, released, byLine}
 
 module _ (states : List ℤ) (luts pixels : List ℕ) where
   -- a report changes the journal alone
@@ -40,8 +41,8 @@ ReadyWith luts w = Ready (w .device) (w .states) luts (w .pixels)
 
 module _ (luts : List ℕ) where
   pub ready-shortened : (g : WithGlass) → Ready (g .device) (g .states) luts (g .pixels)
-      → Ready (cutShort luts g .device) (cutShort luts g .states) luts (cutShort luts g .pixels)
-  unfolding cutShort finished published
+      → Ready (displayCut luts g .device) (displayCut luts g .states) luts (displayCut luts g .pixels)
+  unfolding displayCut finished published
   ready-shortened g h =
       record {
         luts-long = h .luts-long ∙ sym (states-length _ luts (g .states));
@@ -57,13 +58,13 @@ module _ (luts : List ℕ) where
       k : WithLog
       k = logged ResetDuringDisplay (withLog (w .device) (w .log))
 
-      by : (b : Bool) → ReadyWith luts (pick b (onGlass (cutShort luts) (onLog (logged ResetDuringDisplay) w)) (onDevice dropped w))
+      by : (b : Bool) → ReadyWith luts (pick b (on glassInGlassLog (displayCut luts) (on logInGlassLog (logged ResetDuringDisplay) w)) (on deviceInGlassLog displayDropped w))
       by true = ready-shortened (withGlass (k .device) (w .states) (w .pixels)) (ready-logged (w .states) luts (w .pixels) ResetDuringDisplay _ k refl h)
       by false = h
 
   pub ready-asserted : (w : WithGlassLog) → ReadyWith luts w → ReadyWith luts (asserted luts w)
   unfolding asserted inReset restored
-  ready-asserted w h = ready-cut (onLog closed w) (ready-closed (w .states) luts (w .pixels) _ (closed (withLog (w .device) (w .log))) refl h)
+  ready-asserted w h = ready-cut (on logInGlassLog closed w) (ready-closed (w .states) luts (w .pixels) _ (closed (withLog (w .device) (w .log))) refl h)
 
   pub ready-line : (low : Bool) (w : WithGlassLog) (p : Power) → ReadyWith luts w → ReadyWith luts (byLine luts low w p)
   unfolding byLine released

@@ -3,7 +3,6 @@ use Prim.Native.Nat.{ℕ}
 use mathlib.Core.Bool.{Bool, true, false, _&&_}
 use mathlib.Core.List.{List}
 use lib.Dec.{leb}
-use lib.IntN.{ℤ}
 use Rattle.numbers.specs.Choice.{pick}
 use Rattle.waveform.specs.declared.Until.the-variants.{Cut}
 use Rattle.diagnostic.specs.declared.DiagnosticKind.the-variants.{ResetDuringDisplay}
@@ -14,64 +13,34 @@ use Rattle.device.specs.declared.Power.the-variants.{Running, Asleep, InReset}
 use Rattle.device.specs.declared.Current.the-variants.{Idle, Ignoring}
 use Rattle.device.specs.declared.Deadline.the-variants.{Never}
 use Rattle.device.specs.Parts.{withBus, withDisplay, withPowers}
+use Rattle.world.specs.World.{WithGlass, WithGlassLog, on, deviceInGlassLog, logInGlassLog, glassInGlassLog}
 use Rattle.registers.specs.Reset.{resetOf}
 use Rattle.moment.specs.Moments.{nsBetween, busyFor}
-use Rattle.clock.specs.Advance.{WithGlass, withGlass, stopped, endingOf, glassOf, published}
-use Rattle.chip.specs.Close.{WithLog, withLog, closed}
+use Rattle.clock.specs.Advance.{stopped, endingOf, glassOf, glassPublished}
+use Rattle.chip.specs.Close.{closed}
 use Rattle.chip.specs.Report.{logged}
 
 -- the registers at their reset values, the supplies off, the status bits cleared (mod.rs, `restore_registers`)
 unfoldable pub restored : Ssd1677 → Ssd1677
 restored d = withPowers d (resetOf (d .config .«user_id»)) false false (record { «hv_not_ready» = false; «vci_low» = false })
 
--- the state with the lent states, pixels and log
-pub record WithGlassLog : Type 0 where
-  pub device : Ssd1677
-  pub states : List ℤ
-  pub pixels : List ℕ
-  pub log : List ℕ
-
--- the four as one
-abbrev pub withGlassLog : Ssd1677 → List ℤ → List ℕ → List ℕ → WithGlassLog
-withGlassLog d s p l = record { device = d; states = s; pixels = p; log = l }
-
--- what concerns the state alone
-abbrev pub onDevice : (Ssd1677 → Ssd1677) → WithGlassLog → WithGlassLog
-onDevice f w = withGlassLog (f (w .device)) (w .states) (w .pixels) (w .log)
-
--- the state and the log put back
-abbrev pub putLog : WithGlassLog → WithLog → WithGlassLog
-putLog w k = withGlassLog (k .device) (w .states) (w .pixels) (k .log)
-
--- what concerns the state and the log
-abbrev pub onLog : (WithLog → WithLog) → WithGlassLog → WithGlassLog
-onLog f w = putLog w (f (withLog (w .device) (w .log)))
-
--- the state, the states and the pixels put back
-abbrev pub putGlass : WithGlassLog → WithGlass → WithGlassLog
-putGlass w g = withGlassLog (g .device) (g .states) (g .pixels) (w .log)
-
--- what concerns the state, the states and the pixels
-abbrev pub onGlass : (WithGlass → WithGlass) → WithGlassLog → WithGlassLog
-onGlass f w = putGlass w (f (withGlass (w .device) (w .states) (w .pixels)))
-
 -- a display runs and its driving has begun
 abbrev pub isDriving : Ssd1677 → Bool
 isDriving d = d .display .running && leb (d .display .started) (d .now)
 
 -- the display is finished up to the cut, which is the clock less the start of driving, and dated the clock
-unfoldable pub cutShort : List ℕ → WithGlass → WithGlass
-cutShort luts g =
+unfoldable pub displayCut : List ℕ → WithGlass → WithGlass
+displayCut luts g =
     let d = g .device in
-    published g (finished (endingOf d (d .now) (Cut (nsBetween (d .display .started) (d .now)))) luts (glassOf g))
+    glassPublished g (finished (endingOf d (d .now) (Cut (nsBetween (d .display .started) (d .now)))) luts (glassOf g))
 
 -- the display is stopped, and the glass stays as it is
-abbrev pub dropped : Ssd1677 → Ssd1677
-dropped d = withDisplay d (stopped (d .display))
+abbrev pub displayDropped : Ssd1677 → Ssd1677
+displayDropped d = withDisplay d (stopped (d .display))
 
 -- a display whose driving has begun is cut, with 39; an earlier one is dropped, no new picture and no 39 (SCOPE, Commands)
 unfoldable pub cut : List ℕ → WithGlassLog → WithGlassLog
-cut luts w = pick (isDriving (w .device)) (onGlass (cutShort luts) (onLog (logged ResetDuringDisplay) w)) (onDevice dropped w)
+cut luts w = pick (isDriving (w .device)) (on glassInGlassLog (displayCut luts) (on logInGlassLog (logged ResetDuringDisplay) w)) (on deviceInGlassLog displayDropped w)
 
 -- RES# is low: no command is current and BUSY has no end
 unfoldable pub inReset : Ssd1677 → Ssd1677
@@ -79,7 +48,7 @@ inReset d = withBus d (record { power = InReset; current = Ignoring; «busy_unti
 
 -- RES# falls: 26 if parameters lack, the display cut or dropped, the registers restored
 unfoldable pub asserted : List ℕ → WithGlassLog → WithGlassLog
-asserted luts w = onDevice inReset (onDevice restored (cut luts (onLog closed w)))
+asserted luts w = on deviceInGlassLog inReset (on deviceInGlassLog restored (cut luts (on logInGlassLog closed w)))
 
 -- RES# rises: the chip runs, no command has come yet, and BUSY is high for the time of a hardware reset
 unfoldable pub released : Ssd1677 → Ssd1677
@@ -91,6 +60,6 @@ unfoldable pub byLine : List ℕ → Bool → WithGlassLog → Power → WithGla
 byLine luts true w InReset = w
 byLine luts true w Running = asserted luts w
 byLine luts true w Asleep = asserted luts w
-byLine luts false w InReset = onDevice released w
+byLine luts false w InReset = on deviceInGlassLog released w
 byLine luts false w Running = w
 byLine luts false w Asleep = w

@@ -1,8 +1,9 @@
 // The reset line, and what a reset restores (mod.rs, `set_reset`, `restore_registers`).
 ghost use mathlib.Core.Path.{_≡_};
 ghost use lib.ListN.{length};
-ghost use Rattle.clock.specs.Advance.{Ready, withGlass};
-ghost use Rattle.reset.specs.Reset.{restored, withGlassLog, cutShort, cut, inReset, asserted, released, byLine};
+ghost use Rattle.world.specs.World.{withGlass, withGlassLog};
+ghost use Rattle.clock.specs.Advance.{Ready};
+ghost use Rattle.reset.specs.Reset.{restored, displayCut, cut, inReset, asserted, released, byLine};
 use device::Bus;
 use device::Current;
 use device::Deadline;
@@ -30,7 +31,7 @@ pub fn restore_registers(state: Ssd1677) -> Ssd1677
 // The display is applied up to now and its image published.
 fn finish_cut(state: Ssd1677, states: &mut [i64], luts: &[u8], pixels: &mut [u8]) -> Ssd1677
     requires { ⌜ Ready state (now states) (now luts) (now pixels) ⌝ }
-    ensures { λ r. ⌜ withGlass r (now (states .exit)) (now (pixels .exit)) ≡ cutShort (now (luts .entry)) (withGlass state (now (states .entry)) (now (pixels .entry))) ⌝ }
+    ensures { λ r. ⌜ withGlass r (now (states .exit)) (now (pixels .exit)) ≡ displayCut (now (luts .entry)) (withGlass state (now (states .entry)) (now (pixels .entry))) ⌝ }
 {
     let display = state.display;
     let config = state.config;

@@ -18,7 +18,8 @@ use Rattle.gates.specs.declared.Row.{Row}
 use Rattle.gates.specs.declared.Row.the-variants.{Is, Nothing}
 use Rattle.scan.specs.declared.Scan.{Scan}
 use Rattle.gates.specs.Gates.{rowOfGate}
-use Rattle.scan.specs.Luts.{undriven, applied, lutOfBits, lutOfPixels, sourceOf, lutInRow, lutOf}
+use Rattle.panel.specs.Pixels.{undriven}
+use Rattle.scan.specs.Luts.{applied, lutOfBits, lutOfPixels, sourceOf, lutInRow, lutOf}
 
 pub bit-there : (plane : List ℕ) (x row : ℕ) → length plane ≡ 81600 → x < 960 → row < 680
     → bitAt plane x row ≡ pixel.Is (bitOf (getD plane (row * 120 + x / 8) 0) (7 - x % 8))

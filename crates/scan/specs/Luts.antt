@@ -9,6 +9,7 @@ use Rattle.config.specs.declared.PanelGeometry.{PanelGeometry}
 use Rattle.ram.specs.Plane.{bitAt}
 use Rattle.ram.specs.declared.Pixel.{Pixel}
 use Rattle.ram.specs.declared.Pixel.the-variants as pixel
+use Rattle.panel.specs.Pixels.{undriven}
 use Rattle.scan.specs.declared.PlaneOption.{PlaneOption}
 use Rattle.scan.specs.declared.PlaneOption.the-variants.{Normal, Zero, Inverse}
 use Rattle.scan.specs.declared.Scan.{Scan}
@@ -25,10 +26,6 @@ unfoldable pub applied : PlaneOption → Bool → Bool
 applied Normal bit = bit
 applied Zero bit = false
 applied Inverse bit = not bit
-
--- a pixel that no gate or source drives (panel.rs, `UNDRIVEN`)
-abbrev pub undriven : ℕ
-undriven = 255
 
 -- the LUT of two bits: twice the red one and the black-white one (panel.rs, `Panel::start`)
 unfoldable pub lutOfBits : Bool → Bool → ℕ

@@ -2,6 +2,7 @@
 // of `gates` by the same name.
 use config::GateScan;
 use config::PanelGeometry;
+use panel::UNDRIVEN;
 ghost use mathlib.Core.Path.{_≡_};
 ghost use Prim.Native.Nat.{_+_, _*_, _≤_, _<_};
 ghost use lib.ListN.{length};
@@ -53,9 +54,6 @@ pub struct Scan {
     pub red: PlaneOption,
     pub black_white: PlaneOption,
 }
-
-// A pixel no gate or source drives in this refresh.
-pub const UNDRIVEN: u8 = 255;
 
 // The LUT of a pixel's bits.
 fn lut_of_bits(red: bool, black_white: bool) -> u8

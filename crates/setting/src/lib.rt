@@ -48,12 +48,6 @@ fn high_nibble(byte: u8) -> u8
     byte >> 4
 }
 
-fn low_nibble(byte: u8) -> u8
-    ensures { λ r. ⌜ r ≡ byte % 16 ⌝ }
-{
-    byte & 0x0F
-}
-
 // The even group in the high nibble: the datasheet only says "5 bytes for frame rate".
 pub fn frame_rate_code(setting: &[u8; 112], group: usize) -> usize
     requires { ⌜ group < 10 ⌝ }
@@ -63,7 +57,7 @@ pub fn frame_rate_code(setting: &[u8; 112], group: usize) -> usize
     if group % 2 == 0 {
         high_nibble(byte) as usize
     } else {
-        low_nibble(byte) as usize
+        numbers::low_nibble(byte) as usize
     }
 }
 
@@ -73,7 +67,7 @@ fn one_more(byte: u8) -> u16
     byte as u16 + 1
 }
 
-pub fn group_codes(setting: &[u8; 112], group: usize) -> GroupCodes
+fn group_codes(setting: &[u8; 112], group: usize) -> GroupCodes
     requires { ⌜ group < 10 ⌝ }
     ensures { λ r. ⌜ r ≡ groupCodesOf (now (setting .entry)) group ⌝ }
 {

@@ -15,11 +15,11 @@ use Rattle.diagnostic.specs.declared.DiagnosticKind.the-variants.{NoWaveform, N
 use Rattle.diagnostic.specs.Log.{Entries, entries, reported}
 use Rattle.stages.specs.declared.Control.{Control}
 use Rattle.stages.specs.declared.Run.{Run}
-use Rattle.stages.specs.Run.{Step, step, through, withEntries, withNs, withLut, withFound, withTemperature, noted, waited}
+use Rattle.stages.specs.Run.{Step, step, through, stepWithEntries, withNs, withLut, withFound, withTemperature, noted, waited}
 use Rattle.stages.specs.Stages.{clockOn, analogOn, byExternal, temperatureLoaded, modeOf, entryFor, settingIn, lutFound, lutLoaded, loaded}
 
 pub notes : (time : ℕ) (kind : DiagnosticKind) (s : Step) (e : Entries) → e ≡ reported (entries (s .run .journal) (s .log)) time kind
-    → withEntries s e ≡ noted time kind s
+    → stepWithEntries s e ≡ noted time kind s
 unfolding noted
 notes time kind s e h = rw h
 

@@ -58,20 +58,20 @@ abbrev pub withLut : List ℕ → Run → Run
 withLut new r = record { clock = r .clock; analog = r .analog; ns = r .ns; «waveform_found» = r .«waveform_found»; temperature = r .temperature; lut = new; journal = r .journal }
 
 -- another journal
-abbrev pub withJournal : Journal → Run → Run
-withJournal new r = record { clock = r .clock; analog = r .analog; ns = r .ns; «waveform_found» = r .«waveform_found»; temperature = r .temperature; lut = r .lut; journal = new }
+abbrev pub runWithJournal : Journal → Run → Run
+runWithJournal new r = record { clock = r .clock; analog = r .analog; ns = r .ns; «waveform_found» = r .«waveform_found»; temperature = r .temperature; lut = r .lut; journal = new }
 
 -- a change of the run that leaves the log
 abbrev pub through : (Run → Run) → Step → Step
 through change s = step (change (s .run)) (s .log)
 
 -- the journal and the log put back
-abbrev pub withEntries : Step → Entries → Step
-withEntries s e = step (withJournal (e .journal) (s .run)) (e .log)
+abbrev pub stepWithEntries : Step → Entries → Step
+stepWithEntries s e = step (runWithJournal (e .journal) (s .run)) (e .log)
 
 -- one diagnostic is reported
 unfoldable pub noted : ℕ → DiagnosticKind → Step → Step
-noted time kind s = withEntries s (reported (entries (s .run .journal) (s .log)) time kind)
+noted time kind s = stepWithEntries s (reported (entries (s .run .journal) (s .log)) time kind)
 
 -- a stage's time is added; sums stop at 2^64 − 1 (SCOPE, Time)
 unfoldable pub waited : ℕ → Run → Run

@@ -10,8 +10,8 @@ use Rattle.diagnostic.specs.declared.Stage.the-variants.{VcomSense}
 use Rattle.device.specs.declared.Ssd1677.{Ssd1677}
 use Rattle.device.specs.declared.Bus.{Bus}
 use Rattle.device.specs.Parts.{withBus}
+use Rattle.world.specs.World.{WithLog, withLog}
 use Rattle.moment.specs.Moments.{busyFor}
-use Rattle.chip.specs.Close.{WithLog, withLog}
 use Rattle.chip.specs.Report.{logged}
 use Rattle.reset.specs.Reset.{restored}
 use Rattle.start.specs.Start.{softReset, isPowered, unpowered, vcomSensed, pointed}

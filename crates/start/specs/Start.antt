@@ -5,11 +5,12 @@ use Rattle.numbers.specs.Choice.{pick}
 use Rattle.counter.specs.Counter.{withinOf}
 use Rattle.diagnostic.specs.declared.Stage.{Stage}
 use Rattle.diagnostic.specs.declared.Stage.the-variants.{VcomSense}
-use Rattle.diagnostic.specs.declared.DiagnosticKind.the-variants.{CounterOutsideWindow, WithoutClock, WithoutAnalog}
+use Rattle.diagnostic.specs.declared.DiagnosticKind.the-variants.{CounterOutsideWindow}
+use Rattle.diagnostic.specs.Power.{ifPowered}
 use Rattle.device.specs.declared.Ssd1677.{Ssd1677}
 use Rattle.device.specs.Parts.{withBus}
+use Rattle.world.specs.World.{WithLog, withLog}
 use Rattle.moment.specs.Moments.{busyFor}
-use Rattle.chip.specs.Close.{WithLog, withLog}
 use Rattle.chip.specs.Report.{logged}
 use Rattle.reset.specs.Reset.{restored}
 
@@ -27,10 +28,7 @@ isPowered d = d .clock && d .analog
 
 -- 33 with the clock off; else 34 with the analog supplies off (mod.rs, `powered`)
 unfoldable pub unpowered : Stage → WithLog → WithLog
-unpowered stage k =
-    pick (k .device .clock)
-    (pick (k .device .analog) k (logged (WithoutAnalog stage) k))
-    (logged (WithoutClock stage) k)
+unpowered stage k = ifPowered (k .device .clock) (k .device .analog) stage k (λ kind. logged kind k)
 
 -- what 0x28 takes: the low four bits of 0x29 and one, in seconds of 1,000,000,000 ns
 abbrev pub sensingTime : Ssd1677 → ℕ

@@ -1,13 +1,13 @@
 // What 0x12, 0x28 and the RAM commands do when their byte arrives (mod.rs, `start_command`, `powered`).
 ghost use mathlib.Core.Path.{_≡_};
-ghost use Prim.Native.Nat.{_%_};
 ghost use lib.ListN.{length};
-ghost use Rattle.chip.specs.Close.{withLog};
+ghost use Rattle.world.specs.World.{withLog};
 ghost use Rattle.start.specs.Start.{softReset, isPowered, unpowered, vcomSensed, pointed};
 use device::Ssd1677;
 use device::part;
 use diagnostic::DiagnosticKind;
 use diagnostic::Stage;
+use numbers::low_nibble;
 
 // A second, in nanoseconds.
 const SECOND: u64 = 1000000000;
@@ -42,12 +42,6 @@ pub fn report_unpowered(state: Ssd1677, log: &mut [u8], stage: Stage) -> Ssd1677
         return chip::report(state, log, DiagnosticKind::WithoutAnalog { stage });
     }
     chip::report(state, log, DiagnosticKind::WithoutClock { stage })
-}
-
-fn low_nibble(byte: u8) -> u8
-    ensures { λ r. ⌜ r ≡ byte % 16 ⌝ }
-{
-    byte & 0x0F
 }
 
 // 0x28: the sensing takes the seconds of 0x29, with the supplies on.

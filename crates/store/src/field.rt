@@ -3,7 +3,7 @@
 ghost use mathlib.Core.Path.{_≡_};
 ghost use Prim.Native.Nat.{_+_, min};
 ghost use Rattle.device.specs.Parts.{withLoaded};
-ghost use Rattle.registers.specs.Store.{put, stored};
+ghost use Rattle.registers.specs.Store.{bytesPut, stored};
 use config::GateScan;
 use device::Registers;
 use ram::Entry;
@@ -39,7 +39,7 @@ pub fn source_voltage(index: u16) -> u16
 
 // A byte of the LUT register: 0x32 (VS, TP, RP, frame rates), 0x03 (VGH), 0x04 (VSH1, VSH2, VSL), 0x2C (DCVCOM).
 pub fn waveform_byte(regs: Registers, at: u16, byte: u8) -> Registers
-    ensures { λ r. ⌜ r ≡ withLoaded regs (regs .temperature) (put 112 (regs .lut) at byte) ⌝ }
+    ensures { λ r. ⌜ r ≡ withLoaded regs (regs .temperature) (bytesPut 112 (regs .lut) at byte) ⌝ }
 {
     let mut next = regs;
     if at < 112 {

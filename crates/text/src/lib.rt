@@ -1,4 +1,6 @@
-// The text of docs/replay-format.md's answers, gathered in a buffer and written when there is enough of it. What does not fit is left out.
+// The text of docs/replay-format.md's answers, gathered in a buffer and written when there is enough of it. What does not fit is left
+// out, and standard error says that it may be.
+use libc::STDERR_FILENO;
 use libc::STDOUT_FILENO;
 ghost use mathlib.Core.Path.{_≡_};
 ghost use Prim.Native.Nat.{_<_};
@@ -87,9 +89,17 @@ fn write_front(text: &[u8], at: usize) -> usize
     0
 }
 
-// Writes what is gathered to standard output, and answers the place to go on at.
+// Only a text that has used up all its room can lack something.
+fn say_if_full(at: usize) {
+    if at == ROOM {
+        io::write_all(STDERR_FILENO, b"no room left for the text: it may be cut\n");
+    }
+}
+
+// Writes what is gathered to standard output, and answers the place to go on at. Where no room was left, standard error says so.
 pub fn flush(text: &[u8; ROOM], at: usize) -> usize
     ensures { λ r. ⌜ r ≡ 0 ⌝ }
 {
+    say_if_full(at);
     write_front(text, at)
 }

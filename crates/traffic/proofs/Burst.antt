@@ -6,45 +6,45 @@ use Prim.Native.Nat.{ℕ, zero, suc, _+_, _-_, _≤_, max}
 use native.Mathlib.Omega.{arith}
 use lib.Dec.{eqb}
 use lib.IntN.{ℤ}
-use lib.ListN.{length, getD, length-set}
+use lib.ListN.{length, getD}
 use borrow.Author.Tests.{eqb-true}
 use Rattle.numbers.specs.Choice.{pick}
 use Rattle.numbers.specs.Rows.{lookup}
 use Rattle.numbers.proofs.Cases.{left, right}
 use Rattle.counter.specs.declared.Counter.{Counter}
 use Rattle.counter.specs.Counter.{advancedOf}
-use Rattle.ram.specs.declared.Place.{Place}
-use Rattle.ram.specs.declared.Place.the-variants.{At, Outside}
-use Rattle.ram.specs.Plane.{indexOf, putAt, planeOf, wroteAt, writtenAt}
+use Rattle.ram.specs.Plane.{planeOf, wroteAt, writtenAt}
 use Rattle.ram_laws.proofs.Tens.{TenBitCounter, TenBitWindow, advanced-ten}
 use Rattle.device.specs.declared.Active.{Active}
 use Rattle.device.specs.declared.Current.{Current}
 use Rattle.device.specs.declared.Current.the-variants as current
 use Rattle.device.specs.declared.Ssd1677.{Ssd1677}
 use Rattle.device.specs.Parts.{withNow, withCurrent, withPointed}
+use Rattle.world.specs.World.{World, world, withRam, WithPlanes, withPlanes, planesInWorld}
+use Rattle.registers.proofs.Bounds.{Bounded}
 use Rattle.clock.specs.Advance.{isQuiet}
-use Rattle.acts.specs.Ram.{withRam}
 use Rattle.data.specs.Most.{isStream}
-use Rattle.data.specs.Data.{counted, planeFor, dataTaken}
+use Rattle.data.specs.Data.{oneByteMore, planeFor, dataTaken}
 use Rattle.data.proofs.Cases.{puts, is-stream}
+use Rattle.data_laws.proofs.Kept.{written-length}
 use Rattle.guard_lengths.specs.declared.Lengths.{Lengths}
 use Rattle.guard_lengths.specs.Lengths.{lengthsFit, planesLogLent}
 use Rattle.guard_kinds.specs.Kinds.{currentFine}
 use Rattle.guard_state.specs.State.{panelFine, swingFine, periodsFine, registersFine, countFine, stateFine}
 use Rattle.guard_laws.proofs.Joined.{each}
-use Rattle.guard_laws.proofs.Accepted.{FineRegisters, fine-registers, accepted-state, accepted-lengths}
+use Rattle.guard_laws.proofs.Accepted.{fine-registers, accepted-state, accepted-lengths}
 use Rattle.guard_laws.proofs.Kept.{registers-pass, state-passes}
 use Rattle.guard.specs.declared.Refusal.{Refusal}
 use Rattle.guard.specs.declared.Refusal.the-variants.{Accepted}
-use Rattle.guard.specs.Refusals.{numberOf, accepts, guarded}
+use Rattle.guard.specs.Refusals.{refusalNumber, accepts, guarded}
 use Rattle.query.specs.Outcome.{Outcome, outcome}
 use Rattle.entry_laws.proofs.Passed.{only-accepted}
 use Rattle.event.specs.declared.Event.{Event}
 use Rattle.event.specs.declared.Event.the-variants.{Data}
 use Rattle.event.specs.Events.{eventOf}
-use Rattle.high.specs.Data.{WithPlanes, withPlanes, dataWritten}
+use Rattle.high.specs.Data.{dataWritten}
 use Rattle.high.proofs.Cases.{data-rests}
-use Rattle.dispatch.specs.Dispatch.{World, world, putPlanes, dispatched}
+use Rattle.dispatch.specs.Dispatch.{tells, dispatched}
 use Rattle.burst.specs.declared.Reached.{Reached}
 use Rattle.burst.specs.Running.{takes, onward, Ran, ran, running}
 use Rattle.burst.proofs.Running.{from-on, not-past}
@@ -73,20 +73,14 @@ module _ (d : Ssd1677) (a : Active) (is : d .bus .current ≡ current.Active a) 
       ∷ currentFine (d .bus .current) ∷ [])
       fine
 
-  registers : FineRegisters (d .regs)
+  registers : Bounded (d .regs)
   registers = fine-registers (d .regs) (passed 3)
 
   abbrev window-ten : TenBitWindow (d .regs .window)
-  window-ten =
-      record {
-        x-start-ten = registers .x-start;
-        x-end-ten = registers .x-end;
-        y-start-ten = registers .y-start;
-        y-end-ten = registers .y-end;
-      }
+  window-ten = registers .window-ten
 
   pub counter-ten : TenBitCounter (d .regs .counter)
-  counter-ten = record { x-ten = registers .x; y-ten = registers .y }
+  counter-ten = registers .counter-ten
 
   still-current : (n : ℕ) → currentFine (current.Active (receivedAs a n)) ≡ true
   unfolding currentFine
@@ -97,29 +91,17 @@ module _ (d : Ssd1677) (a : Active) (is : d .bus .current ≡ current.Active a) 
       state-passes (reachedBy d a s) (passed 0) (passed 1) (passed 2)
       (registers-pass (reachedBy d a s .regs)
       (record {
-        mux = registers .mux;
-        x-start = registers .x-start;
-        x-end = registers .x-end;
-        y-start = registers .y-start;
-        y-end = registers .y-end;
-        x = t .x-ten;
-        y = t .y-ten;
-        entry = registers .entry;
-        temperature = registers .temperature;
+        mux-ten = registers .mux-ten;
+        entry-three = registers .entry-three;
+        window-ten = registers .window-ten;
+        counter-ten = t;
+        temperature-twelve = registers .temperature-twelve;
       }))
       (passed 4) (still-current (s .received))
 
 accepted : (d : Ssd1677) (l : Lengths) → stateFine d ≡ true → lengthsFit (d .config .panel) l ≡ true → guarded d l ≡ Accepted
 unfolding guarded
 accepted d l e f = rw (e, f)
-
-written-length : (p : List ℕ) (c : Counter) (byte : ℕ) → length (writtenAt p c byte) ≡ length p
-unfolding writtenAt
-written-length p c byte = by (indexOf c)
-  where
-    by : (q : Place) → length (putAt p q byte) ≡ length p
-    by (At i) = length-set p i byte
-    by Outside = refl
 
 -- ---- a byte of a burst is a call
 
@@ -130,7 +112,7 @@ data-event kind time value e = rw e
 
 -- the command's own plane, of two: `white` says that it is the black-white one
 module _ (d : Ssd1677) (a : Active) (is : d .bus .current ≡ current.Active a) (fine : stateFine d ≡ true) (streams : isStream (a .kind) ≡ true)
-    (white : Bool) (plane-is : eqb (a .command) 0x24 ≡ white) (other : List ℕ) (states : List ℤ) (luts pixels log : List ℕ) where
+    (white : Bool) (plane-is : eqb (a .command) 0x24 ≡ white) (other : List ℕ) (states : List ℤ) (luts pixels gates log : List ℕ) where
   -- the planes' lengths are such as 11 accepts
   Fit : List ℕ → Type 0
   Fit p =
@@ -142,7 +124,7 @@ module _ (d : Ssd1677) (a : Active) (is : d .bus .current ≡ current.Active a) 
   planes s p = withPlanes (reachedBy d a s) states pixels (pick white p other) (pick white other p) log
 
   abbrev at : Reached → List ℕ → World
-  at s p = world (reachedBy d a s) states luts pixels (pick white p other) (pick white other p) log
+  at s p = world (reachedBy d a s) states luts pixels (pick white p other) (pick white other p) gates log
 
   -- the byte is put, the counter steps and the byte counts
   put-one : (time byte : ℕ) (s : Reached) (p : List ℕ) → wroteAt p (s .counter) ≡ true
@@ -154,7 +136,7 @@ module _ (d : Ssd1677) (a : Active) (is : d .bus .current ≡ current.Active a) 
       (current.Active (receivedAs a (s .received)))
   put-one time byte s p there =
       let w = withRam (withNow (reachedBy d a s) (max (s .latest) time)) (pick white p other) (pick white other p) log in
-      let next = counted (receivedAs a (s .received)) (a .«extra_reported») (a .«range_reported») in
+      let next = oneByteMore (receivedAs a (s .received)) (a .«extra_reported») (a .«range_reported») in
       is-stream byte w _ _ (receivedAs a (s .received)) true refl (sym streams) refl
       (puts byte (receivedAs a (s .received)) w true _ _
       (by-plane white plane-is)
@@ -188,19 +170,19 @@ module _ (d : Ssd1677) (a : Active) (is : d .bus .current ≡ current.Active a) 
   written-one time byte s p ten fit quiet there =
       let l = planesLogLent (length states) (length luts) (length pixels) (length log) (length (pick white p other)) (length (pick white other p)) in
       let ok = accepted (reachedBy d a s) l (fine-reached d a is fine s ten) fit in
-      ap (λ (r : Refusal). outcome (numberOf r) (planes (onward (courseOf d) time s) (writtenAt p (s .counter) byte))) (sym ok)
+      ap (λ (r : Refusal). outcome (refusalNumber r) (planes (onward (courseOf d) time s) (writtenAt p (s .counter) byte))) (sym ok)
       ∙ data-rests luts time byte (planes s p) l (guarded (reachedBy d a s) l) (accepts (guarded (reachedBy d a s) l)) refl refl refl
       (withNow (reachedBy d a s) (max (s .latest) time)) true
       (withRam (reachedBy d a (onward (courseOf d) time s)) (pick white (writtenAt p (s .counter) byte) other) (pick white other (writtenAt p (s .counter) byte)) log)
       (ap accepts ok) refl (sym quiet) refl (put-one time byte s p there)
 
   -- ---- and so is a burst
-  module _ (gates otp kinds times values : List ℕ) where
+  module _ (otp kinds times values : List ℕ) where
     abbrev events : ℕ → Event
     events = eventAt kinds times values
 
     abbrev step : ℕ → World → Outcome World
-    step = made gates otp events
+    step = made otp events
 
     made-step : (i : ℕ) (s : Reached) (p : List ℕ) → TenBitCounter (s .counter) → Fit p
         → takes (courseOf d) (getD kinds i 0) (getD times i 0) s p ≡ true
@@ -212,9 +194,9 @@ module _ (d : Ssd1677) (a : Active) (is : d .bus .current ≡ current.Active a) 
         let quiet = isQuiet (withNow (reachedBy d a s) (max (s .latest) time)) in
         let calm = left (eqb kind 2 && quiet) (wroteAt p (s .counter)) h in
         let e = data-event kind time (getD values i 0) (eqb-true kind 2 (left (eqb kind 2) quiet calm)) in
-        ap (λ (o : Outcome WithPlanes). unread (putPlanes (at s p) o))
+        ap (λ (o : Outcome WithPlanes). unread (tells planesInWorld (at s p) o))
         (written-one time (getD values i 0) s p ten fit (right (eqb kind 2) quiet calm) (right (eqb kind 2 && quiet) (wroteAt p (s .counter)) h))
-        ∙ ap (λ (x : Event). unread (dispatched gates otp (at s p) x)) (sym e)
+        ∙ ap (λ (x : Event). unread (dispatched otp (at s p) x)) (sym e)
 
     fit-written : (p : List ℕ) (c : Counter) (byte : ℕ) → Fit p → Fit (writtenAt p c byte)
     unfolding Fit
@@ -314,7 +296,7 @@ module _ (kinds times values : List ℕ) (count i : ℕ) (within : i ≤ count) 
       goes-alike gates otp luts pixels log states e =
           let m = ends a plane .made in
           let all : i + (count - i) - m ≡ count - m = omega (arith, within) in
-          let step = made gates otp (eventAt kinds times values) in
+          let step = made otp (eventAt kinds times values) in
           let fit =
           ap (λ (l : Lengths). lengthsFit (d .config .panel) l)
           (sym
@@ -322,12 +304,12 @@ module _ (kinds times values : List ℕ) (count i : ℕ) (within : i ≤ count) 
           ∙ ap (λ (p : List ℕ). planesLogLent (length states) (length luts) (length pixels) (length log) (length p) (length red)) first
           ∙ ap (λ (p : List ℕ). planesLogLent (length states) (length luts) (length pixels) (length log) (length (pick white plane other)) (length p)) second))
           ∙ accepted-lengths d lengths passes in
-          ap (λ (k : ℕ). feeding step k m (world (burst .device) states luts pixels (burst .blackWhite) (burst .red) log)) (sym all)
-          ∙ burst-alike d a is fine streams white plane-is other states luts pixels log gates otp kinds times values (count - i) i (startOf d a) plane
+          ap (λ (k : ℕ). feeding step k m (world (burst .device) states luts pixels (burst .blackWhite) (burst .red) gates log)) (sym all)
+          ∙ burst-alike d a is fine streams white plane-is other states luts pixels gates log otp kinds times values (count - i) i (startOf d a) plane
           (counter-ten d a is fine) fit
-          ∙ ap (λ (x : Ssd1677). feeding step (count - i) i (world x states luts pixels (pick white plane other) (pick white other plane) log)) (starts d a is)
-          ∙ ap (λ (p : List ℕ). feeding step (count - i) i (world d states luts pixels p (pick white other plane) log)) (sym first)
-          ∙ ap (λ (p : List ℕ). feeding step (count - i) i (world d states luts pixels blackWhite p log)) (sym second)
+          ∙ ap (λ (x : Ssd1677). feeding step (count - i) i (world x states luts pixels (pick white plane other) (pick white other plane) gates log)) (starts d a is)
+          ∙ ap (λ (p : List ℕ). feeding step (count - i) i (world d states luts pixels p (pick white other plane) gates log)) (sym first)
+          ∙ ap (λ (p : List ℕ). feeding step (count - i) i (world d states luts pixels blackWhite p gates log)) (sym second)
 
       burst-goes : Goes burst
       burst-goes =

@@ -9,10 +9,11 @@ use Rattle.numbers.specs.Choice.{pick}
 use Rattle.query.specs.Outcome.{Outcome, outcome}
 use Rattle.guard.specs.declared.Refusal.{Refusal}
 use Rattle.guard.specs.declared.Refusal.the-variants.{Accepted, Buffer, Table, State}
-use Rattle.guard.specs.Refusals.{numberOf, accepts}
+use Rattle.guard.specs.Refusals.{refusalNumber, accepts}
 use Rattle.ram.specs.declared.Byte.{Byte}
 use Rattle.event.specs.declared.Event.{Event}
-use Rattle.dispatch.specs.Dispatch.{World, told, dispatched}
+use Rattle.world.specs.World.{World}
+use Rattle.dispatch.specs.Dispatch.{told, dispatched}
 use Rattle.traffic.specs.Traffic.{Fed, fed, feeding, ended, unread, made}
 
 pub never : false ≡ true → ⊥
@@ -36,7 +37,7 @@ module _ {A : Type 0} (step : ℕ → A → Outcome A) where
 
   -- an accepted step
   pub fed-more : (count i : ℕ) (f : Fed A) (w : A) {v : A} (refusal : Refusal) → i < count → accepts refusal ≡ true
-      → outcome (numberOf refusal) v ≡ step i w → feeding step (count - i) i w ≡ f → feeding step (count - (i + 1)) (i + 1) v ≡ f
+      → outcome (refusalNumber refusal) v ≡ step i w → feeding step (count - i) i w ≡ f → feeding step (count - (i + 1)) (i + 1) v ≡ f
   fed-more count i f w Accepted h a e g = ap (goesOn (count - (i + 1)) i) e ∙ sym (next count i w h) ∙ g
   fed-more count i f w Buffer h a e g = absurd (never a)
   fed-more count i f w Table h a e g = absurd (never a)
@@ -44,7 +45,7 @@ module _ {A : Type 0} (step : ℕ → A → Outcome A) where
 
   -- a refused step is the last
   pub fed-last : (count i : ℕ) (f : Fed A) (w : A) {v : A} (refusal : Refusal) → i < count → accepts refusal ≡ false
-      → outcome (numberOf refusal) v ≡ step i w → feeding step (count - i) i w ≡ f → fed (numberOf refusal) i v ≡ f
+      → outcome (refusalNumber refusal) v ≡ step i w → feeding step (count - i) i w ≡ f → fed (refusalNumber refusal) i v ≡ f
   fed-last count i f w Accepted h a e g = absurd (never (sym a))
   fed-last count i f w Buffer h a e g = ap (goesOn (count - (i + 1)) i) e ∙ sym (next count i w h) ∙ g
   fed-last count i f w Table h a e g = ap (goesOn (count - (i + 1)) i) e ∙ sym (next count i w h) ∙ g
@@ -57,7 +58,7 @@ module _ {A : Type 0} (step : ℕ → A → Outcome A) where
 
   -- after accepted steps the others are made
   pub ended-on : (count : ℕ) (refusal : Refusal) (i : ℕ) (w : A) → accepts refusal ≡ true
-      → ended step count (fed (numberOf refusal) i w) ≡ feeding step (count - i) i w
+      → ended step count (fed (refusalNumber refusal) i w) ≡ feeding step (count - i) i w
   unfolding ended
   ended-on count Accepted i w a = refl
   ended-on count Buffer i w a = absurd (never a)
@@ -66,7 +67,7 @@ module _ {A : Type 0} (step : ℕ → A → Outcome A) where
 
   -- after a refused one none is
   pub ended-there : (count : ℕ) (refusal : Refusal) (i : ℕ) (w : A) → accepts refusal ≡ false
-      → ended step count (fed (numberOf refusal) i w) ≡ fed (numberOf refusal) i w
+      → ended step count (fed (refusalNumber refusal) i w) ≡ fed (refusalNumber refusal) i w
   unfolding ended
   ended-there count Accepted i w a = absurd (never (sym a))
   ended-there count Buffer i w a = refl
@@ -74,20 +75,20 @@ module _ {A : Type 0} (step : ℕ → A → Outcome A) where
   ended-there count State i w a = refl
 
   -- a step, accepted or refused, with those that are made by then
-  pub step-made : (count i m : ℕ) (w : A) {v : A} (refusal : Refusal) → i < count → m ≡ pick (accepts refusal) (i + 1) i → outcome (numberOf refusal) v ≡ step i w
-      → (accepts refusal ≡ true → m ≡ min count (i + 1)) × (ended step count (fed (numberOf refusal) m v) ≡ feeding step (count - i) i w)
+  pub step-made : (count i m : ℕ) (w : A) {v : A} (refusal : Refusal) → i < count → m ≡ pick (accepts refusal) (i + 1) i → outcome (refusalNumber refusal) v ≡ step i w
+      → (accepts refusal ≡ true → m ≡ min count (i + 1)) × (ended step count (fed (refusalNumber refusal) m v) ≡ feeding step (count - i) i w)
   step-made count i m w {v} refusal h e o = by (accepts refusal) refl
     where
       by : (b : Bool) → accepts refusal ≡ b
-          → (accepts refusal ≡ true → m ≡ min count (i + 1)) × (ended step count (fed (numberOf refusal) m v) ≡ feeding step (count - i) i w)
+          → (accepts refusal ≡ true → m ≡ min count (i + 1)) × (ended step count (fed (refusalNumber refusal) m v) ≡ feeding step (count - i) i w)
       by true a =
           let f : m ≡ i + 1 = e ∙ ap (λ (b : Bool). pick b (i + 1) i) a in
-          (λ t. omega (arith, f, h), ap (λ (k : ℕ). ended step count (fed (numberOf refusal) k v)) f ∙ ended-on count refusal (i + 1) v a ∙ fed-more count i _ w refusal h a o refl)
+          (λ t. omega (arith, f, h), ap (λ (k : ℕ). ended step count (fed (refusalNumber refusal) k v)) f ∙ ended-on count refusal (i + 1) v a ∙ fed-more count i _ w refusal h a o refl)
       by false a =
           let f : m ≡ i = e ∙ ap (λ (b : Bool). pick b (i + 1) i) a in
-          (λ t. absurd (never (sym a ∙ t)), ap (λ (k : ℕ). ended step count (fed (numberOf refusal) k v)) f ∙ ended-there count refusal i v a ∙ fed-last count i _ w refusal h a o refl)
+          (λ t. absurd (never (sym a ∙ t)), ap (λ (k : ℕ). ended step count (fed (refusalNumber refusal) k v)) f ∙ ended-there count refusal i v a ∙ fed-last count i _ w refusal h a o refl)
 
 -- the step of a place, by what its event does
-pub made-one : (gates otp : List ℕ) (events : ℕ → Event) (i : ℕ) (w : World) {v : World} {number : ℕ} {byte : Byte} {event : Event}
-    → outcome number (told v byte) ≡ dispatched gates otp w event → event ≡ events i → outcome number v ≡ made gates otp events i w
-made-one gates otp events i w e f = ap unread e ∙ ap (λ (x : Event). unread (dispatched gates otp w x)) f
+pub made-one : (otp : List ℕ) (events : ℕ → Event) (i : ℕ) (w : World) {v : World} {number : ℕ} {byte : Byte} {event : Event}
+    → outcome number (told v byte) ≡ dispatched otp w event → event ≡ events i → outcome number v ≡ made otp events i w
+made-one otp events i w e f = ap unread e ∙ ap (λ (x : Event). unread (dispatched otp w x)) f

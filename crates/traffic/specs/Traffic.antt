@@ -11,7 +11,8 @@ use Rattle.event.specs.Events.{eventOf}
 use Rattle.guard_lengths.specs.declared.Lengths.{Lengths}
 use Rattle.guard_lengths.specs.Lengths.{planesLogLent}
 use Rattle.query.specs.Outcome.{Outcome, outcome}
-use Rattle.dispatch.specs.Dispatch.{World, world, Told, dispatched}
+use Rattle.world.specs.World.{World, world}
+use Rattle.dispatch.specs.Dispatch.{Told, dispatched}
 use Rattle.burst.specs.Burst.{Bursted}
 
 -- the event at a place of three lists
@@ -47,15 +48,15 @@ abbrev pub unread : Outcome Told → Outcome World
 unread o = outcome (o .number) (o .held .left)
 
 -- the step that makes the event of a place
-abbrev pub made : List ℕ → List ℕ → (ℕ → Event) → ℕ → World → Outcome World
-made gates otp event i w = unread (dispatched gates otp w (event i))
+abbrev pub made : List ℕ → (ℕ → Event) → ℕ → World → Outcome World
+made otp event i w = unread (dispatched otp w (event i))
 
 -- the rest of the events, fed from one place with its state and planes, ends as from another, whatever else is lent with the lengths of a data byte's call
 unfoldable pub EndsAlike : List ℕ → List ℕ → List ℕ → ℕ → Lengths → Bursted → Bursted → Type 0
 EndsAlike kinds times values count lengths one other =
     (gates otp luts pixels log : List ℕ) (states : List ℤ)
     → lengths ≡ planesLogLent (length states) (length luts) (length pixels) (length log) (length (one .blackWhite)) (length (one .red))
-    → feeding (made gates otp (eventAt kinds times values)) (count - other .made) (other .made)
-    (world (other .device) states luts pixels (other .blackWhite) (other .red) log)
-    ≡ feeding (made gates otp (eventAt kinds times values)) (count - one .made) (one .made)
-    (world (one .device) states luts pixels (one .blackWhite) (one .red) log)
+    → feeding (made otp (eventAt kinds times values)) (count - other .made) (other .made)
+    (world (other .device) states luts pixels (other .blackWhite) (other .red) gates log)
+    ≡ feeding (made otp (eventAt kinds times values)) (count - one .made) (one .made)
+    (world (one .device) states luts pixels (one .blackWhite) (one .red) gates log)

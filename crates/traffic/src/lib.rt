@@ -4,8 +4,8 @@ ghost use mathlib.Core.Bool.{true};
 ghost use Prim.Native.Nat.{_+_, _-_, _^_, _≤_, _<_, min};
 ghost use lib.ListN.{length};
 ghost use Rattle.numbers.specs.Choice.{pick};
-ghost use Rattle.guard.specs.Refusals.{numberOf, accepts};
-ghost use Rattle.dispatch.specs.Dispatch.{world};
+ghost use Rattle.guard.specs.Refusals.{refusalNumber, accepts};
+ghost use Rattle.world.specs.World.{world};
 ghost use Rattle.burst.specs.Burst.{bursted};
 ghost use Rattle.traffic.specs.Traffic.{eventAt, shortest, fed, made, feeding, ended, EndsAlike};
 use burst::Burst;
@@ -85,7 +85,7 @@ fn one(
 ) -> Fed
     requires { ⌜ (at ≤ count) × (count ≤ length (now kinds)) × (count ≤ length (now times)) × (count ≤ length (now values)) ⌝ }
     ensures { λ r. ⌜ (accepts (r .refusal) ≡ true → r .made ≡ min count (at + 1)) ⌝ }
-    ensures { λ r. ⌜ ended (made (now (gates .entry)) (now (otp .entry)) (eventAt (now (kinds .entry)) (now (times .entry)) (now (values .entry)))) count (fed (numberOf (r .refusal)) (r .made) (world (r .state) (now (states .exit)) (now (luts .exit)) (now (pixels .exit)) (now («black_white» .exit)) (now (red .exit)) (now (log .exit)))) ≡ feeding (made (now (gates .entry)) (now (otp .entry)) (eventAt (now (kinds .entry)) (now (times .entry)) (now (values .entry)))) (count - at) at (world state (now (states .entry)) (now (luts .entry)) (now (pixels .entry)) (now («black_white» .entry)) (now (red .entry)) (now (log .entry))) ⌝ }
+    ensures { λ r. ⌜ ended (made (now (otp .entry)) (eventAt (now (kinds .entry)) (now (times .entry)) (now (values .entry)))) count (fed (refusalNumber (r .refusal)) (r .made) (world (r .state) (now (states .exit)) (now (luts .exit)) (now (pixels .exit)) (now («black_white» .exit)) (now (red .exit)) (now (gates .entry)) (now (log .exit)))) ≡ feeding (made (now (otp .entry)) (eventAt (now (kinds .entry)) (now (times .entry)) (now (values .entry)))) (count - at) at (world state (now (states .entry)) (now (luts .entry)) (now (pixels .entry)) (now («black_white» .entry)) (now (red .entry)) (now (gates .entry)) (now (log .entry))) ⌝ }
 {
     if count <= at {
         return Fed {
@@ -136,7 +136,7 @@ fn turn(
 ) -> Fed
     requires { ⌜ (from < count) × (count ≤ length (now kinds)) × (count ≤ length (now times)) × (count ≤ length (now values)) ⌝ }
     ensures { λ r. ⌜ (accepts (r .refusal) ≡ true → (from < r .made) × (r .made ≤ count)) ⌝ }
-    ensures { λ r. ⌜ ended (made (now (gates .entry)) (now (otp .entry)) (eventAt (now (kinds .entry)) (now (times .entry)) (now (values .entry)))) count (fed (numberOf (r .refusal)) (r .made) (world (r .state) (now (states .exit)) (now (luts .exit)) (now (pixels .exit)) (now («black_white» .exit)) (now (red .exit)) (now (log .exit)))) ≡ feeding (made (now (gates .entry)) (now (otp .entry)) (eventAt (now (kinds .entry)) (now (times .entry)) (now (values .entry)))) (count - from) from (world state (now (states .entry)) (now (luts .entry)) (now (pixels .entry)) (now («black_white» .entry)) (now (red .entry)) (now (log .entry))) ⌝ }
+    ensures { λ r. ⌜ ended (made (now (otp .entry)) (eventAt (now (kinds .entry)) (now (times .entry)) (now (values .entry)))) count (fed (refusalNumber (r .refusal)) (r .made) (world (r .state) (now (states .exit)) (now (luts .exit)) (now (pixels .exit)) (now («black_white» .exit)) (now (red .exit)) (now (gates .entry)) (now (log .exit)))) ≡ feeding (made (now (otp .entry)) (eventAt (now (kinds .entry)) (now (times .entry)) (now (values .entry)))) (count - from) from (world state (now (states .entry)) (now (luts .entry)) (now (pixels .entry)) (now («black_white» .entry)) (now (red .entry)) (now (gates .entry)) (now (log .entry))) ⌝ }
 {
     let lengths = guard_lengths::planes_log_lent(
         states.len(),
@@ -192,7 +192,7 @@ pub fn feed(
     times: &[u64],
     values: &[u8],
 ) -> Fed
-    ensures { λ r. ⌜ fed (numberOf (r .refusal)) (r .made) (world (r .state) (now (states .exit)) (now (luts .exit)) (now (pixels .exit)) (now («black_white» .exit)) (now (red .exit)) (now (log .exit))) ≡ feeding (made (now (gates .entry)) (now (otp .entry)) (eventAt (now (kinds .entry)) (now (times .entry)) (now (values .entry)))) (shortest (now (kinds .entry)) (now (times .entry)) (now (values .entry))) 0 (world state (now (states .entry)) (now (luts .entry)) (now (pixels .entry)) (now («black_white» .entry)) (now (red .entry)) (now (log .entry))) ⌝ }
+    ensures { λ r. ⌜ fed (refusalNumber (r .refusal)) (r .made) (world (r .state) (now (states .exit)) (now (luts .exit)) (now (pixels .exit)) (now («black_white» .exit)) (now (red .exit)) (now (gates .entry)) (now (log .exit))) ≡ feeding (made (now (otp .entry)) (eventAt (now (kinds .entry)) (now (times .entry)) (now (values .entry)))) (shortest (now (kinds .entry)) (now (times .entry)) (now (values .entry))) 0 (world state (now (states .entry)) (now (luts .entry)) (now (pixels .entry)) (now («black_white» .entry)) (now (red .entry)) (now (gates .entry)) (now (log .entry))) ⌝ }
 {
     let count = shorter(kinds.len(), shorter(times.len(), values.len()));
     let mut next = state;

@@ -1,2 +1,3 @@
 -- The laws of traffic_laws.
 pub mod Events
+pub mod Contracts

@@ -3,8 +3,7 @@ use Prim.Native.Nat.{ℕ, zero, suc, _+_}
 use mathlib.Core.List.{List, [], _∷_}
 use Rattle.event.specs.declared.Event.{Event}
 use Rattle.event.specs.declared.Event.the-variants.{Command, Data, Read, Reset, Advance}
-use Rattle.dispatch.specs.Dispatch as dispatch
-use Rattle.calls.specs.World.{World, Call, advance, set-reset, write-command, write-data, read-data}
+use Rattle.calls.specs.World.{Call, advance, set-reset, write-command, write-data, read-data}
 
 -- the call of an event
 abbrev pub callOf : Event → Call
@@ -18,21 +17,3 @@ callOf (Advance time) = advance time
 abbrev pub callsFrom : (ℕ → Event) → ℕ → ℕ → List Call
 callsFrom event zero i = []
 callsFrom event (suc n) i = callOf (event i) ∷ callsFrom event n (i + 1)
-
--- what events may change of a world: all but the gates
-abbrev pub gateless : World → dispatch.World
-gateless w = dispatch.world (w .device) (w .states) (w .luts) (w .pixels) (w .blackWhite) (w .red) (w .log)
-
--- and the gates with it again
-abbrev pub withGates : List ℕ → dispatch.World → World
-withGates gates w =
-    record {
-      device = w .device;
-      states = w .states;
-      luts = w .luts;
-      pixels = w .pixels;
-      blackWhite = w .blackWhite;
-      red = w .red;
-      gates = gates;
-      log = w .log;
-    }

@@ -1,45 +1,37 @@
 // The parameters and the table that a start is refused for (config.rs, `validate`).
 ghost use mathlib.Core.Path.{_≡_};
+ghost use mathlib.Core.Bool.{not};
 ghost use mathlib.Core.List.{[], _∷_};
 ghost use Prim.Native.Nat.{_<_};
-ghost use Rattle.voltage.specs.Codes.{sourceVoltage, vslVoltage, vcomVoltage};
+ghost use Rattle.voltage.specs.Codes.{isVoltage, sourceVoltage, vslVoltage, vcomVoltage};
 ghost use Rattle.config.specs.Answer.{firstOf, answerOf};
-ghost use Rattle.otp.specs.Table.{entriesOf, unlisted, unlistedVoltage, voltagesTest, startTests};
+ghost use Rattle.otp.specs.Table.{entryCount, unlistedVoltage, voltagesTest, startTests};
 use config::ConfigError;
 use config::Ssd1677Config;
 use otp::ENTRY_BYTES;
-use voltage::Millivolts;
-
-fn is_unlisted(millivolts: Millivolts) -> bool
-    ensures { λ r. ⌜ r ≡ unlisted millivolts ⌝ }
-{
-    match millivolts {
-        Millivolts::Listed(_) => false,
-        Millivolts::Unlisted => true,
-    }
-}
+use voltage::is_voltage;
 
 fn is_unlisted_source(code: u8) -> bool
-    ensures { λ r. ⌜ r ≡ unlisted (sourceVoltage code) ⌝ }
+    ensures { λ r. ⌜ r ≡ not (isVoltage (sourceVoltage code)) ⌝ }
 {
-    is_unlisted(voltage::source_millivolts(code))
+    !is_voltage(voltage::source_millivolts(code))
 }
 
 fn is_unlisted_vsl(code: u8) -> bool
-    ensures { λ r. ⌜ r ≡ unlisted (vslVoltage code) ⌝ }
+    ensures { λ r. ⌜ r ≡ not (isVoltage (vslVoltage code)) ⌝ }
 {
-    is_unlisted(voltage::vsl_millivolts(code))
+    !is_voltage(voltage::vsl_millivolts(code))
 }
 
 fn is_unlisted_vcom(code: u8) -> bool
-    ensures { λ r. ⌜ r ≡ unlisted (vcomVoltage code) ⌝ }
+    ensures { λ r. ⌜ r ≡ not (isVoltage (vcomVoltage code)) ⌝ }
 {
-    is_unlisted(voltage::vcom_millivolts(code))
+    !is_voltage(voltage::vcom_millivolts(code))
 }
 
 // Bytes 106 to 109 of the setting, which begins at byte 6 of the entry.
 fn has_unlisted_voltage(otp: &[u8], entry: usize) -> bool
-    requires { ⌜ entry < entriesOf (now otp) ⌝ }
+    requires { ⌜ entry < entryCount (now otp) ⌝ }
     ensures { λ r. ⌜ r ≡ unlistedVoltage (now (otp .entry)) entry ⌝ }
 {
     let at = ENTRY_BYTES * entry;
@@ -50,7 +42,7 @@ fn has_unlisted_voltage(otp: &[u8], entry: usize) -> bool
     vsh1 | vsh2 | vsl | vcom
 }
 
-pub fn voltages_error(otp: &[u8]) -> ConfigError
+fn voltages_error(otp: &[u8]) -> ConfigError
     ensures { λ r. ⌜ answerOf r ≡ firstOf (voltagesTest (now (otp .entry)) ∷ []) ⌝ }
 {
     let entries = otp.len() / ENTRY_BYTES;

@@ -8,6 +8,11 @@ use Rattle.numbers.specs.Choice.{pick}
 use Rattle.voltage.specs.declared.Millivolts.{Millivolts}
 use Rattle.voltage.specs.declared.Millivolts.the-variants.{Listed, Unlisted}
 
+-- the code stands for a voltage
+abbrev pub isVoltage : Millivolts → Bool
+isVoltage (Listed millivolts) = true
+isVoltage Unlisted = false
+
 -- a line of a list of codes: from the first to the last by `every`; `base` millivolts at the first, `step` more at each next
 pub record Line : Type 0 where
   pub first : ℕ

@@ -2,13 +2,23 @@
 mod sheet;
 
 ghost use mathlib.Core.Path.{_≡_};
-ghost use Rattle.voltage.specs.Codes.{sourceVoltage, vslVoltage, vcomVoltage, gateListed};
+ghost use Rattle.voltage.specs.Codes.{isVoltage, sourceVoltage, vslVoltage, vcomVoltage, gateListed};
 ghost use Rattle.voltage.specs.Sheet.{figure};
 
 // What a code stands for, or that the datasheet does not list it.
 pub enum Millivolts {
     Listed(i64),
     Unlisted,
+}
+
+// Whether a code stands for a voltage.
+pub fn is_voltage(millivolts: Millivolts) -> bool
+    ensures { λ r. ⌜ r ≡ isVoltage millivolts ⌝ }
+{
+    match millivolts {
+        Millivolts::Listed(_) => true,
+        Millivolts::Unlisted => false,
+    }
 }
 
 // The sheet's figure for a code of VSH1 or VSH2.

@@ -4,12 +4,13 @@ use mathlib.Core.Path.{_≡_, ap, _∙_}
 use mathlib.Core.Bool.{Bool, true, false}
 use mathlib.Core.List.{List}
 use lib.ListN.{length}
-use Rattle.clock.specs.Advance.{Ready, WithGlass, advanced}
+use Rattle.world.specs.World.{WithGlass}
+use Rattle.clock.specs.Advance.{Ready, advanced}
 use Rattle.guard_lengths.specs.declared.Lengths.{Lengths}
 use Rattle.guard_lengths.specs.declared.Lent.the-variants.{Nothing}
 use Rattle.guard.specs.declared.Refusal.{Refusal}
 use Rattle.guard_lengths.specs.Lengths.{glassLent}
-use Rattle.guard.specs.Refusals.{numberOf, accepts, guarded}
+use Rattle.guard.specs.Refusals.{refusalNumber, accepts, guarded}
 use Rattle.query.specs.Outcome.{outcome}
 use Rattle.query.proofs.Cases.{grants, refuses}
 use Rattle.entry_laws.proofs.Passed.{ready-fine, state-passed, lengths-passed}
@@ -25,10 +26,10 @@ module _ (luts : List ℕ) (time : ℕ) (g : WithGlass) (l : Lengths) (r : Refus
       ready-fine (g .device) (g .states) luts (g .pixels) Nothing Nothing Nothing Nothing
       (state-passed (g .device) _ r b same t h) (lengths-passed (g .device) _ r b same t h)
 
-  pub clock-moves : (v : WithGlass) → b ≡ true → v ≡ advanced luts time g → outcome (numberOf r) v ≡ clockMoved luts time g
+  pub clock-moves : (v : WithGlass) → b ≡ true → v ≡ advanced luts time g → outcome (refusalNumber r) v ≡ clockMoved luts time g
   unfolding clockMoved
   clock-moves v h e = grants r _ same g (advanced luts time g) b v t h e
 
-  pub clock-refused : b ≡ false → outcome (numberOf r) g ≡ clockMoved luts time g
+  pub clock-refused : b ≡ false → outcome (refusalNumber r) g ≡ clockMoved luts time g
   unfolding clockMoved
   clock-refused h = refuses r _ same g (advanced luts time g) b t h

@@ -2,7 +2,8 @@
 use Prim.Native.Nat.{ℕ}
 use mathlib.Core.List.{List}
 use lib.ListN.{length}
-use Rattle.clock.specs.Advance.{WithGlass, advanced}
+use Rattle.world.specs.World.{WithGlass}
+use Rattle.clock.specs.Advance.{advanced}
 use Rattle.guard_lengths.specs.Lengths.{glassLent}
 use Rattle.guard.specs.Refusals.{guarded}
 use Rattle.query.specs.Outcome.{Outcome, unless}

@@ -1,8 +1,8 @@
 // The clock (mod.rs, `advance`).
 ghost use mathlib.Core.Path.{_≡_};
-ghost use Rattle.guard.specs.Refusals.{numberOf};
+ghost use Rattle.guard.specs.Refusals.{refusalNumber};
 ghost use Rattle.query.specs.Outcome.{outcome};
-ghost use Rattle.clock.specs.Advance.{withGlass};
+ghost use Rattle.world.specs.World.{withGlass};
 ghost use Rattle.wait.specs.Wait.{clockMoved};
 use device::Ssd1677;
 use query::Answer;
@@ -16,7 +16,7 @@ pub fn advance(
     pixels: &mut [u8],
     time: u64,
 ) -> Answer
-    ensures { λ r. ⌜ outcome (numberOf (r .refusal)) (withGlass (r .state) (now (states .exit)) (now (pixels .exit))) ≡ clockMoved (now (luts .entry)) time (withGlass state (now (states .entry)) (now (pixels .entry))) ⌝ }
+    ensures { λ r. ⌜ outcome (refusalNumber (r .refusal)) (withGlass (r .state) (now (states .exit)) (now (pixels .exit))) ≡ clockMoved (now (luts .entry)) time (withGlass state (now (states .entry)) (now (pixels .entry))) ⌝ }
 {
     let lengths = guard_lengths::glass_lent(states.len(), luts.len(), pixels.len());
     let refusal = guard::check(state, lengths);

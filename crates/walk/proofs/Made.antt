@@ -14,11 +14,11 @@ use Rattle.waveform.specs.declared.Group.{Group}
 use Rattle.waveform.specs.declared.Phase.{Phase}
 use Rattle.waveform.specs.declared.Step.{Step}
 use Rattle.waveform.specs.Phases.{phaseOf, driven, joined}
-use Rattle.waveform.specs.Walks.{phaseIn, fourIn, groupIn, stepped, pushed}
+use Rattle.waveform.specs.Walks.{phaseIn, fourIn, groupIn, driveStepped, pushed}
 use Rattle.waveform_laws.proofs.Joined.{driven-none}
 use Rattle.waveform_laws.proofs.Stepped.{drive-some, stepped-some}
 use Rattle.walk.specs.declared.phases.Lasting.{Lasting}
-use Rattle.walk.specs.Ready.{Ready, noFrames}
+use Rattle.walk.specs.Ready.{LastingOf, noFrames}
 
 -- no phases, repeated
 none-joined : (n : ℕ) → joined {A = Phase} n (λ k. []) ≡ []
@@ -55,7 +55,7 @@ idle-walk step d g a h n = ap (foldl step a) (sym (ap (λ (l : List Phase). join
     four = λ i. ((none 0 (left (z 0) (z 1) two) i ++ none 1 (right (z 0) (z 1) two) i) ++ none 2 (right (z 0 && z 1) (z 2) three) i) ++ none 3 (right ((z 0 && z 1) && z 2) (z 3) e) i
 
 -- the drive made for a phase with frames is that of all its frames
-pub ready-step : (d : Driving) (l : Lasting) (t : Transfer) → Ready d l → (l .step .phase .frames ≡ 0 → ⊥) → stepped d (l .step) t ≡ pushed d (l .step .phase) (l .step .phase .frames) t
+pub ready-step : (d : Driving) (l : Lasting) (t : Transfer) → LastingOf d l → (l .step .phase .frames ≡ 0 → ⊥) → driveStepped d (l .step) t ≡ pushed d (l .step .phase) (l .step .phase .frames) t
 unfolding pushed
 ready-step d l t r h =
     stepped-some d (l .step) t h
@@ -64,9 +64,3 @@ ready-step d l t r h =
 -- one walk, then another
 pub then-on : {A : Type 0} (step : A → Phase → A) (w : A) (xs ys : List Phase) {one two : A} → one ≡ foldl step w xs → two ≡ foldl step one ys → two ≡ foldl step w (xs ++ ys)
 then-on {A} step w xs ys p q = q ∙ ap (λ (v : A). foldl step v ys) p ∙ sym (foldl-append step w xs ys)
-
--- four phases of a group
-pub four-made : (d : Driving) (g : Group) {p q r s : Phase} → p ≡ phaseIn d g 0 → q ≡ phaseIn d g 1 → r ≡ phaseIn d g 2 → s ≡ phaseIn d g 3
-    → ((driven p ++ driven q) ++ driven r) ++ driven s ≡ fourIn d g
-unfolding joined
-four-made d g h₀ h₁ h₂ h₃ = λ i. ((driven (h₀ i) ++ driven (h₁ i)) ++ driven (h₂ i)) ++ driven (h₃ i)

@@ -10,7 +10,7 @@ use Rattle.waveform.specs.declared.Driving.{Driving}
 use Rattle.waveform.specs.declared.Phase.{Phase}
 use Rattle.waveform.specs.declared.Progress.{Progress}
 use Rattle.waveform.specs.Exact.{lasts}
-use Rattle.waveform.specs.Walks.{wholeStep, cutStep, endOf}
+use Rattle.waveform.specs.Walks.{wholeStep, cutStep, phaseEnd}
 use Rattle.waveform_laws.specs.Total.{total}
 use Rattle.waveform_laws.proofs.Steps.{step-on}
 
@@ -24,7 +24,7 @@ module _ (d : Driving) (until : ℕ) where
   unfolding total
   within-at [] t from h l = ap (at t) (omega arith)
   within-at (p ∷ ps) t from h l =
-      let e : endOf p from ≡ from + lasts p = omega arith in
+      let e : phaseEnd p from ≡ from + lasts p = omega arith in
       let s : from + lasts p + total ps ≡ from + (lasts p + total ps) = omega arith in
       ap (λ (w : Progress). foldl (cutStep d until) w ps) (step-on d until (at t from) p refl (omega arith) ∙ ap (at (wholeStep d t p)) e)
       ∙ within-at ps (wholeStep d t p) (from + lasts p) (omega arith) (omega arith)

@@ -1,16 +1,13 @@
 -- What the walks make of a group once for all its repeats.
 use mathlib.Core.Path.{_≡_}
 use mathlib.Core.Bool.{Bool, _&&_}
-use mathlib.Core.List.{List, _++_}
 use Prim.Native.Nat.{_*_, _<_, min}
 use lib.Dec.{eqb}
 use lib.ListN.{getD}
 use Rattle.numbers.specs.Saturation.{largest}
 use Rattle.waveform.specs.declared.Driving.{Driving}
 use Rattle.waveform.specs.declared.Group.{Group}
-use Rattle.waveform.specs.declared.Phase.{Phase}
-use Rattle.waveform.specs.Phases.{driven}
-use Rattle.waveform.specs.Walks.{stepOf}
+use Rattle.waveform.specs.Walks.{phaseStep}
 use Rattle.walk.specs.declared.phases.Lasting.{Lasting}
 
 -- none of a group's four phases has frames
@@ -18,11 +15,7 @@ abbrev pub noFrames : Group → Bool
 noFrames g = ((eqb (getD (g .frames) 0 0) 0 && eqb (getD (g .frames) 1 0) 0) && eqb (getD (g .frames) 2 0) 0) && eqb (getD (g .frames) 3 0) 0
 
 -- a phase whose drive and length are its own
-pub record Ready (d : Driving) (l : Lasting) : Type 0 where
+pub record LastingOf (d : Driving) (l : Lasting) : Type 0 where
   pub timed : 0 < l .step .phase .«frame_ns»
-  pub drive-is : l .step ≡ stepOf d (l .step .phase)
+  pub drive-is : l .step ≡ phaseStep d (l .step .phase)
   pub length-is : l .length ≡ min (l .step .phase .frames * l .step .phase .«frame_ns») (largest 64)
-
--- the phases of four, those of 0 frames passed over
-abbrev pub phasesIn : Lasting → Lasting → Lasting → Lasting → List Phase
-phasesIn a b c e = ((driven (a .step .phase) ++ driven (b .step .phase)) ++ driven (c .step .phase)) ++ driven (e .step .phase)

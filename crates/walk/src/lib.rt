@@ -14,15 +14,15 @@ use waveform::Waveform;
 ghost use mathlib.Core.Path.{_≡_};
 ghost use mathlib.Core.List.{foldl};
 ghost use Prim.Native.Nat.{_/_, _<_};
-ghost use Rattle.waveform.specs.Phases.{Timed, driven};
-ghost use Rattle.waveform.specs.Walks.{Drivable, Walkable, groupIn, groupsIn, stepped, wholeStep, cutStep, cutShort, wholeOf, cutOf, transferOf};
-ghost use Rattle.walk.specs.Ready.{Ready, phasesIn};
+ghost use Rattle.waveform.specs.Phases.{Timed, driven, phasesIn};
+ghost use Rattle.waveform.specs.Walks.{Drivable, Walkable, groupIn, groupsIn, driveStepped, wholeStep, cutStep, phaseCut, wholeOf, cutOf, transferOf};
+ghost use Rattle.walk.specs.Ready.{LastingOf};
 
 // ---- the whole display
 
 // A phase to its end; one of 0 frames is passed over.
 fn whole_step(driving: Driving, step: Step, transfer: Transfer) -> Transfer
-    ensures { λ r. ⌜ r ≡ stepped driving step transfer ⌝ }
+    ensures { λ r. ⌜ r ≡ driveStepped driving step transfer ⌝ }
 {
     let phase = step.phase;
     if phase.frames == 0 {
@@ -40,7 +40,7 @@ fn whole_pass(
     fourth: Step,
     transfer: Transfer,
 ) -> Transfer
-    ensures { λ r. ⌜ r ≡ stepped driving fourth (stepped driving third (stepped driving second (stepped driving first transfer))) ⌝ }
+    ensures { λ r. ⌜ r ≡ driveStepped driving fourth (driveStepped driving third (driveStepped driving second (driveStepped driving first transfer))) ⌝ }
 {
     let one = whole_step(driving, first, transfer);
     let two = whole_step(driving, second, one);
@@ -123,7 +123,7 @@ fn frames_within(ns: u64, frame_ns: u64) -> u64
 // A phase that the cut falls into, `left` nanoseconds after its start.
 fn cut_short(driving: Driving, phase: Phase, left: u64, end: u64, transfer: Transfer) -> Progress
     requires { ⌜ 0 < phase .«frame_ns» ⌝ }
-    ensures { λ r. ⌜ r ≡ cutShort driving phase left end transfer ⌝ }
+    ensures { λ r. ⌜ r ≡ phaseCut driving phase left end transfer ⌝ }
 {
     let run = frames_within(left, phase.frame_ns);
     let transfer = phases::push(driving, phase, run, transfer);
@@ -135,7 +135,7 @@ fn cut_short(driving: Driving, phase: Phase, left: u64, end: u64, transfer: Tran
 }
 
 fn cut_phase(driving: Driving, until: u64, lasting: Lasting, progress: Progress) -> Progress
-    requires { ⌜ Ready driving lasting ⌝ }
+    requires { ⌜ LastingOf driving lasting ⌝ }
     ensures { λ r. ⌜ r ≡ foldl (cutStep driving until) progress (driven (lasting .step .phase)) ⌝ }
 {
     if progress.stopped {
@@ -171,8 +171,8 @@ fn cut_pass(
     fourth: Lasting,
     progress: Progress,
 ) -> Progress
-    requires { ⌜ Ready driving first × Ready driving second × Ready driving third × Ready driving fourth ⌝ }
-    ensures { λ r. ⌜ r ≡ foldl (cutStep driving until) progress (phasesIn first second third fourth) ⌝ }
+    requires { ⌜ LastingOf driving first × LastingOf driving second × LastingOf driving third × LastingOf driving fourth ⌝ }
+    ensures { λ r. ⌜ r ≡ foldl (cutStep driving until) progress (phasesIn (first .step .phase) (second .step .phase) (third .step .phase) (fourth .step .phase)) ⌝ }
 {
     if progress.stopped {
         return progress;

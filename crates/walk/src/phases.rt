@@ -8,8 +8,8 @@ use waveform::Step;
 ghost use mathlib.Core.Path.{_≡_};
 ghost use Prim.Native.Nat.{_<_};
 ghost use Rattle.waveform.specs.Phases.{Takes, codeFor};
-ghost use Rattle.waveform.specs.Walks.{Drivable, phaseIn, saturatedDrive, stepOf, pushed};
-ghost use Rattle.walk.specs.Ready.{Ready, noFrames};
+ghost use Rattle.waveform.specs.Walks.{Drivable, phaseIn, saturatedDrive, phaseStep, pushed};
+ghost use Rattle.walk.specs.Ready.{LastingOf, noFrames};
 
 // A phase with its drive and how long it lasts, in 64 bits: both made once for all repeats of its group.
 pub(crate) struct Lasting {
@@ -72,7 +72,7 @@ fn drive_of(positive_drives_black: bool, millivolts: i64, run: u64, frame_ns: u6
 // A phase of a group, with its drive.
 pub(crate) fn step_of(driving: Driving, group: Group, at: usize) -> Step
     requires { ⌜ (at < 4) × Drivable driving ⌝ }
-    ensures { λ r. ⌜ r ≡ stepOf driving (phaseIn driving group at) ⌝ }
+    ensures { λ r. ⌜ r ≡ phaseStep driving (phaseIn driving group at) ⌝ }
 {
     let phase = phase_of(driving, group, at);
     if phase.frames == 0 {
@@ -85,7 +85,7 @@ pub(crate) fn step_of(driving: Driving, group: Group, at: usize) -> Step
 
 pub(crate) fn lasting_of(driving: Driving, group: Group, at: usize) -> Lasting
     requires { ⌜ (at < 4) × (0 < group .«frame_ns») × Drivable driving ⌝ }
-    ensures { λ r. ⌜ (r .step .phase ≡ phaseIn driving group at) × Ready driving r ⌝ }
+    ensures { λ r. ⌜ (r .step .phase ≡ phaseIn driving group at) × LastingOf driving r ⌝ }
 {
     let step = step_of(driving, group, at);
     let phase = step.phase;

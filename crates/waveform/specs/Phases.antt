@@ -36,6 +36,10 @@ phaseOf l d g k =
 unfoldable pub driven : Phase → List Phase
 driven p = pick (eqb (p .frames) 0) [] (p ∷ [])
 
+-- four phases, those of 0 frames passed over
+abbrev pub phasesIn : Phase → Phase → Phase → Phase → List Phase
+phasesIn p q r s = ((driven p ++ driven q) ++ driven r) ++ driven s
+
 -- f 0, f 1, .., f (n − 1), joined
 unfoldable pub joined : {A : Type 0} → ℕ → (ℕ → List A) → List A
 joined zero f = []

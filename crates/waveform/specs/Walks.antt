@@ -62,16 +62,16 @@ unfoldable pub saturatedDrive : Bool → ℤ → ℕ → ℕ → ℤ
 saturatedDrive black millivolts frames period = negatedIf black (satZ (satZ (millivolts *ℤ satZ (pos frames)) *ℤ satZ (pos period)))
 
 -- a phase with the drive of all its frames; where it has none the drive is left at 0
-unfoldable pub stepOf : Driving → Phase → Step
-stepOf d p =
+unfoldable pub phaseStep : Driving → Phase → Step
+phaseStep d p =
     record {
       phase = p;
       drive = pick (eqb (p .frames) 0) (pos 0) (saturatedDrive (d .«positive_drives_black») (p .millivolts) (p .frames) (p .«frame_ns»));
     }
 
 -- a transfer, then such a phase; one of 0 frames is passed over
-unfoldable pub stepped : Driving → Step → Transfer → Transfer
-stepped d s t = pick (eqb (s .phase .frames) 0) t (thenT t (shiftT (s .drive) (d .swing)))
+unfoldable pub driveStepped : Driving → Step → Transfer → Transfer
+driveStepped d s t = pick (eqb (s .phase .frames) 0) t (thenT t (shiftT (s .drive) (d .swing)))
 
 -- a transfer, then `run` frames of a phase
 unfoldable pub pushed : Driving → Phase → ℕ → Transfer → Transfer
@@ -82,16 +82,16 @@ abbrev pub wholeStep : Driving → Transfer → Phase → Transfer
 wholeStep d t p = pushed d p (p .frames) t
 
 -- when a phase that begins at a moment ends, in 64 bits
-abbrev pub endOf : Phase → ℕ → ℕ
-endOf p from = min (from + min (p .frames * p .«frame_ns») (largest 64)) (largest 64)
+abbrev pub phaseEnd : Phase → ℕ → ℕ
+phaseEnd p from = min (from + min (p .frames * p .«frame_ns») (largest 64)) (largest 64)
 
 -- up to a cut: a phase that ends by it
 abbrev pub runOn : Driving → Phase → ℕ → Transfer → Progress
 runOn d p end t = record { transfer = pushed d p (p .frames) t; elapsed = end; stopped = false }
 
 -- a phase that the cut falls into: the frames finished in what is left; then stop
-abbrev pub cutShort : Driving → Phase → ℕ → ℕ → Transfer → Progress
-cutShort d p left end t =
+abbrev pub phaseCut : Driving → Phase → ℕ → ℕ → Transfer → Progress
+phaseCut d p left end t =
     record {
       transfer = pushed d p (left / p .«frame_ns») t;
       elapsed = end;
@@ -102,13 +102,13 @@ cutShort d p left end t =
 unfoldable pub cutStep : Driving → ℕ → Progress → Phase → Progress
 cutStep d until w p =
     pick (w .stopped) w
-    (pick (ltb until (endOf p (w .elapsed)))
-    (cutShort d p (until - w .elapsed) (endOf p (w .elapsed)) (w .transfer))
-    (runOn d p (endOf p (w .elapsed)) (w .transfer)))
+    (pick (ltb until (phaseEnd p (w .elapsed)))
+    (phaseCut d p (until - w .elapsed) (phaseEnd p (w .elapsed)) (w .transfer))
+    (runOn d p (phaseEnd p (w .elapsed)) (w .transfer)))
 
 -- before the first phase
-abbrev pub started : ℤ → Progress
-started swing = record { transfer = identityT swing; elapsed = 0; stopped = false }
+abbrev pub walkStart : ℤ → Progress
+walkStart swing = record { transfer = identityT swing; elapsed = 0; stopped = false }
 
 -- the transfer of the whole display
 abbrev pub wholeOf : Waveform → Drive → ℤ → Bool → Transfer
@@ -116,7 +116,7 @@ wholeOf w drive swing black = foldl (wholeStep (drivingOf w drive swing black)) 
 
 -- that of the display up to a cut
 abbrev pub cutOf : Waveform → Drive → ℤ → Bool → ℕ → Transfer
-cutOf w drive swing black until = foldl (cutStep (drivingOf w drive swing black) until) (started swing) (phasesOf w drive) .transfer
+cutOf w drive swing black until = foldl (cutStep (drivingOf w drive swing black) until) (walkStart swing) (phasesOf w drive) .transfer
 
 -- either
 abbrev pub transferOf : Waveform → Drive → ℤ → Bool → Until → Transfer

@@ -22,7 +22,7 @@ use Rattle.waveform.specs.declared.Waveform.{Waveform}
 use Rattle.waveform.specs.Voltages.{orZero, levelsOf, Listable, AllListable}
 use Rattle.waveform.specs.Setting.{frameRateOf, groupCodesOf, timed, waveformOf}
 use Rattle.waveform.specs.Phases.{noGroup, Takes, Timed}
-use Rattle.waveform.specs.Walks.{Walkable, wholeOf, cutOf, wholeTransfer, cutTransfer}
+use Rattle.waveform.specs.Walks.{Walkable, wholeOf, wholeTransfer}
 use Rattle.waveform_laws.proofs.Range.{no-volts}
 
 -- a line whose millivolts are listable, before lines whose are
@@ -84,7 +84,3 @@ module _ (s p : List ℕ) (drive : Drive) {w : Waveform} (decoded : w ≡ wavefo
   pub decoded-whole : (swing : ℤ) (black : Bool) {t : Transfer} → t ≡ wholeOf w drive swing black → t ≡ wholeTransfer s p drive swing black
   unfolding wholeTransfer
   decoded-whole swing black e = e ∙ ap (λ (v : Waveform). wholeOf v drive swing black) decoded
-
-  pub decoded-cut : (swing : ℤ) (black : Bool) (until : ℕ) {t : Transfer} → t ≡ cutOf w drive swing black until → t ≡ cutTransfer s p drive swing black until
-  unfolding cutTransfer
-  decoded-cut swing black until e = e ∙ ap (λ (v : Waveform). cutOf v drive swing black until) decoded

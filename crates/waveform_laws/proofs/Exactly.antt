@@ -20,7 +20,7 @@ use Rattle.waveform.specs.declared.Driving.{Driving}
 use Rattle.waveform.specs.declared.Phase.{Phase}
 use Rattle.waveform.specs.declared.Progress.{Progress}
 use Rattle.waveform.specs.Setting.{waveformOf}
-use Rattle.waveform.specs.Walks.{saturatedDrive, pushed, wholeStep, cutStep, started, drivingOf, wholeTransfer, cutTransfer}
+use Rattle.waveform.specs.Walks.{saturatedDrive, pushed, wholeStep, cutStep, walkStart, drivingOf, wholeTransfer, cutTransfer}
 use Rattle.waveform.specs.Exact.{framesDrive, lasts, allDrives, cutDrives, settingPhases}
 use Rattle.waveform_laws.proofs.Products.{drive-like}
 use Rattle.waveform_laws.proofs.Steps.{step-on, step-short, stopped-stays}
@@ -103,8 +103,8 @@ module _ (S x : ℕ) (some : 1 ≤ S) (room : S ≤ 9223372036854775807) (in-swi
   pub whole-at : (ps : List Phase) → At S (foldl (wholeStep d) (identityT (pos S)) ps) x (drives S (allDrives black ps) x)
   whole-at ps = whole-on ps (identityT (pos S)) x (moves-start S room x in-swing)
 
-  pub cut-at : (until : ℕ) (ps : List Phase) → until < largest 64 → At S (foldl (cutStep d until) (started (pos S)) ps .transfer) x (drives S (cutDrives black until ps) x)
-  cut-at until ps h = cut-on until until ps (started (pos S)) x h (record { going = refl; at = moves-start S room x in-swing; left = omega arith })
+  pub cut-at : (until : ℕ) (ps : List Phase) → until < largest 64 → At S (foldl (cutStep d until) (walkStart (pos S)) ps .transfer) x (drives S (cutDrives black until ps) x)
+  cut-at until ps h = cut-on until until ps (walkStart (pos S)) x h (record { going = refl; at = moves-start S room x in-swing; left = omega arith })
 
 module _ (S : ℕ) (some : 1 ≤ S) (room : S ≤ 9223372036854775807) (setting periods : List ℕ) (drive : Drive) (black : Bool) where
   abbrev phases : List Phase

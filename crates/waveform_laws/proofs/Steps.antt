@@ -7,7 +7,7 @@ use borrow.Author.Tests.{lt-ltb, le-ltb}
 use Rattle.waveform.specs.declared.Driving.{Driving}
 use Rattle.waveform.specs.declared.Phase.{Phase}
 use Rattle.waveform.specs.declared.Progress.{Progress}
-use Rattle.waveform.specs.Walks.{cutStep, cutShort, runOn, endOf}
+use Rattle.waveform.specs.Walks.{cutStep, phaseCut, runOn, phaseEnd}
 
 module _ (d : Driving) (until : ℕ) (w : Progress) where
   -- a walk that has stopped stays
@@ -16,14 +16,14 @@ module _ (d : Driving) (until : ℕ) (w : Progress) where
   stays p e = simp e
 
   -- a phase that ends by the cut runs to its end
-  pub step-on : (p : Phase) → w .stopped ≡ false → endOf p (w .elapsed) ≤ until → cutStep d until w p ≡ runOn d p (endOf p (w .elapsed)) (w .transfer)
+  pub step-on : (p : Phase) → w .stopped ≡ false → phaseEnd p (w .elapsed) ≤ until → cutStep d until w p ≡ runOn d p (phaseEnd p (w .elapsed)) (w .transfer)
   unfolding cutStep
-  step-on p e h = simp (e, le-ltb until (endOf p (w .elapsed)) h)
+  step-on p e h = simp (e, le-ltb until (phaseEnd p (w .elapsed)) h)
 
   -- another is cut short
-  pub step-short : (p : Phase) → w .stopped ≡ false → until < endOf p (w .elapsed) → cutStep d until w p ≡ cutShort d p (until - w .elapsed) (endOf p (w .elapsed)) (w .transfer)
+  pub step-short : (p : Phase) → w .stopped ≡ false → until < phaseEnd p (w .elapsed) → cutStep d until w p ≡ phaseCut d p (until - w .elapsed) (phaseEnd p (w .elapsed)) (w .transfer)
   unfolding cutStep
-  step-short p e h = simp (e, lt-ltb until (endOf p (w .elapsed)) h)
+  step-short p e h = simp (e, lt-ltb until (phaseEnd p (w .elapsed)) h)
 
 -- nothing after the cut counts
 pub stopped-stays : (d : Driving) (until : ℕ) (w : Progress) (ps : List Phase) → w .stopped ≡ true → foldl (cutStep d until) w ps ≡ w

@@ -1,5 +1,6 @@
 -- `activation::activate` meets its contract.
-use Rattle.activation.specs.Activation.{withLuts, withBuffers, lent}
+use Rattle.world.specs.World.{withBuffers, lent}
+use Rattle.activation.specs.Activation.{withLuts}
 use Rattle.activation.proofs.Cases.{activates}
 use Rattle.activation.proofs.Kept.{ready-after}
 use borrow.Author.Needs.{needs}

@@ -1,6 +1,7 @@
 -- `activation::run_stages` meets its contract.
 use mathlib.Core.Path.{_∙_}
-use Rattle.activation.specs.Activation.{withLuts, lent}
+use Rattle.world.specs.World.{lent}
+use Rattle.activation.specs.Activation.{withLuts}
 use Rattle.activation.proofs.Cases.{stages}
 use borrow.Author.Needs.{needs}
 use Rattle.activation.proofs.run_stages.Statement.{statement}

@@ -1,5 +1,5 @@
 -- `admission::begin` meets its contract.
-use Rattle.activation.specs.Activation.{WithBuffers, withBuffers, Lent, lent}
+use Rattle.world.specs.World.{WithBuffers, withBuffers, Lent, lent}
 use Rattle.begin.proofs.Cases.{in-reset, asleep, busy, free}
 use borrow.Author.Needs.{needs}
 use Rattle.admission.proofs.begin.Statement.{statement}

@@ -1,5 +1,5 @@
 -- `begin::accept` meets its contract.
-use Rattle.activation.specs.Activation.{WithBuffers, withBuffers, Lent, lent}
+use Rattle.world.specs.World.{WithBuffers, withBuffers, Lent, lent}
 use Rattle.begin.proofs.Cases.{still-activatable, accepts}
 use borrow.Author.Needs.{needs}
 use Rattle.begin.proofs.accept.Statement.{statement}

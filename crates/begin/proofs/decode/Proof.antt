@@ -1,5 +1,5 @@
 -- `begin::decode` meets its contract.
-use Rattle.activation.specs.Activation.{WithBuffers, withBuffers, Lent, lent}
+use Rattle.world.specs.World.{WithBuffers, withBuffers, Lent, lent}
 use Rattle.begin.proofs.Cases.{unknown, reserved, unsupported, writes, reads}
 use borrow.Author.Needs.{needs}
 use Rattle.begin.proofs.decode.Statement.{statement}

@@ -1,7 +1,7 @@
 -- `begin::make_current` meets its contract.
 use mathlib.Core.Path.{ap, _∙_}
 use Rattle.device.specs.Parts.{withBus}
-use Rattle.begin.specs.Begin.{made}
+use Rattle.begin.specs.Begin.{commandMade}
 use borrow.Author.Needs.{needs}
 use Rattle.begin.proofs.make_current.Statement.{statement}
 use Rattle.begin.proofs.make_current.Tie as tie
@@ -13,7 +13,7 @@ set-bus-requires : tie.Need-set-bus-requires
 set-bus-requires c κs = search needs
 
 returns : tie.Need-returns
-unfolding made
+unfolding commandMade
 returns c = c .set-bus .ensures ∙ ap (withBus (c .before .before .args .state)) (c .before .set-current .ensures)
 
 pub make-current-spec : {M : Type 1} → statement M

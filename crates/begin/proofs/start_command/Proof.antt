@@ -1,6 +1,6 @@
 -- `begin::start_command` meets its contract.
 use borrow.Author.Tests.{eq-eqb, ne-eqb}
-use Rattle.activation.specs.Activation.{WithBuffers, withBuffers, Lent, lent}
+use Rattle.world.specs.World.{WithBuffers, withBuffers, Lent, lent}
 use Rattle.begin.proofs.Cases.{resets, activates, senses, points, starts-nothing}
 use borrow.Author.Needs.{needs}
 use Rattle.begin.proofs.start_command.Statement.{statement}

@@ -3,7 +3,7 @@ use mathlib.Core.Path.{ap, _∙_}
 use borrow.Author.Needs.{needs}
 use Rattle.config.specs.declared.Ssd1677Config.{Ssd1677Config}
 use Rattle.power_on.specs.Start.{Start, buffers, powered, started}
-use Rattle.dispatch.specs.Dispatch.{world}
+use Rattle.world.specs.World.{world}
 use Rattle.traffic.specs.Traffic.{eventAt, shortest}
 use Rattle.bench_device.specs.Whole.{configOf}
 use Rattle.bench_device.proofs.Events.{ran-on}
@@ -52,7 +52,7 @@ returns c =
     ran-on (a .otp .now) (eventAt (a .kinds .now) (a .times .now) (a .values .now)) (shortest (a .kinds .now) (a .times .now) (a .values .now))
     (started (configOf (a .width) (a .height)) (a .otp .now) lent .left)
     (powered (start .result .state) (buffers (start .last .1 .0) (start .last .1 .1 .0) (start .last .1 .1 .1 .0) (start .last .1 .1 .1 .1 .0) (start .last .1 .1 .1 .1 .1 .0) (start .last .1 .1 .1 .1 .1 .1 .0) (start .last .1 .1 .1 .1 .1 .1 .1 .0)))
-    (world (events .result .state) (events .last .1 .0) (events .last .1 .1 .0) (events .last .1 .1 .1 .0) (events .last .1 .1 .1 .1 .0) (events .last .1 .1 .1 .1 .1 .0) (events .last .1 .1 .1 .1 .1 .1 .1 .0))
+    (world (events .result .state) (events .last .1 .0) (events .last .1 .1 .0) (events .last .1 .1 .1 .0) (events .last .1 .1 .1 .1 .0) (events .last .1 .1 .1 .1 .1 .0) (start .last .1 .1 .1 .1 .1 .1 .0) (events .last .1 .1 .1 .1 .1 .1 .1 .0))
     (ap (λ (s : Start). s .left) (start .ensures ∙ ap (λ (k : Ssd1677Config). started k (a .otp .now) lent) (c .before .before .before .before .before .before .before .before .before .before .before .before .before .before .before .before .before .before .before .before .before .before .before .before .before .before .before .before .before .before .before .before .before .before .before .before .before .before .before .before .before .before .before .config-of .ensures)))
     (events .ensures)
     (c .header-of .ensures)

@@ -1,5 +1,5 @@
 -- `clock::advance` meets its contract.
-use Rattle.clock.specs.Advance.{withGlass}
+use Rattle.world.specs.World.{withGlass}
 use Rattle.clock.proofs.Cases.{rests, advances}
 use Rattle.clock.proofs.Kept.{ready-now}
 use borrow.Author.Needs.{needs}

@@ -1,10 +1,9 @@
 -- `combine::group_combined` meets its contract: a group that runs once is its four phases, and another those, again and again.
 -- Assumes nothing.
 use mathlib.Core.Path.{_≡_, sym, ap, _∙_}
-use mathlib.Core.Bool.{Bool, true, false}
+use mathlib.Core.Bool.{Bool}
 use mathlib.Core.List.{foldl}
 use Prim.Native.Nat.{ℕ}
-use lib.IntN.{ℤ}
 use borrow.Author.Tests.{eqb-true}
 use Rattle.numbers.specs.Choice.{pick}
 use Rattle.numbers.proofs.Lin.{rd, field-back}

@@ -1,8 +1,7 @@
 -- `combine::start` meets its contract. Assumes nothing.
 use mathlib.Core.Path.{ap, _∙_}
-use lib.IntN.{ℤ}
 use Rattle.numbers.proofs.Lin.{back}
-use Rattle.numbers.proofs.Cases.{took, passed}
+use Rattle.numbers.proofs.Cases.{passed}
 use Rattle.glass.specs.Transfers.{identityT}
 use borrow.Author.Needs.{needs}
 use Rattle.combine.proofs.start.Statement.{statement}

@@ -1,6 +1,5 @@
 -- `combine::then_phase` meets its contract. Assumes nothing.
 use mathlib.Core.Path.{ap, _∙_}
-use Rattle.waveform.specs.declared.Phase.{Phase}
 use Rattle.waveform.specs.Walks.{wholeStep}
 use borrow.Author.Needs.{needs}
 use Rattle.combine.proofs.then_phase.Statement.{statement}

@@ -1,6 +1,6 @@
 -- `data::report_unasked` meets its contract.
 use Rattle.data.proofs.Cases.{reports-unasked, sleeps, resets}
-use Rattle.acts.specs.Ram.{WithRam, withRam}
+use Rattle.world.specs.World.{withRam}
 use borrow.Author.Needs.{needs}
 use Rattle.data.proofs.report_unasked.Statement.{statement}
 use Rattle.data.proofs.report_unasked.Tie as tie

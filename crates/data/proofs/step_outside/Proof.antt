@@ -1,6 +1,6 @@
 -- `data::step_outside` meets its contract.
 use Rattle.data.proofs.Cases.{steps-outside}
-use Rattle.acts.specs.Ram.{WithRam, withRam}
+use Rattle.world.specs.World.{withRam}
 use borrow.Author.Needs.{needs}
 use Rattle.data.proofs.step_outside.Statement.{statement}
 use Rattle.data.proofs.step_outside.Tie as tie
@@ -15,7 +15,7 @@ same-length : tie.Need-same-length
 same-length c = search needs
 
 returns : tie.Need-returns
-returns c = λ b d. steps-outside (c .before .before .before .before .before .before .args .active) (withRam (c .before .before .before .before .before .before .args .state) b d (c .before .before .before .before .before .before .args .log .now)) _ _ (c .before .before .before .report-range .ensures b d) (c .step .ensures)
+returns c = λ b d. steps-outside (c .before .before .before .before .before .before .args .active) (withRam (c .before .before .before .before .before .before .args .state) b d (c .before .before .before .before .before .before .args .log .now)) _ _ (c .before .before .before .report-range .ensures) (c .step .ensures)
 
 pub step-outside-spec : {M : Type 1} → statement M
 step-outside-spec = tie.close (tie.spec report-range-requires step-requires same-length returns)

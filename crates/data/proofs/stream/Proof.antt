@@ -2,7 +2,7 @@
 use mathlib.Core.Path.{refl, sym, _∙_}
 use mathlib.Core.List.{List, []}
 use Prim.Native.Nat.{ℕ}
-use Rattle.acts.specs.Ram.{WithRam, withRam}
+use Rattle.world.specs.World.{WithRam, withRam}
 use Rattle.data.proofs.Cases.{puts, stays, is-stream, streams, streams-not, streams-idle, streams-ignoring, streamed-as, leaves}
 use borrow.Author.Needs.{needs}
 use Rattle.data.proofs.stream.Statement.{statement}

@@ -1,6 +1,6 @@
 -- `data::take_surplus` meets its contract.
 use Rattle.data.proofs.Cases.{is-surplus}
-use Rattle.acts.specs.Ram.{WithRam, withRam}
+use Rattle.world.specs.World.{withRam}
 use borrow.Author.Needs.{needs}
 use Rattle.data.proofs.take_surplus.Statement.{statement}
 use Rattle.data.proofs.take_surplus.Tie as tie

@@ -1,6 +1,6 @@
 -- `data::take_unasked` meets its contract.
 use Rattle.data.proofs.Cases.{ignores}
-use Rattle.acts.specs.Ram.{WithRam, withRam}
+use Rattle.world.specs.World.{withRam}
 use borrow.Author.Needs.{needs}
 use Rattle.data.proofs.take_unasked.Statement.{statement}
 use Rattle.data.proofs.take_unasked.Tie as tie

@@ -1,6 +1,6 @@
 -- `data::up_to` meets its contract.
 use Rattle.data.proofs.Cases.{takes, takes-not}
-use Rattle.acts.specs.Ram.{WithRam, withRam}
+use Rattle.world.specs.World.{WithRam, withRam}
 use borrow.Author.Needs.{needs}
 use Rattle.data.proofs.up_to.Statement.{statement}
 use Rattle.data.proofs.up_to.Tie as tie

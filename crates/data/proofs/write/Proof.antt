@@ -1,6 +1,6 @@
 -- `data::write` meets its contract: a byte of RAM data, or else by what is current and by the kind of its command.
 use mathlib.Core.Path.{_∙_, refl}
-use Rattle.acts.specs.Ram.{WithRam, withRam}
+use Rattle.world.specs.World.{withRam}
 use Rattle.data.proofs.Cases.{streams, outside, is-unasked, is-ignored, is-stream, is-other}
 use Rattle.data.proofs.Taken.{taken, not-taken, still-not}
 use borrow.Author.Needs.{needs}

@@ -1,6 +1,6 @@
 -- `deep_sleep::deep_sleep` meets its contract.
 use Rattle.acts.proofs.Cases.{stays-awake, loses, keeps}
-use Rattle.acts.specs.Ram.{WithRam, withRam}
+use Rattle.world.specs.World.{WithRam, withRam}
 use borrow.Author.Needs.{needs}
 use Rattle.deep_sleep.proofs.deep_sleep.Statement.{statement}
 use Rattle.deep_sleep.proofs.deep_sleep.Tie as tie

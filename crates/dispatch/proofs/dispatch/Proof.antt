@@ -1,6 +1,7 @@
 -- `dispatch::dispatch` meets its contract: what the entry point ensures, put back into the whole.
 use mathlib.Core.Path.{sym, ap, _∙_}
-use Rattle.dispatch.specs.Dispatch.{World, world, putBuffers, putPlanes, putLine, putRead, putGlass, dispatched}
+use Rattle.world.specs.World.{World, world, glassInWorld, glassLogInWorld, buffersInWorld, planesInWorld}
+use Rattle.dispatch.specs.Dispatch.{tells, tellsRead, dispatched}
 use borrow.Author.Needs.{needs}
 use Rattle.dispatch.proofs.dispatch.Statement.{statement}
 use Rattle.dispatch.proofs.dispatch.Tie as tie
@@ -67,14 +68,14 @@ same-length-6 c = search needs
 
 abbrev given : tie.Start → World
 given s =
-    world (s .args .state) (s .args .states .now) (s .args .luts .now) (s .args .pixels .now) (s .args .black-white .now) (s .args .red .now) (s .args .log .now)
+    world (s .args .state) (s .args .states .now) (s .args .luts .now) (s .args .pixels .now) (s .args .black-white .now) (s .args .red .now) (s .args .gates .now) (s .args .log .now)
 
 returns : tie.Need-returns
 unfolding dispatched
 returns c =
     let s = c .before .before .before .before .before .before .before .before .before .before .before .before .before .before .before .before .before .before .before .before .before .before .before .before .before in
     rw (c .silent .ensures)
-    (ap (putBuffers (given s)) (c .before .before .before .before .before .before .before .before .write-command .ensures) ∙ ap (dispatched (s .args .gates .now) (s .args .otp .now) (given s)) (sym (c .before .before .before .before .before .before .before .before .before .before .before .before .before .before .before .before .event .given .1)))
+    (ap (tells buffersInWorld (given s)) (c .before .before .before .before .before .before .before .before .write-command .ensures) ∙ ap (dispatched (s .args .otp .now) (given s)) (sym (c .before .before .before .before .before .before .before .before .before .before .before .before .before .before .before .before .event .given .1)))
 
 same-length-7 : tie.Need-same-length-7
 same-length-7 c = search needs
@@ -99,7 +100,7 @@ unfolding dispatched
 returns-2 c =
     let s = c .before .before .before .before .before .before .before .before .before .before .before .before .before .before .before .before .before .before .before .before .before .before .before .before .before .before .before in
     rw (c .silent2 .ensures)
-    (ap (putPlanes (given s)) (c .before .before .before .before .before .before .before .before .before .before .write-data .ensures) ∙ ap (dispatched (s .args .gates .now) (s .args .otp .now) (given s)) (sym (c .before .before .before .before .before .before .before .before .before .before .before .before .before .before .before .before .before .before .event2 .given .1)))
+    (ap (tells planesInWorld (given s)) (c .before .before .before .before .before .before .before .before .before .before .write-data .ensures) ∙ ap (dispatched (s .args .otp .now) (given s)) (sym (c .before .before .before .before .before .before .before .before .before .before .before .before .before .before .before .before .before .before .event2 .given .1)))
 
 same-length-13 : tie.Need-same-length-13
 same-length-13 c = search needs
@@ -123,7 +124,7 @@ returns-3 : tie.Need-returns-3
 unfolding dispatched
 returns-3 c =
     let s = c .before .before .before .before .before .before .before .before .before .before .before .before .before .before .before .before .before .before .before .before .before .before in
-    ap (putRead (given s)) (c .before .before .before .before .before .read-data .ensures) ∙ ap (dispatched (s .args .gates .now) (s .args .otp .now) (given s)) (sym (c .before .before .before .before .before .before .before .before .before .before .before .before .before .event3 .given .1))
+    ap (tellsRead (given s)) (c .before .before .before .before .before .read-data .ensures) ∙ ap (dispatched (s .args .otp .now) (given s)) (sym (c .before .before .before .before .before .before .before .before .before .before .before .before .before .event3 .given .1))
 
 same-length-19 : tie.Need-same-length-19
 same-length-19 c = search needs
@@ -142,7 +143,7 @@ unfolding dispatched
 returns-4 c =
     let s = c .before .before .before .before .before .before .before .before .before .before .before .before .before .before .before .before .before .before .before .before .before in
     rw (c .silent3 .ensures)
-    (ap (putLine (given s)) (c .before .before .before .before .before .before .set-reset .ensures) ∙ ap (dispatched (s .args .gates .now) (s .args .otp .now) (given s)) (sym (c .before .before .before .before .before .before .before .before .before .before .before .before .event4 .given .1)))
+    (ap (tells glassLogInWorld (given s)) (c .before .before .before .before .before .before .set-reset .ensures) ∙ ap (dispatched (s .args .otp .now) (given s)) (sym (c .before .before .before .before .before .before .before .before .before .before .before .before .event4 .given .1)))
 
 same-length-23 : tie.Need-same-length-23
 same-length-23 c = search needs
@@ -158,7 +159,7 @@ unfolding dispatched
 returns-5 c =
     let s = c .before .before .before .before .before .before .before .before .before .before .before .before .before .before .before .before .before .before in
     rw (c .silent4 .ensures)
-    (ap (putGlass (given s)) (c .before .before .before .before .advance .ensures) ∙ ap (dispatched (s .args .gates .now) (s .args .otp .now) (given s)) (sym (c .before .before .before .before .before .before .before .before .before .event5 .given .1)))
+    (ap (tells glassInWorld (given s)) (c .before .before .before .before .advance .ensures) ∙ ap (dispatched (s .args .otp .now) (given s)) (sym (c .before .before .before .before .before .before .before .before .before .event5 .given .1)))
 
 pub dispatch-spec : {M : Type 1} → statement M
 dispatch-spec =

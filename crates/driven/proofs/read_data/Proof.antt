@@ -1,5 +1,5 @@
 -- `driven::read_data` meets its contract.
-use Rattle.reset.specs.Reset.{withGlassLog}
+use Rattle.world.specs.World.{withGlassLog}
 use Rattle.driven.proofs.Cases.{read-ready, read-log, read-moves, read-refused}
 use borrow.Author.Needs.{needs}
 use Rattle.driven.proofs.read_data.Statement.{statement}

@@ -28,7 +28,7 @@ returns c =
     let add = field-back (t .add) (g .0 .1) in
     let lo = field-back (t .lo) (g .1 .0 .1) in
     let highest : rd (sum .saturating-add-i64 .result) ≡ satZ (most +ℤ t .add) = summed {x = most} (sum .saturating-add-i64 .ok) (sum .saturating-add-i64 .ensures) refl add in
-    subst (λ (m : Move). Does t m) (sym (λ i. record { low = lo i; high = lo i; add = pos 0 }))
+    subst (λ (m : Move). Does t m) (sym (λ i. record { lo = lo i; hi = lo i; add = pos 0 }))
     (all-below t (word (record { sfits = g .0 .1 })) (word (record { sfits = g .1 .0 .1 })) (word (record { sfits = g .1 .1 .0 .1 })) (omega whole))
 
 returns-2 : tie.Need-returns-2
@@ -46,7 +46,7 @@ returns-2 c =
     let two = c .before .saturating-sub-i642 in
     let low : rd (one .result) ≡ satZ (t .lo -ℤ t .add) = got (one .ok) (one .ensures ∙ (λ i. satZ (lo i -ℤ add i))) in
     let high : rd (two .result) ≡ satZ (t .hi -ℤ t .add) = got (two .ok) (two .ensures ∙ (λ i. satZ (hi i -ℤ add i))) in
-    subst (λ (m : Move). Does t m) (sym (λ i. record { low = low i; high = high i; add = add i }))
+    subst (λ (m : Move). Does t m) (sym (λ i. record { lo = low i; hi = high i; add = add i }))
     (sums t (word (record { sfits = g .0 .1 })) (word (record { sfits = g .1 .0 .1 })) (word (record { sfits = g .1 .1 .0 .1 })) (omega whole) (s .pre))
 
 pub move-of-spec : {M : Type 1} → statement M

@@ -1,7 +1,6 @@
 -- `high::write_data` meets its contract.
-use Rattle.acts.specs.Ram.{withRam}
+use Rattle.world.specs.World.{withRam, WithPlanes, withPlanes}
 use Rattle.data.proofs.Taken.{taken, not-taken}
-use Rattle.high.specs.Data.{WithPlanes, withPlanes}
 use Rattle.high.proofs.Cases.{data-ready, data-log, data-moves, data-rests, data-refused}
 use borrow.Author.Needs.{needs}
 use Rattle.high.proofs.write_data.Statement.{statement}

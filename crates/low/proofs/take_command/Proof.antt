@@ -1,6 +1,6 @@
 -- `low::take_command` meets its contract.
 use mathlib.Core.Path.{_∙_}
-use Rattle.activation.specs.Activation.{withBuffers, lent}
+use Rattle.world.specs.World.{withBuffers, lent}
 use Rattle.low.proofs.Cases.{still-activatable, takes}
 use borrow.Author.Needs.{needs}
 use Rattle.low.proofs.take_command.Statement.{statement}

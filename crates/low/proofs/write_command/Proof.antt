@@ -1,5 +1,5 @@
 -- `low::write_command` meets its contract.
-use Rattle.activation.specs.Activation.{withBuffers, lent}
+use Rattle.world.specs.World.{withBuffers, lent}
 use Rattle.low.proofs.Cases.{command-activatable, command-moves, command-refused}
 use borrow.Author.Needs.{needs}
 use Rattle.low.proofs.write_command.Statement.{statement}

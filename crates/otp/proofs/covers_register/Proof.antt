@@ -7,8 +7,8 @@ use Rattle.otp.proofs.covers_register.Tie as tie
 mul-at : tie.Need-mul-at
 mul-at c = search needs
 
-mode-byte-requires : tie.Need-mode-byte-requires
-mode-byte-requires c κs = search needs
+mode-number-requires : tie.Need-mode-number-requires
+mode-number-requires c κs = search needs
 
 add-pair : tie.Need-add-pair
 add-pair c = search needs
@@ -43,7 +43,7 @@ returns c =
     let f = e .before in
     let g = f .before in
     let s = g .before .before in
-    covers-is (s .args .otp .now) (s .args .entry) (s .args .mode) (s .args .register) _ _ _ _ _ _ (g .mode-byte .ensures) (f .pair .ensures) (d .pair2 .ensures)
+    covers-is (s .args .otp .now) (s .args .entry) (s .args .mode) (s .args .register) _ _ _ _ _ _ (g .mode-number .ensures) (f .pair .ensures) (d .pair2 .ensures)
     (e .sixteenths-of .ok) (e .sixteenths-of .ensures) (b .sixteenths-of2 .ok) (b .sixteenths-of2 .ensures) (a .sixteenths-of3 .ok) (a .sixteenths-of3 .ensures)
 
 pub covers-register-spec : {M : Type 1} → statement M
@@ -51,7 +51,7 @@ covers-register-spec =
     tie.close
     (tie.spec
     mul-at
-    mode-byte-requires
+    mode-number-requires
     add-pair
     pair-requires
     sixteenths-of-requires

@@ -2,7 +2,7 @@
 use mathlib.Core.Path.{_≡_, sym, ap, _∙_}
 use Prim.Native.Nat.{_+_, _-_, _*_, _<_}
 use native.Mathlib.Omega.{arith}
-use Rattle.otp.specs.Table.{entriesOf}
+use Rattle.otp.specs.Table.{entryCount}
 use Rattle.otp.specs.Waveform.{partOf}
 use Rattle.otp.proofs.Found.{found-is}
 use borrow.Author.Needs.{needs}
@@ -33,7 +33,7 @@ returns c =
     ap (partOf (s .args .otp .now)) (sym (c .before .enum-told .given .1) ∙ c .before .before .before .find-entry .ensures)
 
 -- the entry found is one of the table's
-within : (c : tie.After-known-told) → c .before .entry .given .0 .0 < entriesOf (c .before .before .before .before .before .args .otp .now)
+within : (c : tie.After-known-told) → c .before .entry .given .0 .0 < entryCount (c .before .before .before .before .before .args .otp .now)
 within c =
     let s = c .before .before .before .before .before in
     found-is (s .args .otp .now) (s .args .mode) (s .args .register) _ (sym (c .before .before .before .find-entry .ensures) ∙ c .before .entry .given .1) .within

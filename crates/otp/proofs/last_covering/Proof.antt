@@ -2,7 +2,7 @@
 use mathlib.Core.Path.{_≡_, refl, sym, _∙_}
 use Prim.Native.Nat.{_≤_}
 use native.Mathlib.Omega.{arith}
-use Rattle.otp.specs.Table.{entriesOf}
+use Rattle.otp.specs.Table.{entryCount}
 use Rattle.otp.specs.Search.{lastOf}
 use Rattle.otp.specs.Waveform.{covers}
 use Rattle.otp.proofs.Search.{last-hit, last-pass, last-none}
@@ -11,7 +11,7 @@ use Rattle.otp.proofs.last_covering.Tie as tie
 
 abbrev Inv-loop : tie.InvT-loop
 Inv-loop otp mode register entry₀ entry =
-    (entry ≤ entriesOf otp) × (lastOf (covers otp mode register) (entriesOf otp) ≡ lastOf (covers otp mode register) entry)
+    (entry ≤ entryCount otp) × (lastOf (covers otp mode register) (entryCount otp) ≡ lastOf (covers otp mode register) entry)
 
 abbrev μ-loop : tie.MeasureT-loop
 μ-loop otp mode register entry₀ entry = entry

@@ -1,6 +1,6 @@
 -- `parameter::auto_write` meets its contract.
 use Rattle.parameter.proofs.Cases.{fills-red, fills-black-white}
-use Rattle.acts.specs.Ram.{WithRam, withRam}
+use Rattle.world.specs.World.{WithRam, withRam}
 use borrow.Author.Needs.{needs}
 use Rattle.parameter.proofs.auto_write.Statement.{statement}
 use Rattle.parameter.proofs.auto_write.Tie as tie

@@ -1,6 +1,6 @@
 -- `parameter::parameter` meets its contract: by the command.
 use Rattle.parameter.proofs.Cases.{sleeps, readies, senses, fills-0x46, fills-0x47, takes}
-use Rattle.acts.specs.Ram.{WithRam, withRam}
+use Rattle.world.specs.World.{WithRam, withRam}
 use borrow.Author.Needs.{needs}
 use Rattle.parameter.proofs.parameter.Statement.{statement}
 use Rattle.parameter.proofs.parameter.Tie as tie

@@ -1,5 +1,6 @@
 -- `power_on::new` meets its contract.
-use Rattle.power_on.proofs.Cases.{swings, starts, starts-not}
+use Rattle.power_on.proofs.Accepted.{ready}
+use Rattle.power_on.proofs.Cases.{starts, starts-not}
 use Rattle.power_on.specs.Start.{buffers}
 use mathlib.Core.Path.{sym, _∙_}
 use borrow.Author.Needs.{needs}
@@ -16,7 +17,9 @@ is-accepted-requires : tie.Need-is-accepted-requires
 is-accepted-requires c κs = search needs
 
 power-up-requires : tie.Need-power-up-requires
-power-up-requires c κs = swings (c .before .before .before .before .before .before .before .before .before .before .before .before .before .before .before .before .before .before .args .config) (c .before .before .before .before .before .before .before .before .before .before .before .before .before .before .before .before .before .before .args .otp .now) _ _ (c .before .before .before .before .before .before .before .before .before .check .ensures) (sym (c .before .before .before .before .before .before .before .before .is-accepted .ensures) ∙ c .before .before .before .before .before .before .before .if1 .taken)
+power-up-requires c κs =
+    let s = c .before .before .before .before .before .before .before .before .before .before .before .before .before .before .before .before .before .before .args in
+    ready (s .config) (s .otp .now) (buffers (s .states .now) (s .luts .now) (s .pixels .now) (s .black-white .now) (s .red .now) (s .gates .now) (s .log .now)) _ _ (c .before .before .before .before .before .before .before .before .before .before .all-lent .ensures) (c .before .before .before .before .before .before .before .before .before .check .ensures) (sym (c .before .before .before .before .before .before .before .before .is-accepted .ensures) ∙ c .before .before .before .before .before .before .before .if1 .taken)
 
 same-length : tie.Need-same-length
 same-length c = search needs

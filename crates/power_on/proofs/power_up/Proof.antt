@@ -6,7 +6,7 @@ use Rattle.power_on.proofs.power_up.Statement.{statement}
 use Rattle.power_on.proofs.power_up.Tie as tie
 
 new-requires : tie.Need-new-requires
-new-requires c κs = search needs
+new-requires c κs = c .before .before .before .before .before .before .before .before .before .pre .0
 
 clear-requires : tie.Need-clear-requires
 clear-requires c κs = search needs
@@ -40,8 +40,9 @@ same-length-7 c = search needs
 
 returns : tie.Need-returns
 returns c =
-    let s = c .before .before .before .before .before .before .before .before .before .before .before .before .before .before .before .before .before .before .before .before .before .before .before .before .before .before .before .before .before .before .args in
-    powers-up (s .config) (buffers (s .states .now) (s .luts .now) (s .pixels .now) (s .black-white .now) (s .red .now) (s .gates .now) (s .log .now)) _ _ _ _ (c .before .before .before .before .before .before .before .before .before .before .before .before .before .before .before .before .before .before .before .before .new .ensures) (c .before .before .before .before .before .before .before .before .before .before .before .clear .ensures) (c .before .before .before .gate-of-row .ensures) (c .chip-with .ensures)
+    let start = c .before .before .before .before .before .before .before .before .before .before .before .before .before .before .before .before .before .before .before .before .before .before .before .before .before .before .before .before .before .before in
+    let s = start .args in
+    powers-up (s .config) (buffers (s .states .now) (s .luts .now) (s .pixels .now) (s .black-white .now) (s .red .now) (s .gates .now) (s .log .now)) _ _ _ _ (c .before .before .before .before .before .before .before .before .before .before .before .before .before .before .before .before .before .before .before .before .new .ensures) (c .before .before .before .before .before .before .before .before .before .before .before .clear .ensures) (c .before .before .before .gate-of-row .ensures) (start .pre .1) (start .pre .2) (c .chip-with .ensures)
 
 pub power-up-spec : {M : Type 1} → statement M
 power-up-spec =

@@ -7,7 +7,7 @@ use native.Mathlib.Omega.{arith}
 use Rattle.numbers.specs.Rows.{lookup}
 use Rattle.numbers.proofs.Miss.{miss}
 use Rattle.read_register.proofs.Bytes.{past}
-use Rattle.registers.specs.Read.{Answer, answer, byteOf, readRegister, readRows}
+use Rattle.registers.specs.Read.{ReadBytes, answer, byteOf, readRegister, readRows}
 use Rattle.read_register.proofs.read_register.Statement.{statement}
 use Rattle.read_register.proofs.read_register.Tie as tie
 
@@ -43,7 +43,7 @@ returns-5 : tie.Need-returns-5
 unfolding readRegister
 returns-5 c =
     past 0 [] (c .before .args .index) (omega arith)
-    ∙ ap (λ (a : Answer). byteOf a (c .before .args .index)) (miss (answer 0 []) (c .before .args .command) (readRows (c .before .args .regs) (c .before .args .status) (c .before .args .busy)) Unit (c .match .rest) .1)
+    ∙ ap (λ (a : ReadBytes). byteOf a (c .before .args .index)) (miss (answer 0 []) (c .before .args .command) (readRows (c .before .args .regs) (c .before .args .status) (c .before .args .busy)) Unit (c .match .rest) .1)
 
 pub read-register-spec : {M : Type 1} → statement M
 read-register-spec = tie.close (tie.spec temperature-requires display-option-requires user-id-requires status-byte-requires returns returns-2 returns-3 returns-4 returns-5)

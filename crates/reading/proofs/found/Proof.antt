@@ -1,6 +1,6 @@
 -- `reading::found` meets its contract.
 use Rattle.reading.proofs.Cases.{finds, finds-none}
-use Rattle.chip.specs.Close.{withLog}
+use Rattle.world.specs.World.{withLog}
 use borrow.Author.Needs.{needs}
 use Rattle.reading.proofs.found.Statement.{statement}
 use Rattle.reading.proofs.found.Tie as tie

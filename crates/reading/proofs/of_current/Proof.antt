@@ -1,6 +1,6 @@
 -- `reading::of_current` meets its contract.
 use Rattle.reading.proofs.Cases.{is-idle, is-ignored, is-read, is-write, is-unsupported, is-reserved}
-use Rattle.chip.specs.Close.{withLog}
+use Rattle.world.specs.World.{withLog}
 use Rattle.reading.specs.Reading.{withByte}
 use Rattle.ram.specs.declared.Byte.the-variants.{Nothing}
 use borrow.Author.Needs.{needs}

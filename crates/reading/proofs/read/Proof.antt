@@ -1,6 +1,6 @@
 -- `reading::read` meets its contract.
 use Rattle.reading.proofs.Cases.{runs, sleeps, in-reset}
-use Rattle.chip.specs.Close.{withLog}
+use Rattle.world.specs.World.{withLog}
 use Rattle.reading.specs.Reading.{withByte}
 use Rattle.ram.specs.declared.Byte.the-variants.{Nothing}
 use borrow.Author.Needs.{needs}

@@ -1,6 +1,6 @@
 -- `reading::read_byte` meets its contract.
 use Rattle.reading.proofs.Cases.{is-ram, is-register}
-use Rattle.chip.specs.Close.{withLog}
+use Rattle.world.specs.World.{withLog}
 use borrow.Author.Needs.{needs}
 use Rattle.reading.proofs.read_byte.Statement.{statement}
 use Rattle.reading.proofs.read_byte.Tie as tie

@@ -1,6 +1,6 @@
 -- `reading::read_nothing` meets its contract.
 use Rattle.reading.proofs.Cases.{silent, tells}
-use Rattle.chip.specs.Close.{withLog}
+use Rattle.world.specs.World.{withLog}
 use borrow.Author.Needs.{needs}
 use Rattle.reading.proofs.read_nothing.Statement.{statement}
 use Rattle.reading.proofs.read_nothing.Tie as tie

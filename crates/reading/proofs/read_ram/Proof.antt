@@ -1,6 +1,6 @@
 -- `reading::read_ram` meets its contract.
 use Rattle.reading.proofs.Cases.{dummy, reads-ram}
-use Rattle.chip.specs.Close.{withLog}
+use Rattle.world.specs.World.{withLog}
 use borrow.Author.Needs.{needs}
 use Rattle.reading.proofs.read_ram.Statement.{statement}
 use Rattle.reading.proofs.read_ram.Tie as tie

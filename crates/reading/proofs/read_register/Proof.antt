@@ -1,6 +1,6 @@
 -- `reading::read_register` meets its contract.
 use Rattle.reading.proofs.Cases.{gives}
-use Rattle.chip.specs.Close.{withLog}
+use Rattle.world.specs.World.{withLog}
 use borrow.Author.Needs.{needs}
 use Rattle.reading.proofs.read_register.Statement.{statement}
 use Rattle.reading.proofs.read_register.Tie as tie

@@ -13,6 +13,9 @@ array-write-lut-2 c = search needs
 array-write-lut-3 : tie.Need-array-write-lut-3
 array-write-lut-3 c = search needs
 
+default-requires : tie.Need-default-requires
+default-requires c κs = search needs
+
 reset-requires : tie.Need-reset-requires
 reset-requires c κs = search needs
 
@@ -21,7 +24,7 @@ reset-requires-2 c κs = search needs
 
 returns : tie.Need-returns
 unfolding resetOf
-returns c = rw (c .before .reset .ensures, c .reset2 .ensures)
+returns c = rw (c .before .before .default .ensures, c .before .reset .ensures, c .reset2 .ensures)
 
 pub reset-spec : {M : Type 1} → statement M
-reset-spec = tie.close (tie.spec array-write-lut array-write-lut-2 array-write-lut-3 reset-requires reset-requires-2 returns)
+reset-spec = tie.close (tie.spec array-write-lut array-write-lut-2 array-write-lut-3 default-requires reset-requires reset-requires-2 returns)

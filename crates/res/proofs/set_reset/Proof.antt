@@ -1,5 +1,5 @@
 -- `res::set_reset` meets its contract.
-use Rattle.reset.specs.Reset.{withGlassLog}
+use Rattle.world.specs.World.{withGlassLog}
 use Rattle.res.proofs.Cases.{line-ready, line-log, line-ready-then, line-moves, line-refused}
 use borrow.Author.Needs.{needs}
 use Rattle.res.proofs.set_reset.Statement.{statement}

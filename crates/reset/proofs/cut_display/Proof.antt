@@ -1,7 +1,7 @@
 -- `reset::cut_display` meets its contract.
 use Rattle.reset.proofs.Cases.{cuts, drops}
 use Rattle.reset.proofs.Kept.{ready-logged}
-use Rattle.reset.specs.Reset.{WithGlassLog, withGlassLog}
+use Rattle.world.specs.World.{WithGlassLog, withGlassLog}
 use borrow.Author.Needs.{needs}
 use Rattle.reset.proofs.cut_display.Statement.{statement}
 use Rattle.reset.proofs.cut_display.Tie as tie

@@ -1,6 +1,6 @@
 -- `reset::set_line` meets its contract.
 use Rattle.reset.proofs.Cases.{keeps-low, falls, falls-asleep, keeps-high, keeps-asleep, rises}
-use Rattle.reset.specs.Reset.{WithGlassLog, withGlassLog}
+use Rattle.world.specs.World.{WithGlassLog, withGlassLog}
 use borrow.Author.Needs.{needs}
 use Rattle.reset.proofs.set_line.Statement.{statement}
 use Rattle.reset.proofs.set_line.Tie as tie

@@ -1,6 +1,7 @@
 -- `validate::is_unlisted_vsl` meets its contract.
 use mathlib.Core.Path.{ap, _∙_}
-use Rattle.otp.specs.Table.{unlisted}
+use mathlib.Core.Bool.{not}
+use Rattle.voltage.specs.Codes.{isVoltage}
 use borrow.Author.Needs.{needs}
 use Rattle.validate.proofs.is_unlisted_vsl.Statement.{statement}
 use Rattle.validate.proofs.is_unlisted_vsl.Tie as tie
@@ -8,11 +9,11 @@ use Rattle.validate.proofs.is_unlisted_vsl.Tie as tie
 vsl-millivolts-requires : tie.Need-vsl-millivolts-requires
 vsl-millivolts-requires c κs = search needs
 
-is-unlisted-requires : tie.Need-is-unlisted-requires
-is-unlisted-requires c κs = search needs
+is-voltage-requires : tie.Need-is-voltage-requires
+is-voltage-requires c κs = search needs
 
 returns : tie.Need-returns
-returns c = c .is-unlisted .ensures ∙ ap unlisted (c .before .vsl-millivolts .ensures)
+returns c = ap not (c .is-voltage .ensures ∙ ap isVoltage (c .before .vsl-millivolts .ensures))
 
 pub is-unlisted-vsl-spec : {M : Type 1} → statement M
-is-unlisted-vsl-spec = tie.close (tie.spec vsl-millivolts-requires is-unlisted-requires returns)
+is-unlisted-vsl-spec = tie.close (tie.spec vsl-millivolts-requires is-voltage-requires returns)

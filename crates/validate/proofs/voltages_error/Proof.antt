@@ -8,7 +8,7 @@ use borrow.Author.Tests.{lt-ltb, le-ltb}
 use Rattle.config.specs.Answer.{refused, answerOf}
 use Rattle.config.proofs.Answers.{refuses, passes, none-left}
 use Rattle.config.proofs.Lowest.{Passed, lowest-at, lowest-none}
-use Rattle.otp.specs.Table.{entriesOf, unlistedVoltage, unlistedEntry, voltagesTest}
+use Rattle.otp.specs.Table.{entryCount, unlistedVoltage, unlistedEntry, voltagesTest}
 use Rattle.validate.proofs.voltages_error.Statement.{statement}
 use Rattle.validate.proofs.voltages_error.Tie as tie
 
@@ -29,10 +29,10 @@ unfolding answerOf
 returns c =
     let otp = c .before .before .before .before .before .args .otp .now in
     let e =
-    lowest-at (unlistedVoltage otp) (entriesOf otp) (c .before .before .before .loop .entry) (omega arith) (c .before .before .before .loop .inv .1)
+    lowest-at (unlistedVoltage otp) (entryCount otp) (c .before .before .before .loop .entry) (omega arith) (c .before .before .before .loop .inv .1)
     (sym (c .before .has-unlisted-voltage .ensures) ∙ c .if1 .taken)
     in
-    refuses (voltagesTest otp) [] _ (lt-ltb (unlistedEntry otp) (entriesOf otp) (omega (arith, e))) (ap (refused 6) (sym e))
+    refuses (voltagesTest otp) [] _ (lt-ltb (unlistedEntry otp) (entryCount otp) (omega (arith, e))) (ap (refused 6) (sym e))
 
 add-entry : tie.Need-add-entry Inv-loop μ-loop
 add-entry c = omega arith
@@ -47,9 +47,9 @@ returns-2 : tie.Need-returns-2 Inv-loop μ-loop
 unfolding answerOf
 returns-2 c =
     let otp = c .before .before .before .args .otp .now in
-    let n : c .before .loop .entry ≡ entriesOf otp = omega arith in
-    let e = lowest-none (unlistedVoltage otp) (entriesOf otp) (rw n at (c .before .loop .inv .1)) in
-    passes (voltagesTest otp) [] _ (le-ltb (unlistedEntry otp) (entriesOf otp) (omega (arith, e))) (none-left _ refl)
+    let n : c .before .loop .entry ≡ entryCount otp = omega arith in
+    let e = lowest-none (unlistedVoltage otp) (entryCount otp) (rw n at (c .before .loop .inv .1)) in
+    passes (voltagesTest otp) [] _ (le-ltb (unlistedEntry otp) (entryCount otp) (omega (arith, e))) (none-left _ refl)
 
 pub voltages-error-spec : {M : Type 1} → statement M
 voltages-error-spec =

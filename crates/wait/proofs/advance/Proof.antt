@@ -1,5 +1,5 @@
 -- `wait::advance` meets its contract.
-use Rattle.clock.specs.Advance.{withGlass}
+use Rattle.world.specs.World.{withGlass}
 use Rattle.wait.proofs.Cases.{clock-ready, clock-moves, clock-refused}
 use borrow.Author.Needs.{needs}
 use Rattle.wait.proofs.advance.Statement.{statement}

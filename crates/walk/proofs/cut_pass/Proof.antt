@@ -1,10 +1,9 @@
 -- `walk::cut_pass` meets its contract. Assumes nothing.
 use mathlib.Core.Path.{sym}
 use mathlib.Core.List.{_++_}
-use Rattle.waveform.specs.Phases.{driven}
+use Rattle.waveform.specs.Phases.{driven, phasesIn}
 use Rattle.waveform.specs.Walks.{cutStep}
 use Rattle.waveform_laws.proofs.Steps.{stopped-stays}
-use Rattle.walk.specs.Ready.{phasesIn}
 use Rattle.walk.proofs.Made.{then-on}
 use borrow.Author.Needs.{needs}
 use Rattle.walk.proofs.cut_pass.Statement.{statement}
@@ -13,7 +12,7 @@ use Rattle.walk.proofs.cut_pass.Tie as tie
 returns : tie.Need-returns
 returns c =
     let s = c .before .args in
-    sym (stopped-stays (s .driving) (s .until) (s .progress) (phasesIn (s .first) (s .second) (s .third) (s .fourth)) (c .if1 .taken))
+    sym (stopped-stays (s .driving) (s .until) (s .progress) (phasesIn (s .first .step .phase) (s .second .step .phase) (s .third .step .phase) (s .fourth .step .phase)) (c .if1 .taken))
 
 cut-phase-requires : tie.Need-cut-phase-requires
 cut-phase-requires c κs = search needs

@@ -6,7 +6,7 @@ use native.Mathlib.Omega.{arith}
 use mathlib.Core.List.{foldl}
 use Rattle.numbers.specs.Saturation.{largest}
 use Rattle.waveform.specs.Phases.{driven}
-use Rattle.waveform.specs.Walks.{cutStep, cutShort, endOf}
+use Rattle.waveform.specs.Walks.{cutStep, phaseCut, phaseEnd}
 use Rattle.waveform_laws.proofs.Joined.{driven-none, driven-some}
 use Rattle.waveform_laws.proofs.Steps.{stopped-stays, step-on, step-short}
 use Rattle.walk.proofs.Made.{ready-step}
@@ -18,7 +18,7 @@ abbrev start : tie.After-saturating-add-u64 → tie.Start
 start c = c .before .before .before .before .before .before .before
 
 -- when the phase ends
-end-is : (c : tie.After-saturating-add-u64) → c .saturating-add-u64 .result ≡ endOf (start c .args .lasting .step .phase) (start c .args .progress .elapsed)
+end-is : (c : tie.After-saturating-add-u64) → c .saturating-add-u64 .result ≡ phaseEnd (start c .args .lasting .step .phase) (start c .args .progress .elapsed)
 end-is c = c .saturating-add-u64 .ensures ∙ ap (λ (n : ℕ). min (start c .args .progress .elapsed + n) (largest 64)) (start c .pre .length-is)
 
 returns : tie.Need-returns
@@ -44,7 +44,7 @@ returns-3 c =
     let s = start a .args in
     let p = s .lasting .step .phase in
     c .cut-short .ensures
-    ∙ (λ i. cutShort (s .driving) p (c .before .saturating-sub-u64 .ensures i) (end-is a i) (s .progress .transfer))
+    ∙ (λ i. phaseCut (s .driving) p (c .before .saturating-sub-u64 .ensures i) (end-is a i) (s .progress .transfer))
     ∙ sym (step-short (s .driving) (s .until) (s .progress) p going (omega (arith, c .before .before .if3 .taken, end-is a)))
     ∙ ap (foldl (cutStep (s .driving) (s .until)) (s .progress)) (sym (driven-some p some))
 

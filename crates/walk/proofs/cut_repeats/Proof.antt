@@ -4,17 +4,16 @@ use native.Mathlib.Omega.{arith}
 use Prim.Native.Nat.{ℕ, _≤_, _-_}
 use mathlib.Core.List.{List, foldl}
 use Rattle.waveform.specs.declared.Phase.{Phase}
-use Rattle.waveform.specs.Phases.{joined}
+use Rattle.waveform.specs.Phases.{phasesIn, joined}
 use Rattle.waveform.specs.Walks.{cutStep}
 use Rattle.waveform_laws.proofs.Joined.{fold-none, fold-more}
-use Rattle.walk.specs.Ready.{phasesIn}
-use Rattle.walk.proofs.Made.{four-made}
+use Rattle.waveform_laws.proofs.Stepped.{four-is}
 use borrow.Author.Needs.{needs}
 use Rattle.walk.proofs.cut_repeats.Statement.{statement}
 use Rattle.walk.proofs.cut_repeats.Tie as tie
 
 abbrev Inv-loop : tie.InvT-loop
-Inv-loop driving until first second third fourth repeats moved₀ k₀ moved k = (k ≤ repeats) × (moved ≡ foldl (cutStep driving until) moved₀ (joined k (λ j. phasesIn first second third fourth)))
+Inv-loop driving until first second third fourth repeats moved₀ k₀ moved k = (k ≤ repeats) × (moved ≡ foldl (cutStep driving until) moved₀ (joined k (λ j. phasesIn (first .step .phase) (second .step .phase) (third .step .phase) (fourth .step .phase))))
 
 abbrev μ-loop : tie.MeasureT-loop
 μ-loop driving until first second third fourth repeats moved₀ k₀ moved k = repeats - k
@@ -60,7 +59,7 @@ loop-again c =
     let first = second .before in
     let s = first .before .args in (
       omega arith,
-      fold-more (cutStep (s .driving) (s .until)) (s .progress) (λ j. phasesIn (first .lasting-of .result) (second .lasting-of2 .result) (third .lasting-of3 .result) (fourth .lasting-of4 .result)) (m .loop .k) (m .loop .inv .1) (c .cut-pass .ensures),
+      fold-more (cutStep (s .driving) (s .until)) (s .progress) (λ j. phasesIn (first .lasting-of .result .step .phase) (second .lasting-of2 .result .step .phase) (third .lasting-of3 .result .step .phase) (fourth .lasting-of4 .result .step .phase)) (m .loop .k) (m .loop .inv .1) (c .cut-pass .ensures),
     )
 
 returns : tie.Need-returns Inv-loop μ-loop
@@ -73,9 +72,9 @@ returns c =
     let step = cutStep (s .driving) (s .until) in
     let e : c .before .loop .k ≡ s .group .repeats = omega (arith, c .before .before .times .ensures .0) in
     c .before .loop .inv .1
-    ∙ ap (λ (k : ℕ). foldl step (s .progress) (joined k (λ j. phasesIn (first .lasting-of .result) (second .lasting-of2 .result) (third .lasting-of3 .result) (fourth .lasting-of4 .result)))) e
+    ∙ ap (λ (k : ℕ). foldl step (s .progress) (joined k (λ j. phasesIn (first .lasting-of .result .step .phase) (second .lasting-of2 .result .step .phase) (third .lasting-of3 .result .step .phase) (fourth .lasting-of4 .result .step .phase)))) e
     ∙ ap (λ (l : List Phase). foldl step (s .progress) (joined (s .group .repeats) (λ j. l)))
-    (four-made (s .driving) (s .group) (first .lasting-of .ensures .0) (second .lasting-of2 .ensures .0) (third .lasting-of3 .ensures .0) (fourth .lasting-of4 .ensures .0))
+    (four-is (s .driving) (s .group) (first .lasting-of .ensures .0) (second .lasting-of2 .ensures .0) (third .lasting-of3 .ensures .0) (fourth .lasting-of4 .ensures .0))
 
 pub cut-repeats-spec : {M : Type 1} → statement M
 cut-repeats-spec =

@@ -4,16 +4,16 @@ use native.Mathlib.Omega.{arith}
 use Prim.Native.Nat.{ℕ, _≤_, _-_}
 use mathlib.Core.List.{List, foldl}
 use Rattle.waveform.specs.declared.Phase.{Phase}
-use Rattle.waveform.specs.Phases.{joined}
+use Rattle.waveform.specs.Phases.{phasesIn, joined}
 use Rattle.waveform.specs.Walks.{wholeStep}
 use Rattle.waveform_laws.proofs.Joined.{fold-none, fold-more}
-use Rattle.waveform_laws.proofs.Stepped.{passed, four-is, pass-is}
+use Rattle.waveform_laws.proofs.Stepped.{steps-are, pass-is}
 use borrow.Author.Needs.{needs}
 use Rattle.walk.proofs.group_transfer.Statement.{statement}
 use Rattle.walk.proofs.group_transfer.Tie as tie
 
 abbrev Inv-loop : tie.InvT-loop
-Inv-loop driving first second third fourth repeats moved₀ k₀ moved k = (k ≤ repeats) × (moved ≡ foldl (wholeStep driving) moved₀ (joined k (λ j. passed first second third fourth)))
+Inv-loop driving first second third fourth repeats moved₀ k₀ moved k = (k ≤ repeats) × (moved ≡ foldl (wholeStep driving) moved₀ (joined k (λ j. phasesIn (first .phase) (second .phase) (third .phase) (fourth .phase))))
 
 abbrev μ-loop : tie.MeasureT-loop
 μ-loop driving first second third fourth repeats moved₀ k₀ moved k = repeats - k
@@ -54,7 +54,7 @@ loop-again c =
     let first = second .before in
     let a = first .before .args in (
       omega arith,
-      fold-more (wholeStep (a .driving)) (a .transfer) (λ j. passed (first .step-of .result) (second .step-of2 .result) (third .step-of3 .result) (fourth .step-of4 .result)) (m .loop .k) (m .loop .inv .1)
+      fold-more (wholeStep (a .driving)) (a .transfer) (λ j. phasesIn (first .step-of .result .phase) (second .step-of2 .result .phase) (third .step-of3 .result .phase) (fourth .step-of4 .result .phase)) (m .loop .k) (m .loop .inv .1)
           (c .whole-pass .ensures ∙ pass-is (a .driving) (a .group) (first .step-of .ensures) (second .step-of2 .ensures) (third .step-of3 .ensures) (fourth .step-of4 .ensures) (m .loop .moved)),
     )
 
@@ -67,9 +67,9 @@ returns c =
     let a = first .before .args in
     let e : c .before .loop .k ≡ a .group .repeats = omega (arith, c .before .before .times .ensures .0) in
     c .before .loop .inv .1
-    ∙ ap (λ (k : ℕ). foldl (wholeStep (a .driving)) (a .transfer) (joined k (λ j. passed (first .step-of .result) (second .step-of2 .result) (third .step-of3 .result) (fourth .step-of4 .result)))) e
+    ∙ ap (λ (k : ℕ). foldl (wholeStep (a .driving)) (a .transfer) (joined k (λ j. phasesIn (first .step-of .result .phase) (second .step-of2 .result .phase) (third .step-of3 .result .phase) (fourth .step-of4 .result .phase)))) e
     ∙ ap (λ (l : List Phase). foldl (wholeStep (a .driving)) (a .transfer) (joined (a .group .repeats) (λ j. l)))
-    (four-is (a .driving) (a .group) (first .step-of .ensures) (second .step-of2 .ensures) (third .step-of3 .ensures) (fourth .step-of4 .ensures))
+    (steps-are (a .driving) (a .group) (first .step-of .ensures) (second .step-of2 .ensures) (third .step-of3 .ensures) (fourth .step-of4 .ensures))
 
 pub group-transfer-spec : {M : Type 1} → statement M
 group-transfer-spec = tie.close (tie.spec Inv-loop μ-loop step-of-requires step-of-requires-2 step-of-requires-3 step-of-requires-4 times-requires loop-holds whole-pass-requires add-k loop-less loop-again returns)

@@ -135,6 +135,31 @@ fn whole_or_cut_question(_: u64, random: &mut Random) -> Vec<i128> {
     numbers
 }
 
+/// A whole display whose second group repeats a pass that goes farther one way than the other, after a first that drives:
+/// how often it runs shows, and that it runs after what was driven before.
+fn repeated_question(random: &mut Random) -> Vec<i128> {
+    let mut setting: Setting = [0; _];
+    for lut in 0..4 {
+        setting[10 * lut] = random.pick(&[0x40, 0x80]);
+        setting[10 * lut + 1] = random.pick(&[0x56, 0xA9]);
+    }
+    setting[50] = random.pick(&[1, 5, 19]);
+    setting[55..59].fill(random.pick(&[1, 3]));
+    setting[59] = random.byte();
+    settings::make_listed(&mut setting, random);
+    let swing = random.pick(&[settings::SWING, 100 * settings::SWING]);
+    let mut numbers = decimals![0, random.below(4), swing, random.truth(), 0, 0].to_vec();
+    push_waveform(&mut numbers, &[settings::PERIOD; 16], &setting);
+    numbers
+}
+
+fn combined_question(place: u64, random: &mut Random) -> Vec<i128> {
+    if place % 8 == 7 {
+        return repeated_question(random);
+    }
+    whole_or_cut_question(place, random)
+}
+
 fn gray_question(_: u64, random: &mut Random) -> Vec<i128> {
     let swing = settings::swing(random);
     // Half way between two greys, and one off it, is where rounding shows.
@@ -177,7 +202,7 @@ pub(super) fn leaves() -> Vec<Leaf> {
         Leaf {
             name: "combined",
             answer: combined_answer,
-            question: whole_or_cut_question,
+            question: combined_question,
         },
     ]);
     leaves

@@ -3,8 +3,7 @@ use mathlib.Core.Path.{ap, _∙_}
 use mathlib.Core.Bool.{Bool}
 use Prim.Native.Nat.{_/_}
 use native.Mathlib.Omega.{arith}
-use Rattle.counter.specs.declared.Next.{Next}
-use Rattle.counter.specs.Counter.{stepOf, isPast, pixelAfter}
+use Rattle.counter.specs.Counter.{Next, axisStep, isPast, pixelAfter}
 use Rattle.counter.proofs.Steps.{step-below}
 use borrow.Author.Needs.{needs}
 use Rattle.counter.proofs.moves.next_x.Statement.{statement}
@@ -16,7 +15,7 @@ x-increments-requires c κs = search needs
 stepped-requires : tie.Need-stepped-requires
 stepped-requires c κs =
     let a = c .before .before .before .args in
-    ap (λ (b : Bool). isPast (stepOf b (a .counter .x / 8) (a .window .«x_end» / 8))) (c .x-increments .ensures) ∙ c .before .before .before .pre
+    ap (λ (b : Bool). isPast (axisStep b (a .counter .x / 8) (a .window .«x_end» / 8))) (c .x-increments .ensures) ∙ c .before .before .before .pre
 
 mul-result : tie.Need-mul-result
 mul-result c =
@@ -27,7 +26,7 @@ mul-result c =
 returns : tie.Need-returns
 returns c =
     let a = c .before .before .before .before .args in
-    ap (λ (n : Next). pixelAfter n (a .window .«x_start»)) (c .stepped .ensures ∙ ap (λ (b : Bool). stepOf b (a .counter .x / 8) (a .window .«x_end» / 8)) (c .before .x-increments .ensures))
+    ap (λ (n : Next). pixelAfter n (a .window .«x_start»)) (c .stepped .ensures ∙ ap (λ (b : Bool). axisStep b (a .counter .x / 8) (a .window .«x_end» / 8)) (c .before .x-increments .ensures))
 
 pub next-x-spec : {M : Type 1} → statement M
 next-x-spec = tie.close (tie.spec x-increments-requires stepped-requires mul-result returns)

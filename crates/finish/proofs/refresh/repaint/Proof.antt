@@ -1,5 +1,5 @@
 -- `finish::refresh::repaint` meets its contract. Assumes nothing.
-use mathlib.Core.Path.{_≡_, ap, _∙_}
+use mathlib.Core.Path.{ap, _∙_}
 use Rattle.panel.specs.Pixels.{grays}
 use Rattle.finish.proofs.Steps.{table-is}
 use borrow.Author.Needs.{needs}

@@ -8,7 +8,6 @@ use Rattle.glass.specs.Transfers.{applyT}
 use Rattle.waveform.specs.Walks.{transferOf}
 use Rattle.finish.specs.Refresh.{transferIn}
 use Rattle.finish.proofs.Moves.{combined-high}
-use borrow.Author.Needs.{needs}
 use Rattle.finish.proofs.refresh.transfer.Statement.{statement}
 use Rattle.finish.proofs.refresh.transfer.Tie as tie
 

@@ -11,19 +11,19 @@ use borrow.Author.Needs.{needs}
 use Rattle.glass_tables.proofs.Move.apply.Statement.{statement}
 use Rattle.glass_tables.proofs.Move.apply.Tie as tie
 
-hold-requires : tie.Need-hold-requires
-hold-requires c κs = search needs
+clamp-i64-requires : tie.Need-clamp-i64-requires
+clamp-i64-requires c κs = search needs
 
 -- what is added
 sum : (c : tie.After-struct-told3)
-    → rd (c .before .before .hold .result) +ℤ rd (c .before .before .before .before .before .args .self .add)
+    → rd (c .before .before .clamp-i64 .result) +ℤ rd (c .before .before .before .before .before .args .self .add)
     ≡ movedBy (c .before .before .before .before .before .args .self) (c .before .before .before .before .before .args .state)
 sum c =
     let call = c .before .before in
     let s = call .before .before .before in
     let m = s .args .self in
     let g = c .struct-told3 .given in
-    let held = clamped (call .hold .ok) (call .hold .ensures) (back (s .fits .state)) (field-back (m .low) (g .0 .1)) (field-back (m .high) (g .1 .0 .1)) in
+    let held = clamped (call .clamp-i64 .ok) (call .clamp-i64 .ensures) (back (s .fits .state)) (field-back (m .lo) (g .0 .1)) (field-back (m .hi) (g .1 .0 .1)) in
     λ i. held i +ℤ field-back (m .add) (g .1 .1 .0 .1) i
 
 add-result : tie.Need-add-result
@@ -35,4 +35,4 @@ returns : tie.Need-returns
 returns c = back (add-result c) ∙ sum c
 
 pub apply-spec : {M : Type 1} → statement M
-apply-spec = tie.close (tie.spec hold-requires add-result returns)
+apply-spec = tie.close (tie.spec clamp-i64-requires add-result returns)

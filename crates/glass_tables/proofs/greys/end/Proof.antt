@@ -1,7 +1,7 @@
 -- `glass_tables::greys::end` meets its contract. Assumes nothing.
 use Prim.Native.Nat.{_+_, _*_}
 use native.Mathlib.Omega.{arith}
-use Rattle.glass_tables.specs.Greys.{endOf}
+use Rattle.glass_tables.specs.Greys.{greyEnd}
 use Rattle.glass_tables.proofs.Found.{end-is, whole-le, rest-le}
 use borrow.Author.Needs.{needs}
 use Rattle.glass_tables.proofs.greys.end.Statement.{statement}
@@ -28,7 +28,7 @@ add-result-2 c =
     record { fits = omega (arith, rest-le (c .args .swing) m (omega arith), whole-le (c .args .swing) m (c .pre .1) (omega arith)) }
 
 returns : tie.Need-returns
-unfolding endOf
+unfolding greyEnd
 returns c = end-is (c .args .swing) (2 * c .args .gray + 1)
 
 pub end-spec : {M : Type 1} → statement M

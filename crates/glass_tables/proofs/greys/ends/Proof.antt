@@ -8,12 +8,12 @@ use mir.Val.{toZ}
 use Rattle.numbers.specs.Lists.{tab}
 use Rattle.numbers.proofs.Lin.{whole, ranged, unsigned, abs-back, abs-pos}
 use Rattle.numbers.proofs.Painted.{Painted, painted-none, painted-more, painted-all}
-use Rattle.glass_tables.specs.Greys.{endOf, endsOf}
+use Rattle.glass_tables.specs.Greys.{greyEnd, endsOf}
 use Rattle.glass_tables.proofs.greys.ends.Statement.{statement}
 use Rattle.glass_tables.proofs.greys.ends.Tie as tie
 
 abbrev Inv-loop : tie.InvT-loop
-Inv-loop swing ends₀ i₀ ends i = Painted i (endOf (natAbs (toZ w64 swing))) ends₀ ends × (i ≤ 256)
+Inv-loop swing ends₀ i₀ ends i = Painted i (greyEnd (natAbs (toZ w64 swing))) ends₀ ends × (i ≤ 256)
 
 abbrev μ-loop : tie.MeasureT-loop
 μ-loop swing ends₀ i₀ ends i = 256 - i
@@ -55,7 +55,7 @@ unfolding endsOf
 returns c =
     let m = c .before in
     painted-all (m .loop .inv .0) (c .loop-test .left)
-    ∙ ap (λ (n : ℕ). tab 256 (endOf n)) (abs-back (m .before .fits .swing))
+    ∙ ap (λ (n : ℕ). tab 256 (greyEnd n)) (abs-back (m .before .fits .swing))
 
 pub ends-spec : {M : Type 1} → statement M
 ends-spec =

@@ -32,7 +32,7 @@ finish-requires c κs =
       luts-long = lengths .before .if3 .taken;
       pixels-long = lengths .if4 .taken;
       some = subst (λ (z : ℤ). pos 1 ≤ℤ z) (field-back _ (told .struct-told .given .0 .1)) (omega (whole, swing .if2 .taken));
-      lasting = tested .before .lasting .ensures (tested .if1 .taken);
+      lasting = tested .before .lasting .ensures .1 (tested .if1 .taken);
     }
 
 same-length : tie.Need-same-length

@@ -14,7 +14,7 @@ start c = c .before .before .before .before .before .before .before .before .bef
 walkable : (c : tie.After-from-setting) → Walkable (c .from-setting .result) (start c .args .drive)
 walkable c =
     let tested = c .before .before .before in
-    decoded-walkable _ _ _ (c .from-setting .ensures) (tested .before .lasting .ensures (tested .if1 .taken)) (start c .pre)
+    decoded-walkable _ _ _ (c .from-setting .ensures) (tested .before .lasting .ensures .1 (tested .if1 .taken)) (start c .pre)
 
 signed-requires : tie.Need-signed-requires
 signed-requires c κs = search needs

@@ -4,7 +4,7 @@ use Prim.Native.Nat.{_<_}
 use Rattle.waveform.specs.declared.Phase.{Phase}
 use Rattle.waveform.specs.declared.Step.{Step}
 use Rattle.waveform.specs.Phases.{phaseOf}
-use Rattle.waveform.specs.Walks.{phaseIn, stepOf}
+use Rattle.waveform.specs.Walks.{phaseIn, phaseStep}
 use borrow.Author.Needs.{needs}
 use Rattle.walk.proofs.phases.lasting_of.Statement.{statement}
 use Rattle.walk.proofs.phases.lasting_of.Tie as tie
@@ -16,7 +16,7 @@ saturating-mul-u64-requires : tie.Need-saturating-mul-u64-requires
 saturating-mul-u64-requires c κs = search needs
 
 returns : tie.Need-returns
-unfolding stepOf phaseOf
+unfolding phaseStep phaseOf
 returns c =
     let call = c .before .before in
     let a = call .before .args in
@@ -26,7 +26,7 @@ returns c =
       e,
       record {
         timed = subst (λ (x : Phase). 0 < x .«frame_ns») (sym e) (call .before .pre .1);
-        drive-is = call .step-of .ensures ∙ ap (stepOf (a .driving)) (sym e);
+        drive-is = call .step-of .ensures ∙ ap (phaseStep (a .driving)) (sym e);
         length-is = c .saturating-mul-u64 .ensures;
       },
     )

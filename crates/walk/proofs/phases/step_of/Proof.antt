@@ -2,7 +2,7 @@
 use mathlib.Core.Path.{ap, _∙_}
 use lib.IntN.{ℤ}
 use Rattle.numbers.proofs.Lin.{got, field-back}
-use Rattle.waveform.specs.Walks.{saturatedDrive, stepOf}
+use Rattle.waveform.specs.Walks.{saturatedDrive, phaseStep}
 use Rattle.waveform_laws.proofs.Stepped.{drive-none, drive-some}
 use borrow.Author.Needs.{needs}
 use Rattle.walk.proofs.phases.step_of.Statement.{statement}
@@ -15,7 +15,7 @@ returns : tie.Need-returns
 returns c =
     let call = c .before .before in
     let d = call .before .args .driving in
-    drive-none d (call .phase-of .result) (c .if1 .taken) ∙ ap (stepOf d) (call .phase-of .ensures)
+    drive-none d (call .phase-of .result) (c .if1 .taken) ∙ ap (phaseStep d) (call .phase-of .ensures)
 
 drive-of-requires : tie.Need-drive-of-requires
 drive-of-requires c κs = search needs
@@ -29,7 +29,7 @@ returns-2 c =
     let v = field-back (p .millivolts) (c .before .struct-told .given .1 .1 .0 .1) in
     (λ i. record { phase = p; drive = got (c .drive-of .ok) (c .drive-of .ensures ∙ ap (λ (z : ℤ). saturatedDrive (d .«positive_drives_black») z (p .frames) (p .«frame_ns»)) v) i })
     ∙ drive-some d p (test .if1 .left)
-    ∙ ap (stepOf d) (call .phase-of .ensures)
+    ∙ ap (phaseStep d) (call .phase-of .ensures)
 
 pub step-of-spec : {M : Type 1} → statement M
 step-of-spec = tie.close (tie.spec phase-of-requires returns drive-of-requires returns-2)

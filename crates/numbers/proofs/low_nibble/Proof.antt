@@ -1,7 +1,7 @@
--- `start::low_nibble`: the mask is the remainder by 16.
+-- `numbers::low_nibble`: the mask is the remainder by 16.
 use lib.Bits.{and-mask}
-use Rattle.start.proofs.low_nibble.Statement.{statement}
-use Rattle.start.proofs.low_nibble.Tie as tie
+use Rattle.numbers.proofs.low_nibble.Statement.{statement}
+use Rattle.numbers.proofs.low_nibble.Tie as tie
 
 returns : tie.Need-returns
 returns c = and-mask (c .args .byte) 4

@@ -1,0 +1,2 @@
+-- The root of world's specs.
+pub mod World
