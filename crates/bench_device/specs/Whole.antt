@@ -9,8 +9,8 @@ use Rattle.config.specs.declared.ExternalSensor.the-variants.{Absent}
 use Rattle.config.specs.declared.Ssd1677Config.{Ssd1677Config}
 use Rattle.config.specs.declared.Ssd1677Timing.{Ssd1677Timing}
 use Rattle.event.specs.declared.Event.{Event}
-use Rattle.power_on.specs.Start.{Buffers, buffers, Powered}
-use Rattle.world.specs.World.{World, world}
+use Rattle.power_on.specs.Start.{Buffers, buffers, Powered, worldOf}
+use Rattle.world.specs.World.{World}
 use Rattle.traffic.specs.Traffic.{Fed, made, feeding}
 use Rattle.bench.specs.Made.{geometryOf, headerOf}
 
@@ -55,12 +55,6 @@ pub record Ran : Type 0 where
 -- the three as one
 abbrev pub ran : ℕ → List ℕ → Buffers → Ran
 ran made header b = record { made = made; header = header; buffers = b }
-
--- what a start leaves
-abbrev pub worldOf : Powered → World
-worldOf p =
-    let b = p .buffers in
-    world (p .device) (b .states) (b .luts) (b .pixels) (b .blackWhite) (b .red) (b .gates) (b .log)
 
 -- what events leave
 abbrev pub ranOf : Fed World → Ran

@@ -21,7 +21,7 @@ use Rattle.activation.proofs.Kept.{ready-advanced}
 use Rattle.begin_laws.proofs.Kept.{config-begun, swing-begun, states-begun, luts-begun, pixels-begun, log-begun, count-begun, bounded-begun, current-begun}
 use Rattle.data.specs.Data.{oneByteMore}
 use Rattle.data_laws.proofs.Kept.{data-leaves, current-kept}
-use Rattle.reading.specs.Reading.{oneByteMore as countedRead}
+use Rattle.reading.specs.Reading.{oneReadMore}
 use Rattle.reading_laws.proofs.Kept.{read-leaves, current-read}
 use Rattle.res.specs.Line.{lineTaken}
 use Rattle.low.specs.Command.{commandTaken}
@@ -42,7 +42,7 @@ goes-on : (a : the.Active) (extra range : Bool) → currentFine (Active a) ≡ t
 unfolding currentFine
 goes-on a extra range h = h
 
-reads-on : (a : the.Active) (range nothing : Bool) → currentFine (Active a) ≡ true → currentFine (Active (countedRead a range nothing)) ≡ true
+reads-on : (a : the.Active) (range nothing : Bool) → currentFine (Active a) ≡ true → currentFine (Active (oneReadMore a range nothing)) ≡ true
 unfolding currentFine
 reads-on a range nothing h = h
 

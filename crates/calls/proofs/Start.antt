@@ -30,7 +30,7 @@ use Rattle.guard_laws.proofs.Accepted.{FineLengths}
 use Rattle.guard_laws.proofs.Started.{started-panel, started-swing, started-periods, started-table}
 use Rattle.query.specs.Outcome.{outcome, unless, stateGuarded}
 use Rattle.query.specs.Queries.{WithCount, ambientSet, diagnosticsTaken}
-use Rattle.power_on.specs.Start.{Buffers, lengthsIn, allTests, poweredOn, cleared, filled, Powered, poweredUp, unstarted, started}
+use Rattle.power_on.specs.Start.{Buffers, lengthsIn, allTests, poweredOn, cleared, filled, Powered, poweredUp, unstarted, started, worldOf}
 use Rattle.power_on.proofs.Accepted.{parameters, lengths, passed, left-is}
 use Rattle.power_on.proofs.Refused.{unstarted-refused}
 use Rattle.wait.specs.Wait.{clockMoved}
@@ -38,7 +38,7 @@ use Rattle.res.specs.Line.{lineMoved}
 use Rattle.low.specs.Command.{commandWritten}
 use Rattle.high.specs.Data.{dataWritten}
 use Rattle.driven.specs.Read.{WithRead, dataRead}
-use Rattle.calls.specs.World.{worldOf, Call, advance, set-reset, write-command, write-data, read-data, set-ambient, take-diagnostics, back, called}
+use Rattle.calls.specs.World.{Call, advance, set-reset, write-command, write-data, read-data, set-ambient, take-diagnostics, back, called}
 use Rattle.calls.specs.Sound.{Sound}
 use Rattle.calls.proofs.Parts.{Fine, Long, is-sound}
 

@@ -17,7 +17,7 @@ use Rattle.device.specs.declared.Power.{Power}
 use Rattle.device.specs.declared.Power.the-variants.{Running, Asleep, InReset}
 use Rattle.world.specs.World.{WithRam, on, deviceInRam, logInRam}
 use Rattle.chip.specs.Report.{logged}
-use Rattle.data.specs.Data.{made, writingOn, surplus, upTo, dataByKind, unasked, dataTaken}
+use Rattle.data.specs.Data.{currentSet, writingOn, surplus, atMost, dataByKind, unasked, dataTaken}
 use Rattle.data_laws.proofs.Kept.{data-leaves}
 use Rattle.calls.specs.Sound.{takesNone, inert, UnderWay, Held}
 use Rattle.calls.proofs.Clock.{held-still, under-way-kept}
@@ -37,8 +37,8 @@ module _ (w : WithRam) (u : UnderWay (w .device)) where
         by false = under-way-kept (w .device) _ refl refl refl refl none u
 
     -- a command that takes no byte
-    none-under-way : (count byte : ℕ) → count ≡ 0 → UnderWay (upTo count byte a w .device)
-    unfolding upTo
+    none-under-way : (count byte : ℕ) → count ≡ 0 → UnderWay (atMost count byte a w .device)
+    unfolding atMost
     none-under-way count byte e = rw (le-ltb (a .received) count (omega arith)) surplus-under-way
 
     kind-under-way : (byte : ℕ) (kind : Kind) → takesNone kind ≡ true → UnderWay (dataByKind byte a w kind .device)
@@ -50,7 +50,7 @@ module _ (w : WithRam) (u : UnderWay (w .device)) where
     kind-under-way byte Unsupported h = surplus-under-way
     kind-under-way byte Reserved h = surplus-under-way
 
-  unasked-under-way : (byte : ℕ) (p : Power) → UnderWay (on deviceInRam (made current.Ignoring) (unasked byte w p) .device)
+  unasked-under-way : (byte : ℕ) (p : Power) → UnderWay (on deviceInRam (currentSet current.Ignoring) (unasked byte w p) .device)
   unfolding unasked logged
   unasked-under-way byte Running = under-way-kept (w .device) _ refl refl refl refl refl u
   unasked-under-way byte Asleep = under-way-kept (w .device) _ refl refl refl refl refl u

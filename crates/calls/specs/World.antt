@@ -1,11 +1,10 @@
--- A device with all that it is lent, and the calls that change it (SCOPE, History).
+-- The calls that change a device and what it is lent (SCOPE, History).
 use Prim.Native.Nat.{ℕ, _≤_}
 use mathlib.Core.Bool.{Bool}
 use mathlib.Core.List.{List, [], _∷_}
 use Rattle.device.specs.Parts.{withConfig, withJournal}
-use Rattle.world.specs.World.{World, world, lentOf, deviceInWorld, glassInWorld, glassLogInWorld, buffersInWorld, planesInWorld}
+use Rattle.world.specs.World.{World, lentOf, deviceInWorld, glassInWorld, glassLogInWorld, buffersInWorld, planesInWorld}
 use Rattle.clock.specs.Advance.{advanced}
-use Rattle.power_on.specs.Start.{Powered}
 use Rattle.query.specs.Outcome.{Outcome, outcome}
 use Rattle.query.specs.Queries.{withAmbient, ambientSet, WithCount, journalEmptied, diagnosticsTaken}
 use Rattle.wait.specs.Wait.{clockMoved}
@@ -13,12 +12,6 @@ use Rattle.res.specs.Line.{lineTaken, lineMoved}
 use Rattle.low.specs.Command.{commandTaken, commandWritten}
 use Rattle.driven.specs.Read.{WithRead, readIn, dataRead}
 use Rattle.high.specs.Data.{dataIn, dataWritten}
-
--- what an accepted start leaves
-abbrev pub worldOf : Powered → World
-worldOf p =
-    let b = p .buffers in
-    world (p .device) (b .states) (b .luts) (b .pixels) (b .blackWhite) (b .red) (b .gates) (b .log)
 
 -- a call, by its arguments that are neither state nor buffer
 pub data Call : Type 0 where

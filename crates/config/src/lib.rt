@@ -179,6 +179,7 @@ pub enum DisplayMode {
     Two,
 }
 
+// The number of a display mode, in a table and in the log: 0 One, 1 Two (SCOPE, OTP table).
 pub fn mode_number(mode: DisplayMode) -> u8
     ensures { λ r. ⌜ r ≡ modeNumber mode ⌝ }
 {

@@ -31,17 +31,17 @@ use Rattle.chip.specs.Report.{logged}
 use Rattle.parameter.specs.Parameter.{parameterTaken}
 use Rattle.data.specs.declared.Streamed.{Streamed}
 use Rattle.data.specs.Most.{isStream, mostOf}
-use Rattle.data.specs.Data.{oneByteMore, made, writingOn, surplus, upTo, planeFor, planeWritten, isInside, counterStepped, outOfRange, ramWritten, dataByKind, unasked, dataTaken}
+use Rattle.data.specs.Data.{oneByteMore, currentSet, writingOn, surplus, atMost, planeFor, planeWritten, isInside, counterStepped, outOfRange, ramWritten, dataByKind, unasked, dataTaken}
 use Rattle.data.specs.Stream.{leftAs, isStreamed, streamed}
 
 pub goes-on : (d r : Ssd1677) (a b : Active) (bus : Bus) → b ≡ a → bus ≡ withCurrent (d .bus) (current.Active b) → r ≡ withBus d bus
-    → r ≡ made (current.Active a) d
+    → r ≡ currentSet (current.Active a) d
 goes-on d r a b bus e₁ e₂ e₃ = rw (e₃, e₂, e₁)
 
 module _ (a : Active) (w : WithRam) where
   pub is-surplus : (k : WithLog) (r : Ssd1677)
       → k ≡ pick (a .«extra_reported») (withLog (w .device) (w .log)) (logged (ExtraData (a .command)) (withLog (w .device) (w .log)))
-      → r ≡ made (current.Active (oneByteMore a true (a .«range_reported»))) (k .device) → withRam r (w .blackWhite) (w .red) (k .log) ≡ surplus a w
+      → r ≡ currentSet (current.Active (oneByteMore a true (a .«range_reported»))) (k .device) → withRam r (w .blackWhite) (w .red) (k .log) ≡ surplus a w
   unfolding surplus
   is-surplus k r e f = by (a .«extra_reported») e
     where
@@ -58,17 +58,17 @@ module _ (a : Active) (w : WithRam) where
       by false e = rw (f, e)
 
   pub takes : (most byte : ℕ) (t : WithRam) (r : Ssd1677) → a .received < most → t ≡ parameterTaken (a .command) (a .received) byte w
-      → r ≡ made (current.Active (oneByteMore a (a .«extra_reported») (a .«range_reported»))) (t .device)
-      → withRam r (t .blackWhite) (t .red) (t .log) ≡ upTo most byte a w
-  unfolding upTo
+      → r ≡ currentSet (current.Active (oneByteMore a (a .«extra_reported») (a .«range_reported»))) (t .device)
+      → withRam r (t .blackWhite) (t .red) (t .log) ≡ atMost most byte a w
+  unfolding atMost
   takes most byte t r h e f = rw (lt-ltb (a .received) most h, f, e)
 
-  pub takes-not : (most byte : ℕ) (z : WithRam) → most ≤ a .received → z ≡ surplus a w → z ≡ upTo most byte a w
-  unfolding upTo
+  pub takes-not : (most byte : ℕ) (z : WithRam) → most ≤ a .received → z ≡ surplus a w → z ≡ atMost most byte a w
+  unfolding atMost
   takes-not most byte z h e = rw (le-ltb (a .received) most h) e
 
   pub steps-outside : (n : WithLog) (r : Ssd1677) → n ≡ outOfRange a (withLog (w .device) (w .log))
-      → r ≡ made (current.Active (oneByteMore a (a .«extra_reported») true)) (counterStepped (n .device))
+      → r ≡ currentSet (current.Active (oneByteMore a (a .«extra_reported») true)) (counterStepped (n .device))
       → withRam r (w .blackWhite) (w .red) (n .log) ≡ writingOn a (a .«extra_reported») true (on deviceInRam counterStepped (on logInRam (outOfRange a) w))
   steps-outside n r e f = rw (f, e)
 
@@ -83,7 +83,7 @@ module _ (a : Active) (k : WithLog) where
   past-first n h e = rw h e
 
 pub steps : (d r : Ssd1677) (c : Counter) (a b : Active) (bus : Bus) → c ≡ advancedOf (d .regs .counter) (d .regs .window) (d .regs .entry) → b ≡ a
-    → bus ≡ withCurrent (d .bus) (current.Active b) → r ≡ withPointed d c bus → r ≡ made (current.Active a) (counterStepped d)
+    → bus ≡ withCurrent (d .bus) (current.Active b) → r ≡ withPointed d c bus → r ≡ currentSet (current.Active a) (counterStepped d)
 steps d r c a b bus e₁ e₂ e₃ e₄ = rw (e₄, e₃, e₂, e₁)
 
 -- a write that does not find its byte leaves the plane
@@ -149,11 +149,11 @@ unfolding dataTaken
 ignores byte w v bus r e₁ e₂ e₃ = rw (e₃, e₂, e₁)
 
 -- a kind that takes no parameters: every byte is surplus
-none-taken : (byte : ℕ) (a : Active) (w : WithRam) → upTo 0 byte a w ≡ surplus a w
-unfolding upTo
+none-taken : (byte : ℕ) (a : Active) (w : WithRam) → atMost 0 byte a w ≡ surplus a w
+unfolding atMost
 none-taken byte a w = rw (le-ltb (a .received) 0 zero-le)
 
-by-kind : (byte : ℕ) (a : Active) (w z : WithRam) (k : Kind) → z ≡ pick (isStream k) (ramWritten byte a w) (upTo (mostOf k) byte a w) → z ≡ dataByKind byte a w k
+by-kind : (byte : ℕ) (a : Active) (w z : WithRam) (k : Kind) → z ≡ pick (isStream k) (ramWritten byte a w) (atMost (mostOf k) byte a w) → z ≡ dataByKind byte a w k
 unfolding dataByKind
 by-kind byte a w z (Write (Exactly count)) e = e
 by-kind byte a w z (Write (Between least most)) e = e
@@ -175,7 +175,7 @@ module _ (byte : ℕ) (w z : WithRam) (c : Current) where
     unfolding dataTaken
     is-stream h e = rw is (by-kind byte a w z (a .kind) (rw (← tells, h) e))
 
-    pub is-other : (most : ℕ) → t ≡ false → most ≡ mostOf (a .kind) → z ≡ upTo most byte a w → z ≡ dataTaken byte w c
+    pub is-other : (most : ℕ) → t ≡ false → most ≡ mostOf (a .kind) → z ≡ atMost most byte a w → z ≡ dataTaken byte w c
     unfolding dataTaken
     is-other most h m e = rw is (by-kind byte a w z (a .kind) (rw (← tells, h, ← m) e))
 

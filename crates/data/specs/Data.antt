@@ -38,12 +38,12 @@ oneByteMore a extra range =
     }
 
 -- the current command
-abbrev pub made : Current → Ssd1677 → Ssd1677
-made c d = withBus d (withCurrent (d .bus) c)
+abbrev pub currentSet : Current → Ssd1677 → Ssd1677
+currentSet c d = withBus d (withCurrent (d .bus) c)
 
 -- a command that a byte more has come to
 abbrev pub writingOn : Active → Bool → Bool → WithRam → WithRam
-writingOn a extra range w = on deviceInRam (made (current.Active (oneByteMore a extra range))) w
+writingOn a extra range w = on deviceInRam (currentSet (current.Active (oneByteMore a extra range))) w
 
 -- 25 for more bytes than the command takes, once a command
 unfoldable pub surplus : Active → WithRam → WithRam
@@ -51,8 +51,8 @@ surplus a w =
     writingOn a true (a .«range_reported») (pick (a .«extra_reported») w (on logInRam (logged (ExtraData (a .command))) w))
 
 -- a byte of a command that takes so many at most
-unfoldable pub upTo : ℕ → ℕ → Active → WithRam → WithRam
-upTo most byte a w =
+unfoldable pub atMost : ℕ → ℕ → Active → WithRam → WithRam
+atMost most byte a w =
     pick (ltb (a .received) most)
     (writingOn a (a .«extra_reported») (a .«range_reported») (parameterTaken (a .command) (a .received) byte w))
     (surplus a w)
@@ -88,8 +88,8 @@ ramWritten byte a w =
 
 -- by what the active command is
 unfoldable pub dataByKind : ℕ → Active → WithRam → Kind → WithRam
-dataByKind byte a w (Write (Exactly count)) = upTo count byte a w
-dataByKind byte a w (Write (Between least most)) = upTo most byte a w
+dataByKind byte a w (Write (Exactly count)) = atMost count byte a w
+dataByKind byte a w (Write (Between least most)) = atMost most byte a w
 dataByKind byte a w (Write Stream) = ramWritten byte a w
 dataByKind byte a w Read = surplus a w
 dataByKind byte a w Unsupported = surplus a w
@@ -103,6 +103,6 @@ unasked byte w InReset = w
 
 -- by the command that the byte belongs to; 24 comes once, since later bytes are ignored
 unfoldable pub dataTaken : ℕ → WithRam → Current → WithRam
-dataTaken byte w current.Idle = on deviceInRam (made current.Ignoring) (unasked byte w (w .device .bus .power))
+dataTaken byte w current.Idle = on deviceInRam (currentSet current.Ignoring) (unasked byte w (w .device .bus .power))
 dataTaken byte w current.Ignoring = w
 dataTaken byte w (current.Active a) = dataByKind byte a w (a .kind)

@@ -14,7 +14,7 @@ ghost use Rattle.data.specs.Most.{isStream, mostOf};
 ghost use Rattle.device.specs.Parts.{withPointed};
 ghost use Rattle.world.specs.World.{withLog, withRam, on, deviceInRam, logInRam};
 ghost use Rattle.data.specs.Stream.{leftAs, isStreamed, streamed};
-ghost use Rattle.data.specs.Data.{oneByteMore, made, writingOn, surplus, upTo, counterStepped, outOfRange, planeFor, unasked, dataTaken};
+ghost use Rattle.data.specs.Data.{oneByteMore, currentSet, writingOn, surplus, atMost, counterStepped, outOfRange, planeFor, unasked, dataTaken};
 use device::Active;
 use device::Bus;
 use device::Current;
@@ -91,7 +91,7 @@ fn count(active: Active, extra: bool, range: bool) -> Active
 
 // The command stays the current one, with a byte more.
 fn go_on(state: Ssd1677, active: Active, extra: bool, range: bool) -> Ssd1677
-    ensures { λ r. ⌜ r ≡ made (current.Active (oneByteMore active extra range)) state ⌝ }
+    ensures { λ r. ⌜ r ≡ currentSet (current.Active (oneByteMore active extra range)) state ⌝ }
 {
     let next = count(active, extra, range);
     let bus = part::set_current(state.bus, Current::Active(next));
@@ -130,7 +130,7 @@ fn up_to(
     byte: u8,
 ) -> Ssd1677
     requires { ⌜ length (now log) ≡ 16384 ⌝ }
-    ensures { λ r. ⌜ withRam r (now («black_white» .exit)) (now (red .exit)) (now (log .exit)) ≡ upTo most byte active (withRam state (now («black_white» .entry)) (now (red .entry)) (now (log .entry))) ⌝ }
+    ensures { λ r. ⌜ withRam r (now («black_white» .exit)) (now (red .exit)) (now (log .exit)) ≡ atMost most byte active (withRam state (now («black_white» .entry)) (now (red .entry)) (now (log .entry))) ⌝ }
 {
     let index = active.received;
     if index < most {
@@ -143,7 +143,7 @@ fn up_to(
 
 // The counter steps, and the command stays the current one.
 fn step(state: Ssd1677, active: Active, range: bool) -> Ssd1677
-    ensures { λ r. ⌜ r ≡ made (current.Active (oneByteMore active (active .«extra_reported») range)) (counterStepped state) ⌝ }
+    ensures { λ r. ⌜ r ≡ currentSet (current.Active (oneByteMore active (active .«extra_reported») range)) (counterStepped state) ⌝ }
 {
     let at = state.regs.counter;
     let window = state.regs.window;

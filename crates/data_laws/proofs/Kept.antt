@@ -30,7 +30,7 @@ use Rattle.chip.specs.Report.{logged}
 use Rattle.parameter.specs.Parameter.{parameterTaken}
 use Rattle.acts_laws.proofs.Kept.{Sound, KeptRam, on-log, logged-kept}
 use Rattle.parameter.proofs.Kept.{parameter-kept}
-use Rattle.data.specs.Data.{oneByteMore, made, writingOn, surplus, upTo, planeFor, planeWritten, isInside, counterStepped, outOfRange, ramWritten, dataByKind, unasked, dataTaken}
+use Rattle.data.specs.Data.{oneByteMore, currentSet, writingOn, surplus, atMost, planeFor, planeWritten, isInside, counterStepped, outOfRange, ramWritten, dataByKind, unasked, dataTaken}
 
 -- ---- of a state and its log, whatever becomes of the current command
 pub record Rests (k j : WithLog) : Type 0 where
@@ -54,7 +54,7 @@ rests-then k j l p q =
     }
 
 -- another current command
-pub rests-made : (c : Current) (k : WithLog) → Rests k (withLog (made c (k .device)) (k .log))
+pub rests-made : (c : Current) (k : WithLog) → Rests k (withLog (currentSet c (k .device)) (k .log))
 rests-made c k =
     record {
       same-config = refl;
@@ -124,7 +124,7 @@ of-kept w v p =
       red-long = p .red-long;
     }
 
-leaves-made : (c : Current) (w : WithRam) → DataLeaves w (on deviceInRam (made c) w)
+leaves-made : (c : Current) (w : WithRam) → DataLeaves w (on deviceInRam (currentSet c) w)
 leaves-made c w = record { rests = rests-made c (logOf w); black-white-long = refl; red-long = refl }
 
 leaves-stepped : (w : WithRam) → DataLeaves w (on deviceInRam counterStepped w)
@@ -157,8 +157,8 @@ module _ (a : Active) (w : WithRam) where
       (leaves-logged (a .«extra_reported») (ExtraData (a .command)) w)
       (leaves-made (current.Active (oneByteMore a true (a .«range_reported»))) v)
 
-  leaves-up-to : (most byte : ℕ) → byte ≤ 255 → DataLeaves w (upTo most byte a w)
-  unfolding upTo
+  leaves-up-to : (most byte : ℕ) → byte ≤ 255 → DataLeaves w (atMost most byte a w)
+  unfolding atMost
   leaves-up-to most byte small = by (ltb (a .received) most)
     where
       by : (b : Bool)
@@ -220,15 +220,15 @@ pub data-leaves : (byte : ℕ) (w : WithRam) (c : Current) → byte ≤ 255 → 
 unfolding dataTaken
 data-leaves byte w current.Idle small =
     let v = unasked byte w (w .device .bus .power) in
-    leaves-then w v (on deviceInRam (made current.Ignoring) v) (leaves-unasked byte w (w .device .bus .power)) (leaves-made current.Ignoring v)
+    leaves-then w v (on deviceInRam (currentSet current.Ignoring) v) (leaves-unasked byte w (w .device .bus .power)) (leaves-made current.Ignoring v)
 data-leaves byte w current.Ignoring small = leaves-all w
 data-leaves byte w (current.Active a) small = leaves-kind a w byte small (a .kind)
 
 -- what is so of an ignored command, and goes by the command and its kind alone, stays so of the current one
 module _ (P : Current → Type 0) (ignored : P current.Ignoring)
     (counts : (a : Active) (extra range : Bool) → P (current.Active a) → P (current.Active (oneByteMore a extra range))) where
-  current-up-to : (most byte : ℕ) (a : Active) (w : WithRam) → P (current.Active a) → P (upTo most byte a w .device .bus .current)
-  unfolding upTo surplus
+  current-up-to : (most byte : ℕ) (a : Active) (w : WithRam) → P (current.Active a) → P (atMost most byte a w .device .bus .current)
+  unfolding atMost surplus
   current-up-to most byte a w h = by (ltb (a .received) most)
     where
       by : (b : Bool)

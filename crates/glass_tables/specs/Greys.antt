@@ -4,6 +4,7 @@ use mathlib.Core.List.{List}
 use Prim.Native.Nat.{ℕ, _+_, _-_, _*_, _/_, _^_, _≤_, _<_}
 use lib.IntN.{ℤ, pos, negsuc, natAbs}
 use lib.Signed.{_≤ℤ_}
+use Rattle.numbers.specs.Saturation.{largest}
 use Rattle.numbers.specs.Lists.{tab}
 use Rattle.glass.specs.Greys.{grayZ}
 
@@ -29,7 +30,7 @@ endsOf swing = tab 256 (greyEnd swing)
 -- the 64 bits of a state, as a number from 0 on
 abbrev pub bitsOf : ℤ → ℕ
 bitsOf (pos n) = n
-bitsOf (negsuc n) = 18446744073709551615 - n
+bitsOf (negsuc n) = largest 64 - n
 
 -- what reading a grey from the tables asks
 pub record Tables (swing : ℤ) (k : ℕ) (firsts ends : List ℕ) : Type 0 where

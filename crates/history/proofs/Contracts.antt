@@ -17,8 +17,8 @@ use Rattle.query.specs.Outcome.{Outcome, outcome}
 use Rattle.query.specs.Queries.{WithCount}
 use Rattle.driven.specs.Read.{WithRead}
 use Rattle.power_on.specs.declared.StartError.{StartError}
-use Rattle.power_on.specs.Start.{Buffers, Powered, Start, start, startAnswerOf, started}
-use Rattle.calls.specs.World.{Call, worldOf, back, called}
+use Rattle.power_on.specs.Start.{Buffers, Powered, Start, start, startAnswerOf, started, worldOf}
+use Rattle.calls.specs.World.{Call, back, called}
 use Rattle.history.specs.Reckon.{coreOf, reckon, firstReckoning}
 use Rattle.history.specs.Runs as runs
 use Rattle.history.specs.Runs.{Runs}

@@ -7,9 +7,9 @@ use mathlib.Core.List.{List, [], _∷_}
 use Rattle.config.specs.declared.Ssd1677Config.{Ssd1677Config}
 use Rattle.config.specs.Answer.{isAccepted}
 use Rattle.query.specs.Outcome.{Outcome, outcome}
-use Rattle.power_on.specs.Start.{Buffers, started}
+use Rattle.power_on.specs.Start.{Buffers, started, worldOf}
 use Rattle.world.specs.World.{World}
-use Rattle.calls.specs.World.{Call, worldOf, called, taken, leftBy, AllTyped}
+use Rattle.calls.specs.World.{Call, called, taken, leftBy, AllTyped}
 use Rattle.calls.specs.Sound.{Sound}
 use Rattle.calls.proofs.Accepted.{accepted-takes}
 use Rattle.calls.proofs.Kept.{sound-kept}

@@ -9,9 +9,9 @@ use lib.ListN.{length}
 use Rattle.numbers.specs.Saturation.{largest}
 use Rattle.config.specs.declared.Ssd1677Config.{Ssd1677Config}
 use Rattle.config.specs.Answer.{isAccepted}
-use Rattle.power_on.specs.Start.{Buffers, started}
+use Rattle.power_on.specs.Start.{Buffers, started, worldOf}
 use Rattle.world.specs.World.{World}
-use Rattle.calls.specs.World.{Call, worldOf, taken}
+use Rattle.calls.specs.World.{Call, taken}
 use Rattle.history.specs.Reckon.{coreOf, shownBy, Worked, worked, Reckoning, reckonCall, reckon, firstReckoning}
 use Rattle.history.specs.Runs.{Runs, done, accepted, refused}
 use Rattle.history.specs.History.{Agrees, worksIn}

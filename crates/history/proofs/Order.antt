@@ -17,9 +17,9 @@ use Rattle.waveform.specs.declared.Drive.the-variants.{Lut}
 use Rattle.waveform.specs.Exact.{settingPhases}
 use Rattle.config.specs.declared.Ssd1677Config.{Ssd1677Config}
 use Rattle.config.specs.Answer.{isAccepted}
-use Rattle.power_on.specs.Start.{Buffers, started}
+use Rattle.power_on.specs.Start.{Buffers, started, worldOf}
 use Rattle.world.specs.World.{World}
-use Rattle.calls.specs.World.{Call, worldOf}
+use Rattle.calls.specs.World.{Call}
 use Rattle.calls.proofs.Kept.{states-kept}
 use Rattle.history.specs.Reckon.{Worked, worked, swingS, drivesBy, numberAfter, numberOver, coreOf, Reckoning, reckonCall, reckon, firstReckoning}
 use Rattle.history.specs.Runs.{Runs, done, accepted, refused}

@@ -10,16 +10,16 @@ use Rattle.config.specs.declared.Ssd1677Config.{Ssd1677Config}
 use Rattle.config.specs.Answer.{isAccepted}
 use Rattle.diagnostic.specs.declared.Journal.{Journal}
 use Rattle.clock.specs.Advance.{advanced}
-use Rattle.power_on.specs.Start.{Buffers, Powered, poweredOn, poweredUp, started}
+use Rattle.power_on.specs.Start.{Buffers, Powered, poweredOn, poweredUp, started, worldOf}
 use Rattle.res.specs.Line.{lineTaken}
 use Rattle.low.specs.Command.{commandTaken}
 use Rattle.high.specs.Data.{dataIn}
 use Rattle.driven.specs.Read.{readIn}
 use Rattle.world.specs.World.{World, WithGlassLog, lentOf, glassInWorld, glassLogInWorld, buffersInWorld, planesInWorld}
-use Rattle.calls.specs.World.{Call, advance, set-reset, write-command, write-data, read-data, set-ambient, take-diagnostics, worldOf, taken}
+use Rattle.calls.specs.World.{Call, advance, set-reset, write-command, write-data, read-data, set-ambient, take-diagnostics, taken}
 use Rattle.history.specs.Reckon.{Core, coreOf, coreAfter}
 use Rattle.history.specs.Runs.{Runs, done, accepted, refused}
-use Rattle.history.specs.Reports.{bareWith, reportsOf, flagAfter, Tally, withReports, told, tallyCall, tally, noReport, reportsIn, takes, Untaken, Tallies}
+use Rattle.history.specs.Reports.{bareWith, reportsOf, flagAfter, Tally, withReports, afterReports, tallyCall, tally, noReport, reportsIn, takesRecords, Untaken, Tallies}
 use Rattle.history.proofs.Tells.{journal, journals, grown, Bundle, Tells}
 use Rattle.history.proofs.TellsCalls.{inGlass, inGlassLog, inBuffers, inPlanes, tells-advanced, tells-reset, tells-read-in, tells-data-in, tells-command}
 use Rattle.history.proofs.Core.{core-taken}
@@ -206,7 +206,7 @@ beyond w d n r =
     held-once (d + (w + n - 1024)) (min (w + n) 1024 + r - 1024) (largest 64)
     ∙ ap (λ (k : ℕ). min k (largest 64)) (joined d (w + n - 1024) (min (w + n) 1024 + r - 1024) (w + (n + r) - 1024) (split w n r))
 
-untaken-told : (otp : List ℕ) (c : Core) (t : Tally) (call : Call) → takes call ≡ false → tallyCall otp c t call ≡ told otp c t call
+untaken-told : (otp : List ℕ) (c : Core) (t : Tally) (call : Call) → takesRecords call ≡ false → tallyCall otp c t call ≡ afterReports otp c t call
 untaken-told otp c t (advance time) e = refl
 untaken-told otp c t (set-reset time low) e = refl
 untaken-told otp c t (write-command time command) e = refl
@@ -227,7 +227,7 @@ untaken-tally otp c t (call ∷ calls) room held none =
     let n = reportsOf otp c (t .flag) call in
     let f = flagAfter otp c (t .flag) call in
     let r = reportsIn otp (coreAfter otp c call) f calls in
-    let b = untaken-tally otp (coreAfter otp c call) (told otp c t call) calls (omega arith) (omega arith) (none .1) in
+    let b = untaken-tally otp (coreAfter otp c call) (afterReports otp c t call) calls (omega arith) (omega arith) (none .1) in
     subst (λ (x : Tally). Beyond t (n + r) (tally otp (coreAfter otp c call) x calls)) (sym (untaken-told otp c t call (none .0)))
     (record { waiting = b .waiting ∙ waits (t .waiting) n r; dropped = b .dropped ∙ beyond (t .waiting) (t .dropped) n r })
   where

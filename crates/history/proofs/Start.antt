@@ -14,10 +14,9 @@ use Rattle.glass.proofs.Grey.{level-is}
 use Rattle.config.specs.declared.Ssd1677Config.{Ssd1677Config}
 use Rattle.config.specs.Answer.{isAccepted}
 use Rattle.panel.specs.Start as panel
-use Rattle.power_on.specs.Start.{Buffers, Powered, lengthsIn, poweredOn, filled, poweredUp, started}
+use Rattle.power_on.specs.Start.{Buffers, Powered, lengthsIn, poweredOn, filled, poweredUp, started, worldOf}
 use Rattle.power_on.proofs.Accepted.{full-swing, lengths, passed, left-is}
 use Rattle.power_on_laws.proofs.First.{swing-is}
-use Rattle.calls.specs.World.{worldOf}
 use Rattle.history.specs.Reckon.{none, shownBy, swingS, firstNumber}
 use Rattle.history.proofs.Shows.{Marks, Shows}
 use Rattle.history.proofs.Taken.{seen}

@@ -22,7 +22,7 @@ use Rattle.chip.specs.Report.{logged}
 use Rattle.acts.specs.Reserved.{checked}
 use Rattle.acts.specs.Acts.{asleep, ramLost, sleeps, slept, hvReady, vciSensed}
 use Rattle.parameter.specs.Parameter.{registerTaken, writing, autoFilled, autoTaken, parameterTaken}
-use Rattle.data.specs.Data.{made, writingOn, surplus, upTo, planeFor, planeWritten, isInside, counterStepped, outOfRange, ramWritten, dataByKind, unasked, dataTaken}
+use Rattle.data.specs.Data.{currentSet, writingOn, surplus, atMost, planeFor, planeWritten, isInside, counterStepped, outOfRange, ramWritten, dataByKind, unasked, dataTaken}
 use Rattle.history.proofs.Blind.{plainRam}
 use Rattle.history.proofs.Tells.{Bundle, Tells, tells-none, tells-more, tells-by, tells-pick, tells-then}
 use Rattle.history.proofs.TellsLog.{TellsLog, tells-logged, tells-checked, tells-hv, tells-vci, tells-register, tells-range}
@@ -123,8 +123,8 @@ tells-surplus a =
     (tells-log 1 (logged (ExtraData (a .command))) (tells-logged (ExtraData (a .command)))))
     (tells-going a true (a .«range_reported»))
 
-tells-up-to : (most byte : ℕ) (a : Active) → TellsRam 4 (upTo most byte a)
-unfolding upTo
+tells-up-to : (most byte : ℕ) (a : Active) → TellsRam 4 (atMost most byte a)
+unfolding atMost
 tells-up-to most byte a =
     let next = writingOn a (a .«extra_reported») (a .«range_reported») in
     pickRam 3 1 (λ _. ltb (a .received) most) (λ w. next (parameterTaken (a .command) (a .received) byte w)) (surplus a) (λ w. refl)
@@ -184,11 +184,11 @@ pub tells-data : (byte : ℕ) (c : Current) → TellsRam 4 (λ w. dataTaken byte
 unfolding dataTaken
 tells-data byte current.Idle =
     tells-by inRam inRam 4 (λ (w : WithRam). w .device .bus .power)
-    (λ (power : Power) (w : WithRam). on deviceInRam (made current.Ignoring) (unasked byte w power)) (λ w. refl) by
+    (λ (power : Power) (w : WithRam). on deviceInRam (currentSet current.Ignoring) (unasked byte w power)) (λ w. refl) by
   where
-    by : (power : Power) → TellsRam 4 (λ (w : WithRam). on deviceInRam (made current.Ignoring) (unasked byte w power))
+    by : (power : Power) → TellsRam 4 (λ (w : WithRam). on deviceInRam (currentSet current.Ignoring) (unasked byte w power))
     by power =
-        thenRam 4 0 (λ w. unasked byte w power) (on deviceInRam (made current.Ignoring)) (tells-unasked byte power)
-        (tells-none inRam inRam (on deviceInRam (made current.Ignoring)) (λ w. refl) (λ w. refl))
+        thenRam 4 0 (λ w. unasked byte w power) (on deviceInRam (currentSet current.Ignoring)) (tells-unasked byte power)
+        (tells-none inRam inRam (on deviceInRam (currentSet current.Ignoring)) (λ w. refl) (λ w. refl))
 tells-data byte current.Ignoring = still
 tells-data byte (current.Active a) = tells-kind byte a (a .kind)

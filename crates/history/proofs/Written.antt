@@ -21,7 +21,7 @@ use Rattle.chip.specs.Report.{logged}
 use Rattle.acts.specs.Reserved.{checked}
 use Rattle.acts.specs.Acts.{asleep, ramLost, sleeps, slept, hvReady, vciSensed}
 use Rattle.parameter.specs.Parameter.{registerTaken, writing, autoFilled, autoTaken, parameterTaken}
-use Rattle.data.specs.Data.{made, writingOn, surplus, upTo, planeFor, planeWritten, isInside, counterStepped, outOfRange, ramWritten, dataByKind, unasked, dataTaken}
+use Rattle.data.specs.Data.{currentSet, writingOn, surplus, atMost, planeFor, planeWritten, isInside, counterStepped, outOfRange, ramWritten, dataByKind, unasked, dataTaken}
 use Rattle.history.proofs.Blind.{plainRam, seenRam, Quiet, quiet-then, quiet-pick}
 use Rattle.history.proofs.Steps.{QuietLog, quiet-logged, quiet-checked, quiet-hv, quiet-vci, quiet-register, quiet-range}
 
@@ -108,8 +108,8 @@ quiet-surplus a =
     (quiet-log (logged (ExtraData (a .command))) (quiet-logged (ExtraData (a .command)))))
     (quiet-going a true (a .«range_reported»))
 
-quiet-up-to : (most byte : ℕ) (a : Active) → QuietRam (upTo most byte a)
-unfolding upTo
+quiet-up-to : (most byte : ℕ) (a : Active) → QuietRam (atMost most byte a)
+unfolding atMost
 quiet-up-to most byte a =
     let next = writingOn a (a .«extra_reported») (a .«range_reported») in
     pickRam (λ _. ltb (a .received) most) (λ w. next (parameterTaken (a .command) (a .received) byte w)) (surplus a) (λ w. refl)
@@ -165,9 +165,9 @@ unfolding dataTaken
 quiet-data byte current.Idle =
     record { blind = λ (w : WithRam). by (w .device .bus .power) .blind w; still = λ (w : WithRam). by (w .device .bus .power) .still w }
   where
-    by : (power : Power) → QuietRam (λ (w : WithRam). on deviceInRam (made current.Ignoring) (unasked byte w power))
+    by : (power : Power) → QuietRam (λ (w : WithRam). on deviceInRam (currentSet current.Ignoring) (unasked byte w power))
     by power =
-        thenRam (λ w. unasked byte w power) (on deviceInRam (made current.Ignoring)) (quiet-unasked byte power)
+        thenRam (λ w. unasked byte w power) (on deviceInRam (currentSet current.Ignoring)) (quiet-unasked byte power)
         (record { blind = λ w. refl; still = λ w. refl })
 quiet-data byte current.Ignoring = none
 quiet-data byte (current.Active a) = quiet-kind byte a (a .kind)

@@ -37,17 +37,17 @@ withReports t n flag =
     }
 
 -- the reports of a call
-abbrev pub told : List ℕ → Core → Tally → Call → Tally
-told otp c t call = withReports t (reportsOf otp c (t .flag) call) (flagAfter otp c (t .flag) call)
+abbrev pub afterReports : List ℕ → Core → Tally → Call → Tally
+afterReports otp c t call = withReports t (reportsOf otp c (t .flag) call) (flagAfter otp c (t .flag) call)
 
 -- by call; take_diagnostics alone takes the records that wait
 abbrev pub tallyCall : List ℕ → Core → Tally → Call → Tally
-tallyCall otp c t (advance time) = told otp c t (advance time)
-tallyCall otp c t (set-reset time low) = told otp c t (set-reset time low)
-tallyCall otp c t (write-command time command) = told otp c t (write-command time command)
-tallyCall otp c t (write-data time byte) = told otp c t (write-data time byte)
-tallyCall otp c t (read-data time) = told otp c t (read-data time)
-tallyCall otp c t (set-ambient register) = told otp c t (set-ambient register)
+tallyCall otp c t (advance time) = afterReports otp c t (advance time)
+tallyCall otp c t (set-reset time low) = afterReports otp c t (set-reset time low)
+tallyCall otp c t (write-command time command) = afterReports otp c t (write-command time command)
+tallyCall otp c t (write-data time byte) = afterReports otp c t (write-data time byte)
+tallyCall otp c t (read-data time) = afterReports otp c t (read-data time)
+tallyCall otp c t (set-ambient register) = afterReports otp c t (set-ambient register)
 tallyCall otp c t take-diagnostics = record { waiting = 0; dropped = t .dropped; flag = t .flag }
 
 -- over a list of accepted calls
@@ -65,19 +65,19 @@ reportsIn otp c flag [] = 0
 reportsIn otp c flag (call ∷ calls) = reportsOf otp c flag call + reportsIn otp (coreAfter otp c call) (flagAfter otp c flag call) calls
 
 -- a call that takes the records that wait
-abbrev pub takes : Call → Bool
-takes (advance time) = false
-takes (set-reset time low) = false
-takes (write-command time command) = false
-takes (write-data time byte) = false
-takes (read-data time) = false
-takes (set-ambient register) = false
-takes take-diagnostics = true
+abbrev pub takesRecords : Call → Bool
+takesRecords (advance time) = false
+takesRecords (set-reset time low) = false
+takesRecords (write-command time command) = false
+takesRecords (write-data time byte) = false
+takesRecords (read-data time) = false
+takesRecords (set-ambient register) = false
+takesRecords take-diagnostics = true
 
 -- none of the calls does
 abbrev pub Untaken : List Call → Type 0
 Untaken [] = Unit {0}
-Untaken (call ∷ calls) = (takes call ≡ false) × Untaken calls
+Untaken (call ∷ calls) = (takesRecords call ≡ false) × Untaken calls
 
 -- a world beside the tally
 pub record Tallies (w : World) (t : Tally) : Type 0 where

@@ -16,12 +16,14 @@ pub fn wide(byte: u8) -> u64
     byte as u64
 }
 
+// The low four bits of a byte.
 pub fn low_nibble(byte: u8) -> u8
     ensures { λ r. ⌜ r ≡ byte % 16 ⌝ }
 {
     byte & 0x0F
 }
 
+// Whether a number lies below 0.
 pub fn is_negative(z: i64) -> bool
     ensures { λ r. ⌜ r ≡ ltZ z (pos 0) ⌝ }
 {

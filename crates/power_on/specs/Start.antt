@@ -2,7 +2,6 @@
 use Prim.Native.Nat.{ℕ}
 use mathlib.Core.Bool.{Bool, true, false, not}
 use mathlib.Core.List.{List, [], _∷_, _++_}
-use lib.Dec.{eqb}
 use lib.IntN.{ℤ, pos}
 use lib.ListN.{length, replicate}
 use Rattle.numbers.specs.Choice.{pick}
@@ -21,6 +20,7 @@ use Rattle.device.specs.declared.Power.the-variants.{Running}
 use Rattle.device.specs.declared.Current.the-variants.{Idle}
 use Rattle.device.specs.declared.Deadline.the-variants.{Never}
 use Rattle.device.specs.declared.Ssd1677.{Ssd1677}
+use Rattle.world.specs.World.{World, world}
 use Rattle.registers.specs.Reset.{resetOf}
 use Rattle.guard_lengths.specs.declared.Lengths.{Lengths}
 use Rattle.guard_lengths.specs.Lengths.{lengthsFit, allLent}
@@ -60,9 +60,10 @@ unfoldable pub startAnswerOf : StartError → Answer
 startAnswerOf (Parameters error) = answerOf error
 startAnswerOf Buffer = refused 11 0
 
--- a number and its value as the answer that they stand for: 0 for an accepted start
-abbrev pub toldBy : StartRefusal → Answer
-toldBy r = pick (eqb (r .number) 0) accepted (refused (r .number) (r .value))
+-- an answer as its number and its value: 0 and 0 for an accepted start
+abbrev pub refusalOf : Answer → StartRefusal
+refusalOf accepted = record { number = 0; value = 0 }
+refusalOf (refused number value) = record { number = number; value = value }
 
 -- no display has been started
 abbrev pub noDisplay : Display
@@ -132,6 +133,12 @@ pub record Powered : Type 0 where
 -- the two as one
 abbrev pub powered : Ssd1677 → Buffers → Powered
 powered d b = record { device = d; buffers = b }
+
+-- the world that a start leaves
+abbrev pub worldOf : Powered → World
+worldOf p =
+    let b = p .buffers in
+    world (p .device) (b .states) (b .luts) (b .pixels) (b .blackWhite) (b .red) (b .gates) (b .log)
 
 -- the chip and its buffers at power-on
 unfoldable pub poweredUp : Ssd1677Config → Buffers → Powered

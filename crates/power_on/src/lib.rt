@@ -4,7 +4,7 @@ ghost use Prim.Native.Nat.{_≤_};
 ghost use lib.ListN.{length};
 ghost use Rattle.config.specs.Answer.{isAccepted, firstOf, answerOf};
 ghost use Rattle.gates_laws.specs.OneToOne.{Scanned};
-ghost use Rattle.power_on.specs.Start.{allTests, startAnswerOf, noDisplay, chipWith, unstarted, clean, cleared, buffers, powered, poweredUp, start, started, toldBy};
+ghost use Rattle.power_on.specs.Start.{allTests, startAnswerOf, noDisplay, chipWith, unstarted, clean, cleared, buffers, powered, poweredUp, start, started, refusalOf};
 use config::ConfigError;
 use config::Ssd1677Config;
 use device::Bus;
@@ -40,8 +40,9 @@ pub struct StartRefusal {
     pub value: usize,
 }
 
+// The same of the configuration and the table.
 fn number_of_parameters(error: ConfigError) -> StartRefusal
-    ensures { λ r. ⌜ toldBy r ≡ answerOf error ⌝ }
+    ensures { λ r. ⌜ r ≡ refusalOf (answerOf error) ⌝ }
 {
     match error {
         ConfigError::Accepted => StartRefusal {
@@ -81,7 +82,7 @@ fn number_of_parameters(error: ConfigError) -> StartRefusal
 
 // The number that a program tells of a start.
 pub fn number_of(error: StartError) -> StartRefusal
-    ensures { λ r. ⌜ toldBy r ≡ startAnswerOf error ⌝ }
+    ensures { λ r. ⌜ r ≡ refusalOf (startAnswerOf error) ⌝ }
 {
     match error {
         StartError::Parameters(parameters) => number_of_parameters(parameters),

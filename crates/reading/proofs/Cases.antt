@@ -25,12 +25,12 @@ use Rattle.world.specs.World.{WithLog, withLog}
 use Rattle.registers.specs.Read.{readRegister}
 use Rattle.busy.specs.Busy.{busyAt}
 use Rattle.chip.specs.Report.{logged}
-use Rattle.data.specs.Data.{made, counterStepped, outOfRange}
+use Rattle.data.specs.Data.{currentSet, counterStepped, outOfRange}
 use Rattle.reading.specs.Reading.{WithByte, withByte, oneReadMore, nothingRead, registerRead, chosen, ramFound, ramRead, byteRead, readByKind, byCurrent, readTaken}
 
 -- the command goes on with a read more
 abbrev on : Active → Bool → Bool → Ssd1677 → Ssd1677
-on a range nothing d = made (current.Active (oneReadMore a range nothing)) d
+on a range nothing d = currentSet (current.Active (oneReadMore a range nothing)) d
 
 pub steps : (d r : Ssd1677) (c : Counter) (g : Registers) → c ≡ advancedOf (d .regs .counter) (d .regs .window) (d .regs .entry)
     → g ≡ withCounter (d .regs) c → r ≡ withRegs d g → r ≡ counterStepped d

@@ -23,7 +23,7 @@ use Rattle.world.specs.World.{WithLog, withLog}
 use Rattle.registers.specs.Read.{readRegister}
 use Rattle.busy.specs.Busy.{busyAt}
 use Rattle.chip.specs.Report.{logged}
-use Rattle.data.specs.Data.{made, counterStepped, outOfRange}
+use Rattle.data.specs.Data.{currentSet, counterStepped, outOfRange}
 
 -- the state and the log with the byte read, or none: the line floats
 pub record WithByte : Type 0 where
@@ -49,7 +49,7 @@ oneReadMore a range nothing =
 
 -- a command of which a byte more was read
 abbrev pub readingOn : Active → Bool → Bool → WithLog → WithLog
-readingOn a range nothing k = withLog (made (current.Active (oneReadMore a range nothing)) (k .device)) (k .log)
+readingOn a range nothing k = withLog (currentSet (current.Active (oneReadMore a range nothing)) (k .device)) (k .log)
 
 -- 38 for a command that has nothing to read, once a command
 unfoldable pub nothingRead : Active → WithLog → WithByte

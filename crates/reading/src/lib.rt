@@ -6,7 +6,7 @@ ghost use Prim.Native.Nat.{ℕ};
 ghost use Rattle.ram.specs.Plane.{planeOf, readAt};
 ghost use Rattle.device.specs.declared.Current.the-variants as current;
 ghost use Rattle.world.specs.World.{withLog};
-ghost use Rattle.data.specs.Data.{made, counterStepped};
+ghost use Rattle.data.specs.Data.{currentSet, counterStepped};
 ghost use Rattle.reading.specs.Reading.{withByte, oneReadMore, nothingRead, registerRead, chosen, ramFound, ramRead, byteRead, byCurrent, readTaken};
 use device::Active;
 use device::Current;
@@ -37,7 +37,7 @@ fn count(active: Active, range: bool, nothing: bool) -> Active
 
 // The command stays the current one, with a read more.
 fn go_on(state: Ssd1677, active: Active, range: bool, nothing: bool) -> Ssd1677
-    ensures { λ r. ⌜ r ≡ made (current.Active (oneReadMore active range nothing)) state ⌝ }
+    ensures { λ r. ⌜ r ≡ currentSet (current.Active (oneReadMore active range nothing)) state ⌝ }
 {
     let next = count(active, range, nothing);
     let bus = part::set_current(state.bus, Current::Active(next));

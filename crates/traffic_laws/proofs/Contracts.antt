@@ -15,11 +15,11 @@ use Rattle.guard.specs.declared.Refusal.{Refusal}
 use Rattle.guard.specs.Refusals.{refusalNumber}
 use Rattle.query.specs.Outcome.{Outcome, outcome}
 use Rattle.power_on.specs.declared.StartError.{StartError}
-use Rattle.power_on.specs.Start.{Buffers, Powered, startAnswerOf}
+use Rattle.power_on.specs.Start.{Buffers, Powered, startAnswerOf, worldOf}
 use Rattle.event.specs.declared.Event.{Event}
 use Rattle.dispatch.specs.Dispatch.{Told}
 use Rattle.traffic.specs.Traffic.{Fed, fed, feeding, unread, made, eventAt, shortest}
-use Rattle.calls.specs.World.{Call, worldOf, called}
+use Rattle.calls.specs.World.{Call, called}
 use Rattle.world.specs.World.{World, world}
 use Rattle.history.specs.Reckon.{coreOf, reckon, firstReckoning}
 use Rattle.history.specs.Runs as runs

@@ -10,12 +10,12 @@ use Rattle.numbers.specs.Choice.{pick}
 use Rattle.config.specs.declared.Ssd1677Config.{Ssd1677Config}
 use Rattle.config.specs.Answer.{isAccepted}
 use Rattle.query.specs.Outcome.{Outcome, outcome}
-use Rattle.power_on.specs.Start.{Buffers, started}
+use Rattle.power_on.specs.Start.{Buffers, started, worldOf}
 use Rattle.event.specs.declared.Event.{Event}
 use Rattle.event.specs.declared.Event.the-variants.{Command, Data, Read, Reset, Advance}
 use Rattle.dispatch.specs.Dispatch.{dispatched}
 use Rattle.traffic.specs.Traffic.{fed, feeding, unread, made}
-use Rattle.calls.specs.World.{Call, worldOf, called, taken, leftBy, AllTyped}
+use Rattle.calls.specs.World.{Call, called, taken, leftBy, AllTyped}
 use Rattle.world.specs.World.{World}
 use Rattle.calls.specs.Sound.{Sound}
 use Rattle.calls.proofs.Accepted.{accepted-takes}

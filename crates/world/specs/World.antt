@@ -112,7 +112,7 @@ pub record Lens (S A : Type 0) : Type 0 where
 abbrev pub on : {S A : Type 0} → Lens S A → (A → A) → S → S
 on l f w = l .put w (f (l .get w))
 
--- the state alone, in what `set_reset` is lent
+-- the state alone, in what `set_reset` may change
 abbrev pub deviceInGlassLog : Lens WithGlassLog Ssd1677
 deviceInGlassLog = record { get = λ w. w .device; put = λ w d. withGlassLog d (w .states) (w .pixels) (w .log) }
 
@@ -162,13 +162,13 @@ ramInPlanes =
       put = λ w m. withPlanes (m .device) (w .states) (w .pixels) (m .blackWhite) (m .red) (m .log);
     }
 
--- ---- what each call is lent of the whole
+-- ---- what each call may change of the whole
 -- what `set_ambient` and `take_diagnostics` are lent
 abbrev pub deviceInWorld : Lens World Ssd1677
 deviceInWorld =
     record { get = λ w. w .device; put = λ w d. world d (w .states) (w .luts) (w .pixels) (w .blackWhite) (w .red) (w .gates) (w .log) }
 
--- what `advance` is lent: a move of the clock reports nothing, so not the log
+-- what `advance` may change: a move of the clock reports nothing, so not the log
 abbrev pub glassInWorld : Lens World WithGlass
 glassInWorld =
     record {
@@ -176,7 +176,7 @@ glassInWorld =
       put = λ w g. world (g .device) (g .states) (w .luts) (g .pixels) (w .blackWhite) (w .red) (w .gates) (w .log);
     }
 
--- what `set_reset` is lent, not the planes: a reset keeps the RAM; and what `read_data` may change, which only reads the planes
+-- what `set_reset` may change, not the planes: a reset keeps the RAM; and what `read_data` may, which only reads the planes
 abbrev pub glassLogInWorld : Lens World WithGlassLog
 glassLogInWorld =
     record {

@@ -7,7 +7,7 @@ use crate::ssd1677::reference::gdeq0426t82_otp;
 pub(super) type Setting = [u8; LUT_BYTES];
 pub(super) type Periods = [u64; 16];
 
-/// The frame period of the defaults, 20 ms.
+/// The frame period of the Rust's defaults, 20 ms.
 pub(super) const PERIOD: u64 = 20_000_000;
 /// The swing of the defaults, 6 V·s.
 pub(super) const SWING: u64 = 6_000_000_000_000;
