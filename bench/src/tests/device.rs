@@ -143,6 +143,15 @@ pub(super) fn rows(table: &Table) {
         row(&what, (ALONE, "command"), beyond(sides, rounds, Some(&ready), &commands));
     }
 
+    // A load of the waveform alone, looked for in the whole table after 12's look at it.
+    let loads = ready.then(|e| (0..ALONE / 10).for_each(|_| activated(e, 0x91, SECOND)));
+    let waits = ready.then(|e| (0..ALONE / 10).for_each(|_| activated(e, 0x81, SECOND)));
+    for count in [3, 16, 64] {
+        let sides = &mut Sides::new(with_entries(count));
+        let what = format!("a waveform looked for and loaded, table of {count} entries");
+        row(&what, (ALONE / 10, "load"), beyond(sides, rounds, Some(&waits), &loads));
+    }
+
     let framed = ready.then(|e| frame(e, random));
     let frames = framed.then(|e| (0..FRAMES).for_each(|_| frame(e, random)));
     row("both planes written whole", (FRAMES, "frame"), beyond(sides, rounds, Some(&framed), &frames));
