@@ -1,6 +1,6 @@
 // A data byte, once the clock has moved (mod.rs, `write_data` and `write_ram`).
 ghost use mathlib.Core.Path.{_≡_};
-ghost use mathlib.Core.Bool.{true};
+ghost use mathlib.Core.Bool.{true, false};
 ghost use mathlib.Core.List.{List};
 ghost use Prim.Native.Nat.{ℕ};
 ghost use lib.Dec.{eqb};
@@ -258,6 +258,34 @@ pub fn stream(state: Ssd1677, black_white: &mut [u8], red: &mut [u8], byte: u8) 
     }
 }
 
+// A byte that `stream` has not done: by what is current and by the kind of its command.
+pub fn write_other(
+    state: Ssd1677,
+    black_white: &mut [u8],
+    red: &mut [u8],
+    log: &mut [u8],
+    byte: u8,
+) -> Ssd1677
+    requires { ⌜ length (now log) ≡ 16384 ⌝ }
+    requires { ⌜ isStreamed state (now «black_white») (now red) (state .bus .current) ≡ false ⌝ }
+    ensures { λ r. ⌜ withRam r (now («black_white» .exit)) (now (red .exit)) (now (log .exit)) ≡ dataTaken byte (withRam state (now («black_white» .entry)) (now (red .entry)) (now (log .entry))) (state .bus .current) ⌝ }
+{
+    let bus = state.bus;
+    let current = bus.current;
+    match current {
+        Current::Active(active) => {
+            let kind = active.kind;
+            if is_stream(kind) {
+                return step_outside(state, log, active);
+            }
+            let most = most_of(kind);
+            up_to(state, black_white, red, log, active, most, byte)
+        }
+        Current::Idle => take_unasked(state, log, byte),
+        Current::Ignoring => state,
+    }
+}
+
 // A byte with D/C# high, written by the MCU.
 pub fn write(
     state: Ssd1677,
@@ -273,18 +301,5 @@ pub fn write(
     if step.done {
         return part::set_pointed(state, step.counter, step.bus);
     }
-    let bus = state.bus;
-    let current = bus.current;
-    match current {
-        Current::Active(active) => {
-            let kind = active.kind;
-            if is_stream(kind) {
-                return step_outside(state, log, active);
-            }
-            let most = most_of(kind);
-            up_to(state, black_white, red, log, active, most, byte)
-        }
-        Current::Idle => take_unasked(state, log, byte),
-        Current::Ignoring => state,
-    }
+    write_other(state, black_white, red, log, byte)
 }

@@ -39,7 +39,7 @@ pub fn write_data(
                 let state = part::set_pointed(moved, step.counter, step.bus);
                 return Answer { refusal, state };
             }
-            let state = data::write(moved, black_white, red, log, byte);
+            let state = data::write_other(moved, black_white, red, log, byte);
             return Answer { refusal, state };
         }
         let present = clock::advance(state, states, luts, pixels, time);

@@ -1,6 +1,6 @@
 -- `high::write_data` meets its contract.
 use Rattle.world.specs.World.{withRam, WithPlanes, withPlanes}
-use Rattle.data.proofs.Taken.{taken, not-taken}
+use Rattle.data.proofs.Taken.{taken, not-taken, still-not}
 use Rattle.high.proofs.Cases.{data-ready, data-log, data-moves, data-rests, data-refused}
 use borrow.Author.Needs.{needs}
 use Rattle.high.proofs.write_data.Statement.{statement}
@@ -44,10 +44,14 @@ returns c =
     let k = c .before .before .before .before .before .before .stream .ensures in
     data-rests (s .args .luts .now) (s .args .time) (s .args .byte) (given s) _ _ _ (c .before .before .before .before .before .before .before .before .before .before .before .before .before .before .before .planes-log-lent .ensures) (c .before .before .before .before .before .before .before .before .before .before .before .before .before .before .check .ensures) (c .before .before .before .before .before .before .before .before .before .before .before .before .before .is-accepted .ensures) m _ (withRam (c .set-pointed .result) _ _ (s .args .log .now)) (c .before .before .before .before .before .before .before .before .before .before .before .before .if1 .taken) (c .before .before .before .before .before .before .before .before .before .before .before .move-clock .ensures) (c .before .before .before .before .before .before .before .before .before .before .is-quiet .ensures) (c .before .before .before .before .before .before .before .before .before .if2 .taken) (taken (s .args .byte) m (s .args .black-white .now) (s .args .red .now) _ _ _ (k .0) (k .1) _ (s .args .log .now) (c .before .if3 .taken) (c .set-pointed .ensures))
 
-write-requires : tie.Need-write-requires
-write-requires c κs =
+write-other-requires : tie.Need-write-other-requires
+write-other-requires c κs =
     let s = c .before .before .before .before .before .before .before .before .before .before .before .before .before .before .before .before .before .before .before .before .before .before .before in
-    data-log (s .args .luts .now) (s .args .time) (s .args .byte) (given s) _ _ _ (c .before .before .before .before .before .before .before .before .before .before .before .before .before .before .before .before .before .planes-log-lent .ensures) (c .before .before .before .before .before .before .before .before .before .before .before .before .before .before .before .before .check .ensures) (c .before .before .before .before .before .before .before .before .before .before .before .before .before .before .before .is-accepted .ensures) (c .before .before .before .before .before .before .before .before .before .before .before .before .before .before .if1 .taken)
+    let m = c .before .before .before .before .before .before .before .before .before .before .before .before .before .move-clock .result in
+    let k = c .before .before .before .before .before .before .before .before .stream in (
+      data-log (s .args .luts .now) (s .args .time) (s .args .byte) (given s) _ _ _ (c .before .before .before .before .before .before .before .before .before .before .before .before .before .before .before .before .before .planes-log-lent .ensures) (c .before .before .before .before .before .before .before .before .before .before .before .before .before .before .before .before .check .ensures) (c .before .before .before .before .before .before .before .before .before .before .before .before .before .before .before .is-accepted .ensures) (c .before .before .before .before .before .before .before .before .before .before .before .before .before .before .if1 .taken),
+      still-not (s .args .byte) m (s .args .black-white .now) (s .args .red .now) (k .result) (k .last .1 .0) (k .last .1 .1 .0) (k .ensures .0) (k .ensures .1) (c .before .before .before .if3 .left),
+    )
 
 same-length-3 : tie.Need-same-length-3
 same-length-3 c = search needs
@@ -63,15 +67,15 @@ returns-2 c =
     let s = c .before .before .before .before .before .before .before .before .before .before .before .before .before .before .before .before .before .before .before .before .before .before .before .before .before .before .before .before .before .before in
     let m = c .before .before .before .before .before .before .before .before .before .before .before .before .before .before .before .before .before .before .before .before .move-clock .result in
     let k = c .before .before .before .before .before .before .before .before .before .before .before .before .before .before .before .stream .ensures in
-    data-rests (s .args .luts .now) (s .args .time) (s .args .byte) (given s) _ _ _ (c .before .before .before .before .before .before .before .before .before .before .before .before .before .before .before .before .before .before .before .before .before .before .before .before .planes-log-lent .ensures) (c .before .before .before .before .before .before .before .before .before .before .before .before .before .before .before .before .before .before .before .before .before .before .before .check .ensures) (c .before .before .before .before .before .before .before .before .before .before .before .before .before .before .before .before .before .before .before .before .before .before .is-accepted .ensures) m _ _ (c .before .before .before .before .before .before .before .before .before .before .before .before .before .before .before .before .before .before .before .before .before .if1 .taken) (c .before .before .before .before .before .before .before .before .before .before .before .before .before .before .before .before .before .before .before .before .move-clock .ensures) (c .before .before .before .before .before .before .before .before .before .before .before .before .before .before .before .before .before .before .before .is-quiet .ensures) (c .before .before .before .before .before .before .before .before .before .before .before .before .before .before .before .before .before .before .if2 .taken) (not-taken (s .args .byte) m (s .args .black-white .now) (s .args .red .now) _ _ _ (k .0) (k .1) (c .before .before .before .before .before .before .before .before .before .before .if3 .left) _ (s .args .log .now) (c .before .before .before .before .before .before .write .ensures))
+    data-rests (s .args .luts .now) (s .args .time) (s .args .byte) (given s) _ _ _ (c .before .before .before .before .before .before .before .before .before .before .before .before .before .before .before .before .before .before .before .before .before .before .before .before .planes-log-lent .ensures) (c .before .before .before .before .before .before .before .before .before .before .before .before .before .before .before .before .before .before .before .before .before .before .before .check .ensures) (c .before .before .before .before .before .before .before .before .before .before .before .before .before .before .before .before .before .before .before .before .before .before .is-accepted .ensures) m _ _ (c .before .before .before .before .before .before .before .before .before .before .before .before .before .before .before .before .before .before .before .before .before .if1 .taken) (c .before .before .before .before .before .before .before .before .before .before .before .before .before .before .before .before .before .before .before .before .move-clock .ensures) (c .before .before .before .before .before .before .before .before .before .before .before .before .before .before .before .before .before .before .before .is-quiet .ensures) (c .before .before .before .before .before .before .before .before .before .before .before .before .before .before .before .before .before .before .if2 .taken) (not-taken (s .args .byte) m (s .args .black-white .now) (s .args .red .now) _ _ _ (k .0) (k .1) (c .before .before .before .before .before .before .before .before .before .before .if3 .left) _ (s .args .log .now) (c .before .before .before .before .before .before .write-other .ensures))
 
 advance-requires : tie.Need-advance-requires
 advance-requires c κs =
     let s = c .before .before .before .before .before .before .before .before .before .before .before .before .before .before in
     data-ready (s .args .luts .now) (s .args .time) (s .args .byte) (given s) _ _ _ (c .before .before .before .before .before .before .before .before .planes-log-lent .ensures) (c .before .before .before .before .before .before .before .check .ensures) (c .before .before .before .before .before .before .is-accepted .ensures) (c .before .before .before .before .before .if1 .taken)
 
-write-requires-2 : tie.Need-write-requires-2
-write-requires-2 c κs =
+write-requires : tie.Need-write-requires
+write-requires c κs =
     let s = c .before .before .before .before .before .before .before .before .before .before .before .before .before .before .before .before .before .before .before .before .before in
     data-log (s .args .luts .now) (s .args .time) (s .args .byte) (given s) _ _ _ (c .before .before .before .before .before .before .before .before .before .before .before .before .before .before .before .planes-log-lent .ensures) (c .before .before .before .before .before .before .before .before .before .before .before .before .before .before .check .ensures) (c .before .before .before .before .before .before .before .before .before .before .before .before .before .is-accepted .ensures) (c .before .before .before .before .before .before .before .before .before .before .before .before .if1 .taken)
 
@@ -93,7 +97,7 @@ same-length-10 c = search needs
 returns-3 : tie.Need-returns-3
 returns-3 c =
     let s = c .before .before .before .before .before .before .before .before .before .before .before .before .before .before .before .before .before .before .before .before .before .before .before .before .before .before .before .before in
-    data-moves (s .args .luts .now) (s .args .time) (s .args .byte) (given s) _ _ _ (c .before .before .before .before .before .before .before .before .before .before .before .before .before .before .before .before .before .before .before .before .before .before .planes-log-lent .ensures) (c .before .before .before .before .before .before .before .before .before .before .before .before .before .before .before .before .before .before .before .before .before .check .ensures) (c .before .before .before .before .before .before .before .before .before .before .before .before .before .before .before .before .before .before .before .before .is-accepted .ensures) _ _ (c .before .before .before .before .before .before .before .before .before .before .before .before .before .before .before .before .before .before .before .if1 .taken) (c .before .before .before .before .before .before .before .before .before .before .before .before .before .advance .ensures) (c .before .before .before .before .before .before .write2 .ensures)
+    data-moves (s .args .luts .now) (s .args .time) (s .args .byte) (given s) _ _ _ (c .before .before .before .before .before .before .before .before .before .before .before .before .before .before .before .before .before .before .before .before .before .before .planes-log-lent .ensures) (c .before .before .before .before .before .before .before .before .before .before .before .before .before .before .before .before .before .before .before .before .before .check .ensures) (c .before .before .before .before .before .before .before .before .before .before .before .before .before .before .before .before .before .before .before .before .is-accepted .ensures) _ _ (c .before .before .before .before .before .before .before .before .before .before .before .before .before .before .before .before .before .before .before .if1 .taken) (c .before .before .before .before .before .before .before .before .before .before .before .before .before .advance .ensures) (c .before .before .before .before .before .before .write .ensures)
 
 returns-4 : tie.Need-returns-4
 returns-4 c =
@@ -114,13 +118,13 @@ write-data-spec =
     same-length
     same-length-2
     returns
-    write-requires
+    write-other-requires
     same-length-3
     same-length-4
     same-length-5
     returns-2
     advance-requires
-    write-requires-2
+    write-requires
     same-length-6
     same-length-7
     same-length-8
