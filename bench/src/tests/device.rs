@@ -103,10 +103,12 @@ fn long_waveform() -> Ssd1677Config {
     config
 }
 
-/// The reference's waveforms over and over, so many.
+/// So many entries, the first alone of mode One and for the temperature after a reset: it is found last.
 fn with_entries(count: usize) -> Ssd1677Config {
     let mut config = Ssd1677Config::gdeq0426t82();
-    config.otp = config.otp.iter().cycle().take(count).cloned().collect();
+    let (found, other) = (config.otp[1].clone(), config.otp[2].clone());
+    config.otp = vec![other; count];
+    config.otp[0] = found;
     config
 }
 

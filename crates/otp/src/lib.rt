@@ -15,7 +15,7 @@ use config::Temperature;
 
 pub const ENTRY_BYTES: usize = 118;
 
-// A winter and a summer waveform for each band of five degrees (#106).
+// By SCOPE, OTP table (#106).
 pub const MOST_ENTRIES: usize = 64;
 
 // Two bytes of the table, high first.
