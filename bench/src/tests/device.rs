@@ -103,6 +103,15 @@ fn long_waveform() -> Ssd1677Config {
     config
 }
 
+/// So many entries, the first alone of mode One and for the temperature after a reset: it is found last.
+fn with_entries(count: usize) -> Ssd1677Config {
+    let mut config = Ssd1677Config::gdeq0426t82();
+    let (found, other) = (config.otp[1].clone(), config.otp[2].clone());
+    config.otp = vec![other; count];
+    config.otp[0] = found;
+    config
+}
+
 pub(super) fn rows(table: &Table) {
     let random = &mut Random::of_place(3, 0);
     let sides = &mut Sides::new(Ssd1677Config::gdeq0426t82());
@@ -127,6 +136,23 @@ pub(super) fn rows(table: &Table) {
         }
     });
     row("a RAM byte of 0x24 alone, between clock moves", (ALONE, "byte"), beyond(sides, rounds, Some(&moves), &alone));
+
+    // 0x7F, which does nothing: what is left is the call, and 12's look at every entry (#106).
+    let commands = ready.then(|e| (0..ALONE).for_each(|_| e.command(0x7F, &[])));
+    for count in [3, 16, 64] {
+        let sides = &mut Sides::new(with_entries(count));
+        let what = format!("a command alone, table of {count} entries");
+        row(&what, (ALONE, "command"), beyond(sides, rounds, Some(&ready), &commands));
+    }
+
+    // A load of the waveform alone, looked for in the whole table after 12's look at it.
+    let loads = ready.then(|e| (0..ALONE / 10).for_each(|_| activated(e, 0x91, SECOND)));
+    let waits = ready.then(|e| (0..ALONE / 10).for_each(|_| activated(e, 0x81, SECOND)));
+    for count in [3, 16, 64] {
+        let sides = &mut Sides::new(with_entries(count));
+        let what = format!("a waveform looked for and loaded, table of {count} entries");
+        row(&what, (ALONE / 10, "load"), beyond(sides, rounds, Some(&waits), &loads));
+    }
 
     let framed = ready.then(|e| frame(e, random));
     let frames = framed.then(|e| (0..FRAMES).for_each(|_| frame(e, random)));

@@ -32,7 +32,7 @@ fn bound(table: &mut [u8; TABLE], at: usize, register: u64) {
 
 // An entry of a question: mode, lower and upper bound.
 fn entry(table: &mut [u8; TABLE], i: usize, numbers: &[u64]) {
-    if i < 17 {
+    if i < 65 {
         set(table, 118 * i, take::low(take::after(numbers, 3, 3 * i)));
         bound(table, 118 * i + 2, take::after(numbers, 4, 3 * i));
         bound(table, 118 * i + 4, take::after(numbers, 5, 3 * i));
@@ -68,7 +68,7 @@ fn found(table: &[u8; TABLE], length: usize, mode: DisplayMode, register: u16) -
 fn find_waveform(text: &mut [u8; text::ROOM], at: usize, numbers: &[u64]) -> usize {
     let count = take::byte(numbers, 2) as usize;
     let mut table = [0u8; TABLE];
-    if 17 < count {
+    if 65 < count {
         return at;
     }
     entries(&mut table, count, numbers);

@@ -3,7 +3,7 @@ use crate::answer;
 use crate::text;
 
 // Numbers that a question holds at most.
-pub const NUMBERS: usize = 2304;
+pub const NUMBERS: usize = 8192;
 
 // Bytes of a name at most.
 pub const NAME: usize = 32;

@@ -15,9 +15,9 @@ use Rattle.otp.specs.Search.{anyOf}
 abbrev pub entryBytes : ℕ
 entryBytes = 118
 
--- the entries that a table holds at most
+-- the entries that a table holds at most (SCOPE, OTP table; #106)
 abbrev pub mostEntries : ℕ
-mostEntries = 16
+mostEntries = 64
 
 -- the entries of a table
 abbrev pub entryCount : List ℕ → ℕ

@@ -15,7 +15,8 @@ use config::Temperature;
 
 pub const ENTRY_BYTES: usize = 118;
 
-pub const MOST_ENTRIES: usize = 16;
+// By SCOPE, OTP table (#106).
+pub const MOST_ENTRIES: usize = 64;
 
 // Two bytes of the table, high first.
 fn pair(otp: &[u8], at: usize) -> u16

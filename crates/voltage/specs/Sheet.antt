@@ -1,4 +1,4 @@
--- The printed sheet of VSH1 and VSH2, as src/sheet.rt has it (#103): a figure for each code byte.
+-- What a figure of the sheet of VSH1 and VSH2 says; src/sheet.rt has the sheet, a figure for each code byte (#103).
 use Prim.Native.Nat.{ℕ}
 use lib.Dec.{eqb}
 use lib.IntN.{pos}

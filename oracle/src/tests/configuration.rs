@@ -10,7 +10,7 @@ pub(super) const FIELDS: usize = 53;
 /// Mode, provenance, two bounds of two bytes each, then the setting.
 pub(super) const ENTRY_BYTES: usize = 6 + LUT_BYTES;
 /// The entries that the port's lent table may hold.
-pub(super) const MAX_ENTRIES: usize = 16;
+pub(super) const MAX_ENTRIES: usize = 64;
 
 /// The largest number that configuration field `field` holds.
 pub(super) fn largest(field: usize) -> u64 {

@@ -180,12 +180,12 @@ fn prepare(script: &mut Script) {
     }
 }
 
-/// Tables of up to sixteen entries whose ranges overlap, asked for temperatures at their bounds.
+/// Tables of up to 64 entries whose ranges overlap, asked for temperatures at their bounds.
 pub(super) fn waveforms(script: &mut Script) {
     let panel = Geometry::small(&mut script.random);
     let mut configuration = configurations::reference(panel);
     configuration.otp.clear();
-    let entries = script.random.pick(&[1, 2, 2, 3, 3, 4, 5, 16]);
+    let entries = script.random.pick(&[1, 2, 3, 5, 16, 17, 40, 64]);
     for place in 0..entries {
         let mut setting = settings::setting(&mut script.random);
         settings::make_listed(&mut setting, &mut script.random);

@@ -28,7 +28,7 @@ fn find_waveform_answer(arguments: &mut Arguments) -> Option<Vec<i128>> {
 }
 
 fn find_waveform_question(_: u64, random: &mut Random) -> Vec<i128> {
-    let entries = random.pick(&[0, 1, 2, 3, 5, 15, 16, 17]);
+    let entries = random.pick(&[0, 1, 2, 16, 17, 63, 64, 65]);
     let edges = [
         0x800, 0x801, 0xFFE, 0xFFF, 0, 1, 399, 400, 401, 0x7FE, 0x7FF,
     ];
