@@ -117,6 +117,7 @@ fn group_of(setting: &[u8; 112], frame_period: &[u64; 16], group: usize) -> Grou
 pub fn from_setting(setting: &[u8; 112], frame_period: &[u64; 16]) -> Waveform
     ensures { λ r. ⌜ r ≡ waveformOf (now (setting .entry)) (now («frame_period» .entry)) ⌝ }
 {
+    let levels = Levels::from_setting(setting);
     let groups = [
         group_of(setting, frame_period, 0),
         group_of(setting, frame_period, 1),
@@ -129,6 +130,5 @@ pub fn from_setting(setting: &[u8; 112], frame_period: &[u64; 16]) -> Waveform
         group_of(setting, frame_period, 8),
         group_of(setting, frame_period, 9),
     ];
-    let levels = Levels::from_setting(setting);
     Waveform { groups, levels }
 }

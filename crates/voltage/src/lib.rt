@@ -21,22 +21,56 @@ pub fn is_voltage(millivolts: Millivolts) -> bool
     }
 }
 
-// The sheet's figure for a code of VSH1 or VSH2.
-fn look_up(code: u8) -> u16
-    ensures { λ r. ⌜ figure r ≡ sourceVoltage code ⌝ }
+// The sheet's figures for two codes.
+struct Figures {
+    first: u16,
+    second: u16,
+}
+
+// Two at once, since the sheet is laid on the stack for each call.
+fn look_up(first: u8, second: u8) -> Figures
+    ensures { λ r. ⌜ figure (r .first) ≡ sourceVoltage first ⌝ }
+    ensures { λ r. ⌜ figure (r .second) ≡ sourceVoltage second ⌝ }
 {
-    sheet::SOURCE_MILLIVOLTS[code as usize]
+    let sheet = sheet::SOURCE_MILLIVOLTS;
+    Figures {
+        first: sheet[first as usize],
+        second: sheet[second as usize],
+    }
+}
+
+// What a figure of the sheet says.
+fn told(found: u16) -> Millivolts
+    ensures { λ r. ⌜ r ≡ figure found ⌝ }
+{
+    if found != sheet::UNLISTED {
+        return Millivolts::Listed(found as i64);
+    }
+    Millivolts::Unlisted
 }
 
 // VSH1 or VSH2 (0x04, bytes A and B).
 pub fn source_millivolts(code: u8) -> Millivolts
     ensures { λ r. ⌜ r ≡ sourceVoltage code ⌝ }
 {
-    let found = look_up(code);
-    if found != sheet::UNLISTED {
-        return Millivolts::Listed(found as i64);
+    told(look_up(code, code).first)
+}
+
+// VSH1 and VSH2 of one setting.
+pub struct SourcePair {
+    pub vsh1: Millivolts,
+    pub vsh2: Millivolts,
+}
+
+pub fn source_pair(vsh1: u8, vsh2: u8) -> SourcePair
+    ensures { λ r. ⌜ r .vsh1 ≡ sourceVoltage vsh1 ⌝ }
+    ensures { λ r. ⌜ r .vsh2 ≡ sourceVoltage vsh2 ⌝ }
+{
+    let figures = look_up(vsh1, vsh2);
+    SourcePair {
+        vsh1: told(figures.first),
+        vsh2: told(figures.second),
     }
-    Millivolts::Unlisted
 }
 
 // VSL (0x04, byte C).

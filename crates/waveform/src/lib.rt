@@ -28,9 +28,12 @@ impl Levels {
     pub fn from_setting(setting: &[u8; 112]) -> Levels
         ensures { λ r. ⌜ r ≡ levelsOf (now (setting .entry)) ⌝ }
     {
+        let sources = voltage::source_pair(setting[106], setting[107]);
+        let vsh1 = sources.vsh1;
+        let vsh2 = sources.vsh2;
         Levels {
-            vsh1: or_zero(voltage::source_millivolts(setting[106])),
-            vsh2: or_zero(voltage::source_millivolts(setting[107])),
+            vsh1: or_zero(vsh1),
+            vsh2: or_zero(vsh2),
             vsl: or_zero(voltage::vsl_millivolts(setting[108])),
         }
     }

@@ -42,8 +42,7 @@ from-setting-requires c κs = search needs
 returns : tie.Need-returns
 unfolding waveformOf tab
 returns c =
-    let c9 = c .before in
-    let c8 = c9 .before in
+    let c8 = c .before in
     let c7 = c8 .before in
     let c6 = c7 .before in
     let c5 = c6 .before in
@@ -53,14 +52,15 @@ returns c =
     let c1 = c2 .before in
     let c0 = c1 .before in
     λ i. record {
-      groups = c0 .group-of .ensures i ∷ c1 .group-of2 .ensures i ∷ c2 .group-of3 .ensures i ∷ c3 .group-of4 .ensures i ∷ c4 .group-of5 .ensures i ∷ c5 .group-of6 .ensures i ∷ c6 .group-of7 .ensures i ∷ c7 .group-of8 .ensures i ∷ c8 .group-of9 .ensures i ∷ c9 .group-of10 .ensures i ∷ [];
-      levels = c .from-setting .ensures i;
+      groups = c0 .group-of .ensures i ∷ c1 .group-of2 .ensures i ∷ c2 .group-of3 .ensures i ∷ c3 .group-of4 .ensures i ∷ c4 .group-of5 .ensures i ∷ c5 .group-of6 .ensures i ∷ c6 .group-of7 .ensures i ∷ c7 .group-of8 .ensures i ∷ c8 .group-of9 .ensures i ∷ c .group-of10 .ensures i ∷ [];
+      levels = c0 .before .from-setting .ensures i;
     }
 
 pub from-setting-spec : {M : Type 1} → statement M
 from-setting-spec =
     tie.close
     (tie.spec
+    from-setting-requires
     group-of-requires
     group-of-requires-2
     group-of-requires-3
@@ -71,5 +71,4 @@ from-setting-spec =
     group-of-requires-8
     group-of-requires-9
     group-of-requires-10
-    from-setting-requires
     returns)

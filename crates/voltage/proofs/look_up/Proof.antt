@@ -46,15 +46,21 @@ follows : (code : ℕ) → code < 256 → figure (getD sheet code 0) ≡ sourceV
 unfolding sheet right same voltage tab
 follows code h = is-same (figure (getD sheet code 0)) (sourceVoltage code) (at right sheet tt code h)
 
-mul-result : tie.Need-mul-result
-mul-result c = search needs
+mul-t6 : tie.Need-mul-t6
+mul-t6 c = search needs
 
-array-read-result : tie.Need-array-read-result
-array-read-result c = search needs
+array-read-t9 : tie.Need-array-read-t9
+array-read-t9 c = search needs
+
+mul-t11 : tie.Need-mul-t11
+mul-t11 c = search needs
+
+array-read-t14 : tie.Need-array-read-t14
+array-read-t14 c = search needs
 
 returns : tie.Need-returns
 unfolding sheet tab
-returns c = follows (c .args .code) (search needs)
+returns c = (follows (c .args .first) (search needs), follows (c .args .second) (search needs))
 
 pub look-up-spec : {M : Type 1} → statement M
-look-up-spec = tie.close (tie.spec mul-result array-read-result returns)
+look-up-spec = tie.close (tie.spec mul-t6 array-read-t9 mul-t11 array-read-t14 returns)
