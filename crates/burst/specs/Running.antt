@@ -1,14 +1,14 @@
 -- Bytes of RAM data one after the other, up to the first event that is more than such a byte (mod.rs, `write_data` and `write_ram`).
-use Prim.Native.Nat.{ℕ, zero, suc, _+_, min, max}
+use Prim.Native.Nat.{ℕ, zero, suc, _+_, max}
 use mathlib.Core.Bool.{Bool, _&&_}
 use mathlib.Core.List.{List}
 use lib.Dec.{eqb}
 use lib.ListN.{getD}
 use Rattle.numbers.specs.Choice.{pick}
-use Rattle.numbers.specs.Saturation.{largest}
 use Rattle.counter.specs.Counter.{advancedOf}
 use Rattle.ram.specs.Plane.{wroteAt, writtenAt}
 use Rattle.moment.specs.Moments.{quietAt}
+use Rattle.data.specs.Data.{oneMore}
 use Rattle.burst.specs.declared.Course.{Course}
 use Rattle.burst.specs.declared.Reached.{Reached}
 
@@ -16,13 +16,13 @@ use Rattle.burst.specs.declared.Reached.{Reached}
 abbrev pub takes : Course → ℕ → ℕ → Reached → List ℕ → Bool
 takes c kind time s plane = (eqb kind 2 && quietAt (c .running) (c .ends) (c .«busy_until») (max (s .latest) time)) && wroteAt plane (s .counter)
 
--- after the byte: the later clock, the counter's step, and one byte more, the count stopping at 65,535 (mod.rs)
+-- after the byte: the later clock, the counter's step, and one byte more
 abbrev pub onward : Course → ℕ → Reached → Reached
 onward c time s =
     record {
       latest = max (s .latest) time;
       counter = advancedOf (s .counter) (c .window) (c .entry);
-      received = min (s .received + 1) (largest 16);
+      received = oneMore (s .received);
     }
 
 -- what an event does where it is such a byte; another does nothing here

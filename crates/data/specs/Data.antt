@@ -24,13 +24,17 @@ use Rattle.world.specs.World.{WithLog, WithRam, withRam, on, deviceInRam, logIn
 use Rattle.chip.specs.Report.{logged}
 use Rattle.parameter.specs.Parameter.{parameterTaken}
 
--- the command with one byte more, the count stopping at 65,535 (mod.rs), and what it has reported
+-- one more of a command's bytes or reads, the count stopping at 65,535 (mod.rs)
+abbrev pub oneMore : ℕ → ℕ
+oneMore count = min (count + 1) (largest 16)
+
+-- the command with one byte more, and what it has reported
 abbrev pub oneByteMore : Active → Bool → Bool → Active
 oneByteMore a extra range =
     record {
       command = a .command;
       kind = a .kind;
-      received = min (a .received + 1) (largest 16);
+      received = oneMore (a .received);
       read = a .read;
       «extra_reported» = extra;
       «range_reported» = range;

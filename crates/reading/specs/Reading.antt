@@ -1,10 +1,9 @@
 -- A byte that the MCU reads, once the clock has moved (mod.rs, `read_data` and `read_byte`).
-use Prim.Native.Nat.{ℕ, _+_, min}
+use Prim.Native.Nat.{ℕ}
 use mathlib.Core.Bool.{Bool, true, false}
 use mathlib.Core.List.{List}
 use lib.Dec.{eqb}
 use Rattle.numbers.specs.Choice.{pick}
-use Rattle.numbers.specs.Saturation.{largest}
 use Rattle.ram.specs.declared.Byte.{Byte}
 use Rattle.ram.specs.declared.Byte.the-variants.{Is, Nothing}
 use Rattle.ram.specs.declared.Plane.{Plane}
@@ -23,7 +22,7 @@ use Rattle.world.specs.World.{WithLog, withLog}
 use Rattle.registers.specs.Read.{readRegister}
 use Rattle.busy.specs.Busy.{busyAt}
 use Rattle.chip.specs.Report.{logged}
-use Rattle.data.specs.Data.{currentSet, counterStepped, outOfRange}
+use Rattle.data.specs.Data.{oneMore, currentSet, counterStepped, outOfRange}
 
 -- the state and the log with the byte read, or none: the line floats
 pub record WithByte : Type 0 where
@@ -34,14 +33,14 @@ pub record WithByte : Type 0 where
 abbrev pub withByte : WithLog → Byte → WithByte
 withByte k b = record { left = k; byte = b }
 
--- the command with one read more, the count stopping at 65,535 (mod.rs), and what it has reported
+-- the command with one read more, and what it has reported
 abbrev pub oneReadMore : Active → Bool → Bool → Active
 oneReadMore a range nothing =
     record {
       command = a .command;
       kind = a .kind;
       received = a .received;
-      read = min (a .read + 1) (largest 16);
+      read = oneMore (a .read);
       «extra_reported» = a .«extra_reported»;
       «range_reported» = range;
       «nothing_reported» = nothing;
