@@ -25,13 +25,13 @@ pub fn idle(group: Group) -> bool
     (frames[0] == 0) & (frames[1] == 0) & (frames[2] == 0) & (frames[3] == 0)
 }
 
-// The source's code in a phase.
-fn code_for(drive: Drive, group: Group, phase: usize) -> u8
+// The source's code in a phase. A group's codes go in by themselves: a whole group would be copied for one byte.
+fn code_for(drive: Drive, codes: [u8; 20], phase: usize) -> u8
     requires { ⌜ (phase < 4) × Takes drive ⌝ }
-    ensures { λ r. ⌜ r ≡ codeFor drive group phase ⌝ }
+    ensures { λ r. ⌜ r ≡ codeFor drive codes phase ⌝ }
 {
     match drive {
-        Drive::Lut(lut) => group.codes[4 * lut + phase],
+        Drive::Lut(lut) => codes[4 * lut + phase],
         Drive::Fixed(code) => code,
     }
 }
@@ -42,8 +42,9 @@ pub fn phase_of(driving: Driving, group: Group, phase: usize) -> Phase
 {
     let levels = driving.levels;
     let drive = driving.drive;
-    let source = levels.source(code_for(drive, group, phase));
-    let vcom = levels.vcom_swing(group.codes[16 + phase]);
+    let codes = group.codes;
+    let source = levels.source(code_for(drive, codes, phase));
+    let vcom = levels.vcom_swing(codes[16 + phase]);
     let millivolts = source - vcom;
     Phase {
         frames: numbers::wide(group.frames[phase]),

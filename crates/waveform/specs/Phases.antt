@@ -13,10 +13,10 @@ use Rattle.waveform.specs.declared.Drive.{Drive}
 use Rattle.waveform.specs.declared.Drive.the-variants.{Lut, Fixed}
 use Rattle.waveform.specs.Voltages.{sourceLevel, vcomSwing}
 
--- the source's code in phase k of a group: that of the LUT, or the fixed one; LUT 4's is read as a source level too, so 3 is VSH2 there
-abbrev pub codeFor : Drive → Group → ℕ → ℕ
-codeFor (Lut lut) g k = getD (g .codes) (4 * lut + k) 0
-codeFor (Fixed code) g k = code
+-- the source's code in phase k of a group, by its codes: that of the LUT, or the fixed one; LUT 4's is read as a source level too, so 3 is VSH2 there
+abbrev pub codeFor : Drive → List ℕ → ℕ → ℕ
+codeFor (Lut lut) codes k = getD codes (4 * lut + k) 0
+codeFor (Fixed code) codes k = code
 
 -- LUTs 0 to 4; of a fixed code the low two bits count
 abbrev pub Takes : Drive → Type 0
@@ -29,7 +29,7 @@ phaseOf l d g k =
     record {
       frames = getD (g .frames) k 0;
       «frame_ns» = g .«frame_ns»;
-      millivolts = sourceLevel l (codeFor d g k) -ℤ vcomSwing l (getD (g .codes) (16 + k) 0);
+      millivolts = sourceLevel l (codeFor d (g .codes) k) -ℤ vcomSwing l (getD (g .codes) (16 + k) 0);
     }
 
 -- a phase of 0 frames is passed over

@@ -20,14 +20,14 @@ mul-result c = omega (arith, lut-below c)
 add-result : tie.Need-add-result
 add-result c = omega (arith, lut-below c)
 
-element-copy-out-result : tie.Need-element-copy-out-result
-element-copy-out-result c = omega (arith, lut-below c)
+array-read-result : tie.Need-array-read-result
+array-read-result c = omega (arith, lut-below c)
 
 enum-known-drive-2 : tie.Need-enum-known-drive-2
 enum-known-drive-2 c = search needs
 
 returns : tie.Need-returns
-returns c = let s = c .before .before .before .before .args in sym (ap (λ (d : Drive). codeFor d (s .t2) (s .phase)) (c .before .before .drive .given .1))
+returns c = let s = c .before .before .before .args in sym (ap (λ (d : Drive). codeFor d (s .t2) (s .phase)) (c .before .drive .given .1))
 
 returns-2 : tie.Need-returns-2
 returns-2 c = search needs
@@ -39,7 +39,7 @@ code-for-spec =
     enum-known-drive
     mul-result
     add-result
-    element-copy-out-result
+    array-read-result
     enum-known-drive-2
     returns
     returns-2)

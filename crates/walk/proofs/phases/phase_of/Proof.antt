@@ -15,8 +15,8 @@ abbrev start : tie.After-vcom-swing → tie.Start
 start c = c .before .before .before .before .before
 
 -- the two levels, read back
-source-is : (c : tie.After-vcom-swing) → rd (c .before .before .source .result) ≡ sourceLevel (start c .args .driving .levels) (codeFor (start c .args .driving .drive) (start c .args .t2) (start c .args .phase))
-source-is c = got (c .before .before .source .ok) (c .before .before .source .ensures ∙ ap (sourceLevel (start c .args .driving .levels)) (c .before .before .before .code-for .ensures))
+source-is : (c : tie.After-vcom-swing) → rd (c .before .source .result) ≡ sourceLevel (start c .args .driving .levels) (codeFor (start c .args .driving .drive) (start c .args .t2 .codes) (start c .args .phase))
+source-is c = got (c .before .source .ok) (c .before .source .ensures ∙ ap (sourceLevel (start c .args .driving .levels)) (c .before .before .code-for .ensures))
 
 vcom-is : (c : tie.After-vcom-swing) → rd (c .vcom-swing .result) ≡ vcomSwing (start c .args .driving .levels) (getD (start c .args .t2 .codes) (16 + start c .args .phase) 0)
 vcom-is c = got (c .vcom-swing .ok) (c .vcom-swing .ensures)
@@ -30,8 +30,8 @@ source-requires c κs = search needs
 add-vcom-swing : tie.Need-add-vcom-swing
 add-vcom-swing c = search needs
 
-element-copy-out-vcom-swing : tie.Need-element-copy-out-vcom-swing
-element-copy-out-vcom-swing c = search needs
+array-read-vcom-swing : tie.Need-array-read-vcom-swing
+array-read-vcom-swing c = search needs
 
 vcom-swing-requires : tie.Need-vcom-swing-requires
 vcom-swing-requires c κs = search needs
@@ -41,7 +41,7 @@ sub-millivolts c =
     let h = start c .pre .1 .listable in
     let a = subst Listable (sym (source-is c)) (source-listable _ _ h) in
     let b = subst Listable (sym (vcom-is c)) (vcom-listable _ _ h) in
-    fits-is (omega (whole, sub-out (rd (c .before .before .source .result)) (rd (c .vcom-swing .result))))
+    fits-is (omega (whole, sub-out (rd (c .before .source .result)) (rd (c .vcom-swing .result))))
 
 element-copy-out-wide : tie.Need-element-copy-out-wide
 element-copy-out-wide c = search needs
@@ -66,7 +66,7 @@ phase-of-spec =
     code-for-requires
     source-requires
     add-vcom-swing
-    element-copy-out-vcom-swing
+    array-read-vcom-swing
     vcom-swing-requires
     sub-millivolts
     element-copy-out-wide
