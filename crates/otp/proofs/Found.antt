@@ -56,38 +56,31 @@ module _ (otp : List ℕ) (mode : DisplayMode) (register : ℕ) where
       ap (λ (e : Entry). pick (badTable otp) Nothing e)
       (last-same (covers otp mode (register % 4096)) (covers otp mode register) covers-low-bits (entryCount otp))
 
+  -- the Rust's rule: the entry is of the mode, and lower < T ≤ upper
+  abbrev pub coversStrictly : ℕ → Bool
+  coversStrictly entry =
+      eqb (modeAt otp entry) (modeNumber mode) && ltZ (sixteenthsOf (lowerAt otp entry)) (sixteenthsOf register)
+      && leZ (sixteenthsOf register) (sixteenthsOf (upperAt otp entry))
+
   module _ (entry : ℕ) where
-    -- an entry of the mode whose lower bound is −2048 covers it
-    pub coldest-covered : isColdest register ≡ true → eqb (modeAt otp entry) (modeNumber mode) ≡ true → isColdest (lowerAt otp entry) ≡ true
-        → covers otp mode register entry ≡ true
+    -- at −2048 the entries of the mode whose lower bound is −2048 cover, and no other does
+    pub coldest-covered : isColdest register ≡ true → covers otp mode register entry ≡ (eqb (modeAt otp entry) (modeNumber mode) && isColdest (lowerAt otp entry))
     unfolding covers
-    coldest-covered h m l =
+    coldest-covered h =
+        let below = ap (λ t. ltZ (sixteenthsOf (lowerAt otp entry)) t) (coldest-at register h)
+        ∙ not-lt (sixteenthsOf (lowerAt otp entry)) (negsuc 2047) (let r = ranged (lowerAt otp entry) in omega whole) in
         let top = ap (λ t. leZ t (sixteenthsOf (upperAt otp entry))) (coldest-at register h)
         ∙ is-le (negsuc 2047) (sixteenthsOf (upperAt otp entry)) (let r = ranged (upperAt otp entry) in omega whole) in
-        rw (m, l, h, or-true (ltZ (sixteenthsOf (lowerAt otp entry)) (sixteenthsOf register)), top)
+        rw (below, h, top) (by (eqb (modeAt otp entry) (modeNumber mode)) (isColdest (lowerAt otp entry)))
       where
-        or-true : (a : Bool) → a || true ≡ true
-        or-true true = refl
-        or-true false = refl
+        by : (m l : Bool) → (m && (false || (l && true)) && true) ≡ (m && l)
+        by true true = refl
+        by true false = refl
+        by false l = refl
 
-    -- and no other does
-    pub coldest-others : isColdest register ≡ true → isColdest (lowerAt otp entry) ≡ false → covers otp mode register entry ≡ false
-    unfolding covers
-    coldest-others h l =
-        middle (eqb (modeAt otp entry) (modeNumber mode)) (leZ (sixteenthsOf register) (sixteenthsOf (upperAt otp entry)))
-        (rw (l, or-false (ltZ (sixteenthsOf (lowerAt otp entry)) (sixteenthsOf register)))
-        (ap (λ t. ltZ (sixteenthsOf (lowerAt otp entry)) t) (coldest-at register h)
-        ∙ not-lt (sixteenthsOf (lowerAt otp entry)) (negsuc 2047) (let r = ranged (lowerAt otp entry) in omega whole)))
-      where
-        middle : (a b : Bool) {t : Bool} → t ≡ false → a && t && b ≡ false
-        middle true b e = rw e
-        middle false b e = refl
-
-    -- at every other temperature an entry covers what it covers in the Rust, lower < T ≤ upper: no other bound has changed
+    -- at every other temperature an entry covers what it covers in the Rust
     pub elsewhere-same : isColdest register ≡ false
-        → covers otp mode register entry
-        ≡ (eqb (modeAt otp entry) (modeNumber mode) && ltZ (sixteenthsOf (lowerAt otp entry)) (sixteenthsOf register)
-        && leZ (sixteenthsOf register) (sixteenthsOf (upperAt otp entry)))
+        → covers otp mode register entry ≡ coversStrictly entry
     unfolding covers
     elsewhere-same h =
         rw (h, and-false (isColdest (lowerAt otp entry)), or-false (ltZ (sixteenthsOf (lowerAt otp entry)) (sixteenthsOf register)))
@@ -96,13 +89,19 @@ module _ (otp : List ℕ) (mode : DisplayMode) (register : ℕ) where
         and-false true = refl
         and-false false = refl
 
+    -- and an entry with another lower bound covers, at every temperature, what it covers in the Rust
+    pub other-bounds-same : isColdest (lowerAt otp entry) ≡ false
+        → covers otp mode register entry ≡ coversStrictly entry
+    unfolding covers
+    other-bounds-same l = rw (l, or-false (ltZ (sixteenthsOf (lowerAt otp entry)) (sixteenthsOf register)))
+
     -- an entry of the mode with both bounds −2048 covers −2048 alone
     pub coldest-alone : eqb (modeAt otp entry) (modeNumber mode) ≡ true → isColdest (lowerAt otp entry) ≡ true → isColdest (upperAt otp entry) ≡ true
         → covers otp mode register entry ≡ isColdest register
     coldest-alone m l u = by (isColdest register) refl
       where
         by : (b : Bool) → isColdest register ≡ b → covers otp mode register entry ≡ b
-        by true h = coldest-covered h m l
+        by true h = coldest-covered h ∙ rw (m, l)
         by false h =
             elsewhere-same h
             ∙ last (eqb (modeAt otp entry) (modeNumber mode)) (ltZ (sixteenthsOf (lowerAt otp entry)) (sixteenthsOf register))
@@ -114,26 +113,22 @@ module _ (otp : List ℕ) (mode : DisplayMode) (register : ℕ) where
             last true false e = refl
             last false b e = refl
 
-  -- at every other temperature the entry found is the one that the Rust finds, the last of the mode with lower < T ≤ upper
+  -- at every other temperature the entry found is the one that the Rust finds
   pub found-elsewhere : isColdest register ≡ false
       → foundEntry otp mode register
-      ≡ pick (badTable otp) Nothing
-      (lastOf
-      (λ entry. eqb (modeAt otp entry) (modeNumber mode) && ltZ (sixteenthsOf (lowerAt otp entry)) (sixteenthsOf register)
-      && leZ (sixteenthsOf register) (sixteenthsOf (upperAt otp entry)))
-      (entryCount otp))
+      ≡ pick (badTable otp) Nothing (lastOf coversStrictly (entryCount otp))
   unfolding foundEntry
   found-elsewhere h =
       ap (λ (e : Entry). pick (badTable otp) Nothing e)
-      (last-same (covers otp mode register)
-      (λ entry. eqb (modeAt otp entry) (modeNumber mode) && ltZ (sixteenthsOf (lowerAt otp entry)) (sixteenthsOf register)
-      && leZ (sixteenthsOf register) (sixteenthsOf (upperAt otp entry)))
-      (λ entry. elsewhere-same entry h) (entryCount otp))
+      (last-same (covers otp mode register) coversStrictly (λ entry. elsewhere-same entry h) (entryCount otp))
 
-  -- so 35 narrows: of a table with an entry of the mode that begins at −2048, one is found there
-  pub coldest-found : badTable otp ≡ false → isColdest register ≡ true → (entry : ℕ) → entry < entryCount otp
-      → eqb (modeAt otp entry) (modeNumber mode) ≡ true → isColdest (lowerAt otp entry) ≡ true → foundEntry otp mode register ≡ Nothing → ⊥
-  coldest-found good h entry within m l none = absurd (differ (sym (coldest-covered entry h m l) ∙ none-found good none entry within))
-    where
-      differ : true ≡ false → ⊥
-      differ e = let z : _≡_ {A = ℕ} 0 1 = cc in absurd (omega arith)
+  -- at −2048 it is the last of the mode that begins there; 35 comes where there is none
+  pub found-coldest : isColdest register ≡ true
+      → foundEntry otp mode register
+      ≡ pick (badTable otp) Nothing
+      (lastOf (λ entry. eqb (modeAt otp entry) (modeNumber mode) && isColdest (lowerAt otp entry)) (entryCount otp))
+  unfolding foundEntry
+  found-coldest h =
+      ap (λ (e : Entry). pick (badTable otp) Nothing e)
+      (last-same (covers otp mode register) (λ entry. eqb (modeAt otp entry) (modeNumber mode) && isColdest (lowerAt otp entry))
+      (λ entry. coldest-covered entry h) (entryCount otp))
