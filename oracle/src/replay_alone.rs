@@ -1,6 +1,7 @@
 //! The oracle's `replay` without its other programs: what oracle/near-misses compiles, since it does so often.
 
 mod bench;
+mod coldest;
 mod configuration;
 mod dump;
 mod hash;

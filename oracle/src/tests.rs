@@ -1,6 +1,7 @@
 //! The oracle's programs (oracle/README.md). The reference names this module `tests`.
 
 mod bench;
+mod coldest;
 mod configuration;
 mod configurations;
 mod dump;

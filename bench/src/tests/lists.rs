@@ -64,6 +64,14 @@ fn spent(events: &mut Events, random: &mut Random) {
     }
 }
 
+/// The parameters of a command; those of `0x1A` never −2048, where the port departs from the reference (#107).
+fn above_coldest(command: u8, mut parameters: Vec<u8>) -> Vec<u8> {
+    if let (0x1A, [high @ 0x80, ..]) = (command, parameters.as_mut_slice()) {
+        *high = 0x81;
+    }
+    parameters
+}
+
 fn event(events: &mut Events, random: &mut Random) {
     match random.below(12) {
         0..6 => streamed(events, random),
@@ -75,7 +83,10 @@ fn event(events: &mut Events, random: &mut Random) {
         7 => spent(events, random),
         8 => events.reset(),
         9 => events.read(random.between(1, 9)),
-        10 => events.command(random.byte(), &bytes(random, 12)),
+        10 => {
+            let command = random.byte();
+            events.command(command, &above_coldest(command, bytes(random, 12)));
+        }
         _ => events.command(random.pick(&[0x01, 0x12, 0x10, 0x21, 0x27, 0x3C, 0x46, 0x47]), &bytes(random, 4)),
     }
 }

@@ -78,8 +78,3 @@ pub last-same : (p q : ℕ → Bool) → ((k : ℕ) → p k ≡ q k) → (n : �
 unfolding lastOf
 last-same p q h zero = refl
 last-same p q h (suc n) = rw (h n, last-same p q h n)
-
-pub last-never : (p : ℕ → Bool) → ((k : ℕ) → p k ≡ false) → (n : ℕ) → lastOf p n ≡ Nothing
-unfolding lastOf
-last-never p h zero = refl
-last-never p h (suc n) = rw (h n, last-never p h n)

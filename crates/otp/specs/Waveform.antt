@@ -1,7 +1,7 @@
 -- The waveform that is taken for a mode and a temperature (datasheet §6.9, as config.rs cites it).
-use mathlib.Core.Bool.{Bool, _&&_}
+use mathlib.Core.Bool.{Bool, _&&_, _||_}
 use mathlib.Core.List.{List, []}
-use Prim.Native.Nat.{ℕ, _*_}
+use Prim.Native.Nat.{ℕ, _*_, _%_}
 use lib.Dec.{eqb}
 use lib.Signed.{ltZ, leZ}
 use lib.ListN.{take, drop}
@@ -14,10 +14,18 @@ use Rattle.otp.specs.declared.Entry.the-variants.{At, Nothing}
 use Rattle.otp.specs.Table.{entryBytes, entryCount, modeAt, lowerAt, upperAt, badTable}
 use Rattle.otp.specs.Search.{lastOf}
 
--- the entry is of the mode, and its range holds the register's temperature: lower < T ≤ upper
+-- the register's temperature is −2048, the coldest: 0x800 in its low twelve bits
+abbrev pub isColdest : ℕ → Bool
+isColdest register = eqb (register % 4096) 0x800
+
+-- a range goes down to what lies above its lower bound; one whose lower bound is −2048 holds −2048 too (SCOPE, OTP table; #107)
+abbrev pub reaches : ℕ → ℕ → Bool
+reaches lower register = ltZ (sixteenthsOf lower) (sixteenthsOf register) || (isColdest lower && isColdest register)
+
+-- the entry is of the mode, and its range holds the register's temperature
 unfoldable pub covers : List ℕ → DisplayMode → ℕ → ℕ → Bool
 covers otp mode register entry =
-    eqb (modeAt otp entry) (modeNumber mode) && ltZ (sixteenthsOf (lowerAt otp entry)) (sixteenthsOf register)
+    eqb (modeAt otp entry) (modeNumber mode) && reaches (lowerAt otp entry) register
     && leZ (sixteenthsOf register) (sixteenthsOf (upperAt otp entry))
 
 -- "The last match will be selected"; none of a table that 12 refuses

@@ -8,7 +8,7 @@ ghost use Rattle.config.specs.Answer.{firstOf, answerOf};
 ghost use Rattle.config.specs.Temperature.{sixteenthsOf};
 ghost use Rattle.otp.specs.Table.{entryCount, badEntry, badTable, tableTest};
 ghost use Rattle.otp.specs.Search.{anyOf, lastOf};
-ghost use Rattle.otp.specs.Waveform.{covers, foundEntry, partOf};
+ghost use Rattle.otp.specs.Waveform.{isColdest, reaches, covers, foundEntry, partOf};
 use config::ConfigError;
 use config::DisplayMode;
 use config::Temperature;
@@ -82,17 +82,34 @@ fn sixteenths_of(register: u16) -> i16
     Temperature::from_register(register).sixteenths()
 }
 
-// Whether the entry is of the mode and its range, lower < T ≤ upper, holds the register's temperature.
+// Register 0x800: −2048, the coldest temperature of the format.
+const COLDEST: u16 = 0x800;
+
+fn is_coldest(register: u16) -> bool
+    ensures { λ r. ⌜ r ≡ isColdest register ⌝ }
+{
+    register % 4096 == COLDEST
+}
+
+// Whether a range goes down to a temperature: it lies above the lower bound, or both are the coldest, which lies above none (#107).
+fn reaches_down(lower: u16, register: u16) -> bool
+    ensures { λ r. ⌜ r ≡ reaches lower register ⌝ }
+{
+    let bottom = is_coldest(lower) & is_coldest(register);
+    (sixteenths_of(lower) < sixteenths_of(register)) | bottom
+}
+
+// Whether the entry is of the mode and its range holds the register's temperature.
 fn covers_register(otp: &[u8], mode: DisplayMode, register: u16, entry: usize) -> bool
     requires { ⌜ entry < entryCount (now otp) ⌝ }
     ensures { λ r. ⌜ r ≡ covers (now (otp .entry)) mode register entry ⌝ }
 {
     let at = ENTRY_BYTES * entry;
     let byte = config::mode_number(mode);
-    let lower = sixteenths_of(pair(otp, at + 2));
+    let reached = reaches_down(pair(otp, at + 2), register);
     let upper = sixteenths_of(pair(otp, at + 4));
     let temperature = sixteenths_of(register);
-    (otp[at] == byte) & (lower < temperature) & (temperature <= upper)
+    (otp[at] == byte) & reached & (temperature <= upper)
 }
 
 fn last_covering(otp: &[u8], mode: DisplayMode, register: u16) -> Entry

@@ -3,7 +3,7 @@ use mathlib.Core.List.{List, [], _∷_, _++_}
 use Prim.Native.Nat.{ℕ, _*_, _-_, _/_, _%_}
 use lib.Dec.{ltb}
 use lib.IntN.{ℤ, pos, _*ℤ_}
-use lib.Signed.{ltZ, leZ}
+use lib.Signed.{leZ}
 use lib.ListN.{getD, replicate}
 use Rattle.numbers.specs.Choice.{pick}
 use Rattle.numbers.specs.Lists.{tab}
@@ -12,7 +12,7 @@ use Rattle.config.specs.declared.DisplayMode.the-variants.{One, Two}
 use Rattle.config.specs.Mode.{modeNumber}
 use Rattle.config.specs.Temperature.{coldest, warmest, registerOf}
 use Rattle.otp.specs.declared.Entry.{Entry}
-use Rattle.otp.specs.declared.Entry.the-variants.{At, Nothing}
+use Rattle.otp.specs.declared.Entry.the-variants.{At}
 
 -- a line of the table: the mode, the range, for each group the frames of phase A and those of phase B at VSS, and phase A's codes of LUT0 to LUT3
 pub record Setting : Type 0 where
@@ -55,7 +55,7 @@ black3 = VSH1 ∷ VSL ∷ VSH1 ∷ []
 abbrev pub white3 : List ℕ
 white3 = VSL ∷ VSH1 ∷ VSL ∷ []
 
--- setting 0: mode 1, −128 °C < T ≤ 50 °C, 4 × 20 frames; full: black and white twice, ending on the target
+-- setting 0: mode 1, −128 °C ≤ T ≤ 50 °C, 4 × 20 frames; full: black and white twice, ending on the target
 abbrev pub full : Setting
 full =
     record {
@@ -116,11 +116,7 @@ entryOf s = header s ++ tab 112 (settingByte s)
 unfoldable pub referenceTable : List ℕ
 referenceTable = entryOf full ++ entryOf warm ++ entryOf differential
 
--- the setting of a temperature above −128 °C: mode 1 has setting 0 up to 50 °C and setting 1 above, and mode 2 has setting 2
-abbrev pub settingAbove : DisplayMode → ℤ → Entry
-settingAbove One t = pick (leZ t (celsius 50)) (At 0) (At 1)
-settingAbove Two t = At 2
-
--- the table's ranges: no setting at −128 °C
+-- the table's ranges: mode 1 has setting 0 up to 50 °C and setting 1 above, and mode 2 has setting 2, −128 °C among them (#107)
 abbrev pub settingFor : DisplayMode → ℤ → Entry
-settingFor mode t = pick (ltZ (coldest .0) t) (settingAbove mode t) Nothing
+settingFor One t = pick (leZ t (celsius 50)) (At 0) (At 1)
+settingFor Two t = At 2

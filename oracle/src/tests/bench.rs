@@ -3,7 +3,7 @@
 
 use emu_core::Cycles;
 
-use super::{hash, inside, record};
+use super::{coldest, hash, inside, record};
 use crate::ssd1677::config::Temperature;
 use crate::ssd1677::panel::{PlaneOption, RefreshKind, Scan};
 use crate::ssd1677::waveform::Waveform;
@@ -21,6 +21,8 @@ pub(super) struct Bench {
     pub(super) luts: u64,
     /// The border register when the last refresh began.
     pub(super) border: u8,
+    /// Whether a waveform was asked for at −2048.
+    pub(super) asked_coldest: bool,
 }
 
 impl Bench {
@@ -32,6 +34,7 @@ impl Bench {
             logged: 0,
             luts: hash::of_bytes(&vec![255; pixels]),
             border: 0,
+            asked_coldest: false,
         }
     }
 
@@ -52,10 +55,12 @@ impl Bench {
     fn activate(&mut self, time: u64) {
         let device = &mut self.device;
         device.advance(Cycles(time));
+        let looks = coldest::looks_for_a_waveform(device);
         let accepted = device.power == Power::Running && !device.is_busy(device.now);
         let generation = device.panel_image().generation;
         assert!(!accepted || device.display.is_none(), "two refreshes");
         device.write_command(Cycles(time), ACTIVATE);
+        self.asked_coldest |= looks && coldest::is_coldest(device);
         if !accepted {
             return;
         }

@@ -115,7 +115,7 @@ fn vary(configuration: &mut Configuration, random: &mut Random) {
     fields[9] = random.truth().into();
     fields[10] = random.pick(&[0, 1, 127, 128, 254, 255]);
     fields[38] = random.pick(&[0, 1, 1]);
-    fields[39] = random.pick(&[0, 400, 799, 800, 801, 0x7FF, 0x800, 0x801, 0xFFF, 0xF800]);
+    fields[39] = random.pick(&[0, 400, 799, 800, 801, 0x7FF, 0x801, 0x801, 0xFFF, 0xF801]);
     fields[40] = random.truth().into();
     fields[41] = random.below(0x1_0000);
     fields[42] = random.pick(&[

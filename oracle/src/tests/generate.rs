@@ -72,14 +72,31 @@ pub(super) fn run(
         return Ok(false);
     }
     let families = chosen.len() as u64;
+    let mut again: u64 = 0;
     for case in 0..count {
         let (_, write) = chosen[usize::try_from(case % families).expect("a family")];
-        let random = Random::of_place(seed, case);
-        let mut script = Script::new(case, case / families, random);
-        write(&mut script);
+        let (script, drawn) = draw(write, seed, case, case / families);
+        again += u64::from(1 < drawn);
         out.write_all(script.finish().as_bytes())?;
     }
+    if 0 < again {
+        eprintln!("{again} of {count} sequences asked for a waveform at -2048 and were drawn anew");
+    }
     Ok(true)
+}
+
+/// Draws a sequence until it asks for no waveform at −2048, where the port departs from the reference (#107): the
+/// sequence, and how many were drawn.
+fn draw(write: fn(&mut Script), seed: u64, case: u64, place: u64) -> (Script, u64) {
+    for stream in 0..1000 {
+        let random = Random::of_place(seed ^ (stream << 32), case);
+        let mut script = Script::new(case, place, random);
+        write(&mut script);
+        if !script.asked_coldest {
+            return (script, stream + 1);
+        }
+    }
+    panic!("sequence {case} asks for a waveform at -2048 however it is drawn")
 }
 
 /// Writes the run that ends at bad line number `way`; whether there is one.

@@ -15,6 +15,8 @@ struct Replay<'a, W> {
     out: &'a mut W,
     configuration: Configuration,
     bench: Option<Bench>,
+    /// Whether a device that is gone asked for a waveform at −2048.
+    asked_coldest: bool,
     /// The count that waits for the next line of data or read.
     count: Option<u64>,
 }
@@ -28,6 +30,7 @@ pub(super) fn run(input: &[u8], out: &mut impl Write) -> io::Result<bool> {
         out,
         configuration: Configuration::new(),
         bench: None,
+        asked_coldest: false,
         count: None,
     };
     let mut whole = true;
@@ -41,11 +44,15 @@ pub(super) fn run(input: &[u8], out: &mut impl Write) -> io::Result<bool> {
             Ok(written) => written?,
             Err(_) => {
                 whole = false;
-                replay.bench = None;
+                replay.drop_bench();
                 eprintln!("line {number}: the reference panicked");
                 writeln!(replay.out, "panic")?;
             }
         }
+    }
+    replay.drop_bench();
+    if replay.asked_coldest {
+        eprintln!("a waveform was asked for at -2048, where the port departs from the reference");
     }
     Ok(whole)
 }
@@ -57,7 +64,7 @@ impl<W: Write> Replay<'_, W> {
             8 => self.count = Some(line.number),
             10 => {
                 self.configuration = Configuration::new();
-                self.bench = None;
+                self.drop_bench();
                 writeln!(self.out, "case {value}")?;
             }
             11 => self.configuration.fields[usize::from(value)] = line.number,
@@ -75,7 +82,7 @@ impl<W: Write> Replay<'_, W> {
 
     fn start(&mut self) -> io::Result<()> {
         // A start that panics leaves nothing started, as a refused one does.
-        self.bench = None;
+        self.drop_bench();
         match self.configuration.start() {
             Ok(device) => {
                 self.bench = Some(Bench::new(device));
@@ -83,6 +90,11 @@ impl<W: Write> Replay<'_, W> {
             }
             Err(Refusal(number, value)) => writeln!(self.out, "start refused {number} {value}"),
         }
+    }
+
+    fn drop_bench(&mut self) {
+        let bench = self.bench.take();
+        self.asked_coldest |= bench.is_some_and(|bench| bench.asked_coldest);
     }
 
     /// A line that needs a device; before a start it only uses up the count.

@@ -16,8 +16,8 @@ add-pair c = search needs
 pair-requires : tie.Need-pair-requires
 pair-requires c κs = search needs
 
-sixteenths-of-requires : tie.Need-sixteenths-of-requires
-sixteenths-of-requires c κs = search needs
+reaches-down-requires : tie.Need-reaches-down-requires
+reaches-down-requires c κs = search needs
 
 add-pair-2 : tie.Need-add-pair-2
 add-pair-2 c = search needs
@@ -25,11 +25,11 @@ add-pair-2 c = search needs
 pair-requires-2 : tie.Need-pair-requires-2
 pair-requires-2 c κs = search needs
 
+sixteenths-of-requires : tie.Need-sixteenths-of-requires
+sixteenths-of-requires c κs = search needs
+
 sixteenths-of-requires-2 : tie.Need-sixteenths-of-requires-2
 sixteenths-of-requires-2 c κs = search needs
-
-sixteenths-of-requires-3 : tie.Need-sixteenths-of-requires-3
-sixteenths-of-requires-3 c κs = search needs
 
 shared-slice-read-result : tie.Need-shared-slice-read-result
 shared-slice-read-result c = search needs
@@ -44,7 +44,7 @@ returns c =
     let g = f .before in
     let s = g .before .before in
     covers-is (s .args .otp .now) (s .args .entry) (s .args .mode) (s .args .register) _ _ _ _ _ _ (g .mode-number .ensures) (f .pair .ensures) (d .pair2 .ensures)
-    (e .sixteenths-of .ok) (e .sixteenths-of .ensures) (b .sixteenths-of2 .ok) (b .sixteenths-of2 .ensures) (a .sixteenths-of3 .ok) (a .sixteenths-of3 .ensures)
+    (e .reaches-down .ensures) (b .sixteenths-of .ok) (b .sixteenths-of .ensures) (a .sixteenths-of2 .ok) (a .sixteenths-of2 .ensures)
 
 pub covers-register-spec : {M : Type 1} → statement M
 covers-register-spec =
@@ -54,10 +54,10 @@ covers-register-spec =
     mode-number-requires
     add-pair
     pair-requires
-    sixteenths-of-requires
+    reaches-down-requires
     add-pair-2
     pair-requires-2
+    sixteenths-of-requires
     sixteenths-of-requires-2
-    sixteenths-of-requires-3
     shared-slice-read-result
     returns)

@@ -273,7 +273,7 @@ pub(super) fn two_ends(script: &mut Script) {
         script.set_ambient(0xFFF);
         let stages = script.random.pick(&[0xF4, 0xFC]);
         activate(script, stages);
-        let register = script.random.pick(&[1, 0x7FF, 0x800, 0]);
+        let register = script.random.pick(&[1, 0x7FF, 0x801, 0]);
         script.set_ambient(register);
         if let Some((_, ends)) = script.display() {
             script.now = script.near(ends);

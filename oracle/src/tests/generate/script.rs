@@ -5,6 +5,7 @@ use std::fmt::Write;
 
 use emu_core::Cycles;
 
+use crate::ssd1677::tests::coldest;
 use crate::ssd1677::tests::configuration::Configuration;
 use crate::ssd1677::tests::line::Line;
 use crate::ssd1677::tests::random::Random;
@@ -20,6 +21,8 @@ pub(super) struct Script {
     /// The time of the next event.
     pub(super) now: u64,
     pub(super) device: Option<Ssd1677>,
+    /// Whether a waveform was asked for at −2048.
+    pub(super) asked_coldest: bool,
     text: String,
     /// Whether the last line written was a dump.
     dumped: bool,
@@ -32,6 +35,7 @@ impl Script {
             place,
             now: 0,
             device: None,
+            asked_coldest: false,
             text: String::new(),
             dumped: false,
         };
@@ -92,7 +96,10 @@ impl Script {
     pub(super) fn command(&mut self, command: u8) {
         self.line(self.now, 1, command.into());
         if let Some(device) = &mut self.device {
+            device.advance(Cycles(self.now));
+            let looks = command == 0x20 && coldest::looks_for_a_waveform(device);
             device.write_command(Cycles(self.now), command);
+            self.asked_coldest |= looks && coldest::is_coldest(device);
         }
     }
 

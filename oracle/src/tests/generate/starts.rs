@@ -167,7 +167,7 @@ fn prepare(script: &mut Script) {
             script.write(0x1A, &[high, low]);
         }
         4 => {
-            let edges = [0x800, 0x801, 0xFFF, 0, 1, 400, 800, 801, 0x7FF, 0x1800];
+            let edges = [0x801, 0x801, 0xFFF, 0, 1, 400, 800, 801, 0x7FF, 0x1801];
             let register = script.random.pick(&edges);
             script.set_ambient(register);
         }
@@ -199,7 +199,7 @@ pub(super) fn waveforms(script: &mut Script) {
     script.start(&configuration);
     for _ in 0..script.random.between(3, 6) {
         let edges = [
-            0x800, 0x801, 0xEFF, 0xF00, 0xF01, 0xFFF, 0, 1, 399, 400, 401, 800, 801,
+            0x801, 0x802, 0xEFF, 0xF00, 0xF01, 0xFFF, 0, 1, 399, 400, 401, 800, 801,
         ];
         let register: u16 = script.random.pick(&edges);
         let [high, low] = (register << 4).to_be_bytes();
