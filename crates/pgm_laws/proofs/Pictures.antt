@@ -1,5 +1,5 @@
 -- A written file, read, gives the picture, and each accepted file is the one written for its picture. Assumes nothing.
-use mathlib.Core.Path.{_≡_, refl, sym, ap, _∙_}
+use mathlib.Core.Path.{_≡_, refl, sym, ap, subst, _∙_}
 use mathlib.Core.Bool.{Bool, true, false, not}
 use mathlib.Core.List.{List, _++_}
 use Prim.Native.Nat.{ℕ, _*_, _≤_}
@@ -14,7 +14,7 @@ use Rattle.pgm.specs.declared.Written.{Written}
 use Rattle.pgm.specs.declared.Picture.{Picture}
 use Rattle.pgm.specs.declared.form.Size.{Size}
 use Rattle.pgm.specs.Form.{inRange, pgmHeader, pgmFile, sizeIn, isHeader, widthIn, heightIn, pixelsIn}
-use Rattle.pgm.specs.Files.{Answered, answered, overFront, fileOf, notWritten, textWritten, headerWritten, fileWritten, pictureOf, notRead, fileRead}
+use Rattle.pgm.specs.Files.{Answered, answered, overFront, fileOf, notWritten, headerWritten, fileWritten, pictureOf, notRead, fileRead}
 use Rattle.pgm.proofs.Starts.{found-in-range, found-front}
 use Rattle.pgm_laws.specs.Forms.{HasForm, SamePicture}
 use Rattle.pgm_laws.proofs.Cases.{written-cases, header-cases, read-cases}
@@ -40,6 +40,16 @@ not-the-form f out none = go (isHeader f) refl
     go : (t : Bool) → isHeader f ≡ t → fileRead f out ≡ notRead Form out
     go true e = absurd (none (form-only f e))
     go false e = sym (took _ _ _ _ (ap not e) refl)
+
+-- ---- what writing answers where nothing refuses it
+pub file-written : (w h : ℕ) (pixels out : List ℕ) → inRange w h ≡ true → length pixels ≡ w * h → length (pgmFile w h pixels) ≤ length out
+    → fileWritten w h pixels out ≡ answered (fileOf (length (pgmFile w h pixels))) (overFront (pgmFile w h pixels) out)
+unfolding fileWritten
+file-written w h pixels out is full room =
+    λ i. pick (not (is i)) (notWritten Form out)
+    (pick (not (eq-eqb (length pixels) (w * h) full i)) (notWritten Count out)
+    (pick (le-ltb (length out) (length (pgmFile w h pixels)) room i) (notWritten Room out)
+    (answered (fileOf (length (pgmFile w h pixels))) (overFront (pgmFile w h pixels) out))))
 
 -- ---- what an accepted writing and reading left
 record Wrote (w h : ℕ) (pixels out : List ℕ) (r : Answered Written) : Type 0 where
@@ -107,15 +117,13 @@ module _ (f out : List ℕ) (accepted : fileRead f out .answer .error ≡ Accept
       ∙ (λ i. pgmFile (sym (got .is) i .answer .width) (sym (got .is) i .answer .height) (sym pixels-are i))
 
   pub read-written : (to : List ℕ) → length f ≤ length to → fileWritten width height pixels to ≡ answered (fileOf (length f)) (overFront f to)
-  unfolding fileWritten
   read-written to l =
       let got = got-whole f out accepted in
       let ranged = ap (λ (r : Answered Picture). inRange (r .answer .width) (r .answer .height)) (got .is) ∙ found-in-range (widthIn f) (heightIn f) f (got .header) in
       let full = ap length pixels-are ∙ got .full ∙ ap (λ (r : Answered Picture). r .answer .width * r .answer .height) (sym (got .is)) in
-      (λ i. pick (not (ranged i)) (notWritten Form to)
-      (pick (not (eq-eqb (length pixels) (width * height) full i)) (notWritten Count to)
-      (textWritten (sym read-file-of i) to)))
-      ∙ (λ i. pick (le-ltb (length to) (length f) l i) (notWritten Room to) (answered (fileOf (length f)) (overFront f to)))
+      let room = subst (λ (g : List ℕ). length g ≤ length to) read-file-of l in
+      file-written width height pixels to ranged full room
+      ∙ ap (λ (g : List ℕ). answered (fileOf (length g)) (overFront g to)) (sym read-file-of)
 
 -- ---- equal files have equal size and picture
 pub one-file : (w h w′ h′ : ℕ) (pixels pixels′ : List ℕ) → inRange w h ≡ true → inRange w′ h′ ≡ true → pgmFile w h pixels ≡ pgmFile w′ h′ pixels′
