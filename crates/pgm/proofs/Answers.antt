@@ -76,19 +76,19 @@ text-within text out = go (ltb (length out) (length text))
   where
     go : (t : Bool) → Within (pick t (notWritten Room out) (answered (fileOf (length text)) (overFront text out)))
     go true = omega arith
-    go false = omega (arith, length-append text (drop (length text) out))
+    go false = simp length-append (omega arith)
 
-headerWritten-within : (w h : ℕ) (out : List ℕ) → Within (headerWritten w h out)
+header-within : (w h : ℕ) (out : List ℕ) → Within (headerWritten w h out)
 unfolding headerWritten
-headerWritten-within w h out = go (inRange w h)
+header-within w h out = go (inRange w h)
   where
     go : (t : Bool) → Within (pick (not t) (notWritten Form out) (textWritten (pgmHeader w h) out))
     go true = text-within (pgmHeader w h) out
     go false = omega arith
 
-written-within : (w h : ℕ) (pixels out : List ℕ) → Within (fileWritten w h pixels out)
+file-within : (w h : ℕ) (pixels out : List ℕ) → Within (fileWritten w h pixels out)
 unfolding fileWritten
-written-within w h pixels out = go (inRange w h) (eqb (length pixels) (w * h))
+file-within w h pixels out = go (inRange w h) (eqb (length pixels) (w * h))
   where
     go : (t u : Bool) → Within (pick (not t) (notWritten Form out) (pick (not u) (notWritten Count out) (textWritten (pgmFile w h pixels) out)))
     go true true = text-within (pgmFile w h pixels) out
@@ -97,11 +97,11 @@ written-within w h pixels out = go (inRange w h) (eqb (length pixels) (w * h))
 
 pub header-answered : (w h : ℕ) (out : List ℕ) {r : Written} {after : List ℕ} → answered r after ≡ headerWritten w h out
     → (answered r after ≡ headerWritten w h out) × (r .length ≤ length after)
-header-answered w h out e = (e, subst Within (sym e) (headerWritten-within w h out))
+header-answered w h out e = (e, subst Within (sym e) (header-within w h out))
 
 pub write-answered : (w h : ℕ) (pixels out : List ℕ) {r : Written} {after : List ℕ} → answered r after ≡ fileWritten w h pixels out
     → (answered r after ≡ fileWritten w h pixels out) × (r .length ≤ length after)
-write-answered w h pixels out e = (e, subst Within (sym e) (written-within w h pixels out))
+write-answered w h pixels out e = (e, subst Within (sym e) (file-within w h pixels out))
 
 -- ---- a picture read: of a size that stands in the file, with a header of so many bytes
 module _ (f out : List ℕ) {size : Size} (is : size ≡ sizeIn f) where

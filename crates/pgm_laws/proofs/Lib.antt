@@ -1,7 +1,7 @@
 -- The root of pgm_laws' proofs: the theorems of #109.
 --     form-accepted, form-only     a header is accepted where the file has the form, and nowhere else
 --     not-the-form, read-file      so what reading answers of every file
---     file-written                 what writing answers where nothing refuses it
+--     file-written, header-fits    what writing answers where nothing refuses it; 15 bytes hold every header
 --     written-read                 a written file, read, gives the picture
 --     header-then-pixels           a header written, and then the pixels: the same file
 --     read-file-of, read-written   each accepted file is the one written for its picture

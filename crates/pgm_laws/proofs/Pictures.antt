@@ -3,6 +3,7 @@ use mathlib.Core.Path.{_≡_, refl, sym, ap, subst, _∙_}
 use mathlib.Core.Bool.{Bool, true, false, not}
 use mathlib.Core.List.{List, _++_}
 use Prim.Native.Nat.{ℕ, _*_, _≤_}
+use native.Mathlib.Omega.{arith}
 use lib.Dec.{eqb, ltb}
 use lib.ListN.{length, take, drop}
 use lib.Seq.{take-append-seam}
@@ -15,6 +16,7 @@ use Rattle.pgm.specs.declared.Picture.{Picture}
 use Rattle.pgm.specs.declared.form.Size.{Size}
 use Rattle.pgm.specs.Form.{inRange, pgmHeader, pgmFile, sizeIn, isHeader, widthIn, heightIn, pixelsIn}
 use Rattle.pgm.specs.Files.{Answered, answered, overFront, fileOf, notWritten, headerWritten, fileWritten, pictureOf, notRead, fileRead}
+use Rattle.pgm.proofs.Headers.{header-few}
 use Rattle.pgm.proofs.Starts.{found-in-range, found-front}
 use Rattle.pgm_laws.specs.Forms.{HasForm, SamePicture}
 use Rattle.pgm_laws.proofs.Cases.{written-cases, header-cases, read-cases}
@@ -50,6 +52,15 @@ file-written w h pixels out is full room =
     (pick (not (eq-eqb (length pixels) (w * h) full i)) (notWritten Count out)
     (pick (le-ltb (length out) (length (pgmFile w h pixels)) room i) (notWritten Room out)
     (answered (fileOf (length (pgmFile w h pixels))) (overFront (pgmFile w h pixels) out))))
+
+-- of a header too: 15 bytes hold each (`HEADER_BYTES`)
+pub header-fits : (w h : ℕ) (out : List ℕ) → inRange w h ≡ true → 15 ≤ length out
+    → headerWritten w h out ≡ answered (fileOf (length (pgmHeader w h))) (overFront (pgmHeader w h) out)
+unfolding headerWritten
+header-fits w h out is room =
+    λ i. pick (not (is i)) (notWritten Form out)
+    (pick (le-ltb (length out) (length (pgmHeader w h)) (omega (arith, header-few w h)) i) (notWritten Room out)
+    (answered (fileOf (length (pgmHeader w h))) (overFront (pgmHeader w h) out)))
 
 -- ---- what an accepted writing and reading left
 record Wrote (w h : ℕ) (pixels out : List ℕ) (r : Answered Written) : Type 0 where
