@@ -32,13 +32,12 @@ byte-count-requires c κs = search needs
 
 sub-found : tie.Need-sub-found
 sub-found c =
-    let count = c in
-    let fine = count .before in
+    let fine = c .before in
     let test = fine .before in
     let size = test .before .size-in in
     let s = test .before .before .before .before .args in
     let found = sym (test .is-header .ensures) ∙ not-false _ (fine .if1 .left) in
-    omega (arith, count .byte-count .ensures .0, found-within (size .result .width) (size .result .height) (s .file .now) found)
+    omega (arith, c .byte-count .ensures .0, found-within (size .result .width) (size .result .height) (s .file .now) found)
 
 cast-count : tie.Need-cast-count
 cast-count c = search needs
@@ -48,8 +47,7 @@ cast-count-2 c = search needs
 
 mul-count : tie.Need-mul-count
 mul-count c =
-    let count = c in
-    let fine = count .before in
+    let fine = c .before in
     let test = fine .before in
     let size = test .before .size-in in
     let s = test .before .before .before .before .args in
