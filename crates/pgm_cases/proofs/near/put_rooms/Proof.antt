@@ -5,22 +5,19 @@ use Rattle.pgm_cases.proofs.near.put_rooms.Statement.{statement}
 use Rattle.pgm_cases.proofs.near.put_rooms.Tie as tie
 
 abbrev Inv-loop : tie.InvT-loop
-Inv-loop file room₀ t4 room = room ≤ 8
+Inv-loop file room₀ room = room ≤ 8
 
 abbrev μ-loop : tie.MeasureT-loop
-μ-loop file room₀ t4 room = 8 - room
+μ-loop file room₀ room = 8 - room
 
 loop-holds : tie.Need-loop-holds Inv-loop μ-loop
 loop-holds c = search needs
 
-answer-requires : tie.Need-answer-requires Inv-loop μ-loop
-answer-requires c κs = search needs
+slice-aggregate-put-read : tie.Need-slice-aggregate-put-read Inv-loop μ-loop
+slice-aggregate-put-read c = search needs
 
-slice-aggregate-write-all : tie.Need-slice-aggregate-write-all Inv-loop μ-loop
-slice-aggregate-write-all c = search needs
-
-write-all-requires : tie.Need-write-all-requires Inv-loop μ-loop
-write-all-requires c κs = search needs
+put-read-requires : tie.Need-put-read-requires Inv-loop μ-loop
+put-read-requires c κs = search needs
 
 add-room : tie.Need-add-room Inv-loop μ-loop
 add-room c = search needs
@@ -30,12 +27,6 @@ loop-less c = search needs
 
 loop-again : tie.Need-loop-again Inv-loop μ-loop
 loop-again c = search needs
-
-slice-aggregate-write-all-2 : tie.Need-slice-aggregate-write-all-2 Inv-loop μ-loop
-slice-aggregate-write-all-2 c = search needs
-
-write-all-requires-2 : tie.Need-write-all-requires-2 Inv-loop μ-loop
-write-all-requires-2 c κs = search needs
 
 returns : tie.Need-returns Inv-loop μ-loop
 returns c = search needs
@@ -47,12 +38,9 @@ put-rooms-spec =
     Inv-loop
     μ-loop
     loop-holds
-    answer-requires
-    slice-aggregate-write-all
-    write-all-requires
+    slice-aggregate-put-read
+    put-read-requires
     add-room
     loop-less
     loop-again
-    slice-aggregate-write-all-2
-    write-all-requires-2
     returns)

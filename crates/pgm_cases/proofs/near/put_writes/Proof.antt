@@ -5,22 +5,25 @@ use Rattle.pgm_cases.proofs.near.put_writes.Statement.{statement}
 use Rattle.pgm_cases.proofs.near.put_writes.Tie as tie
 
 abbrev Inv-loop : tie.InvT-loop
-Inv-loop width pixels room₀ t4 room = room ≤ 19
+Inv-loop width pixels room₀ room = room ≤ 19
 
 abbrev μ-loop : tie.MeasureT-loop
-μ-loop width pixels room₀ t4 room = 19 - room
+μ-loop width pixels room₀ room = 19 - room
 
 loop-holds : tie.Need-loop-holds Inv-loop μ-loop
 loop-holds c = search needs
 
-write-answer-requires : tie.Need-write-answer-requires Inv-loop μ-loop
-write-answer-requires c κs = search needs
+slice-aggregate-put-write : tie.Need-slice-aggregate-put-write Inv-loop μ-loop
+slice-aggregate-put-write c = search needs
 
-slice-aggregate-write-all : tie.Need-slice-aggregate-write-all Inv-loop μ-loop
-slice-aggregate-write-all c = search needs
+put-write-requires : tie.Need-put-write-requires Inv-loop μ-loop
+put-write-requires c κs = search needs
 
-write-all-requires : tie.Need-write-all-requires Inv-loop μ-loop
-write-all-requires c κs = search needs
+slice-aggregate-put-header : tie.Need-slice-aggregate-put-header Inv-loop μ-loop
+slice-aggregate-put-header c = search needs
+
+put-header-requires : tie.Need-put-header-requires Inv-loop μ-loop
+put-header-requires c κs = search needs
 
 add-room : tie.Need-add-room Inv-loop μ-loop
 add-room c = search needs
@@ -30,12 +33,6 @@ loop-less c = search needs
 
 loop-again : tie.Need-loop-again Inv-loop μ-loop
 loop-again c = search needs
-
-slice-aggregate-write-all-2 : tie.Need-slice-aggregate-write-all-2 Inv-loop μ-loop
-slice-aggregate-write-all-2 c = search needs
-
-write-all-requires-2 : tie.Need-write-all-requires-2 Inv-loop μ-loop
-write-all-requires-2 c κs = search needs
 
 returns : tie.Need-returns Inv-loop μ-loop
 returns c = search needs
@@ -47,12 +44,11 @@ put-writes-spec =
     Inv-loop
     μ-loop
     loop-holds
-    write-answer-requires
-    slice-aggregate-write-all
-    write-all-requires
+    slice-aggregate-put-write
+    put-write-requires
+    slice-aggregate-put-header
+    put-header-requires
     add-room
     loop-less
     loop-again
-    slice-aggregate-write-all-2
-    write-all-requires-2
     returns)
