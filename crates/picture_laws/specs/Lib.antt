@@ -1,0 +1,2 @@
+-- The root of picture_laws' specs.
+pub mod PanelFile
