@@ -68,6 +68,11 @@ toldOf NoCode = refused 61 0
 toldOf Repeats = refused 62 0
 toldOf Code = refused 63 0
 
+-- the number of an answer, 0 where nothing is refused
+abbrev pub numberIn : Answer → ℕ
+numberIn accepted = 0
+numberIn (refused number value) = number
+
 -- the answer and the lent bytes as one
 pub record Reply : Type 0 where
   pub answer : Answer

@@ -16,7 +16,7 @@ ghost use Rattle.waveform.specs.Voltages.{orZero};
 ghost use Rattle.waveform.specs.Setting.{groupCodesOf, waveformOf};
 ghost use Rattle.drive_sheet.specs.Supplies.{Coded};
 ghost use Rattle.drive_sheet.specs.Bytes.{settingOf, sheetByte, lastByte, sheetOf};
-ghost use Rattle.drive_sheet.specs.Tests.{Prepared, toldOf, reply, writtenOf};
+ghost use Rattle.drive_sheet.specs.Tests.{Prepared, toldOf, numberIn, reply, writtenOf};
 
 const SETTING_BYTES: usize = 112;
 
@@ -60,6 +60,19 @@ pub enum Written {
     Repeats,
     // A LUT code exceeds 3, or a frame-rate code 15.
     Code,
+}
+
+// The number of a refusal, 0 for none.
+pub fn number(written: Written) -> u8
+    ensures { λ r. ⌜ r ≡ numberIn (toldOf written) ⌝ }
+{
+    match written {
+        Written::Whole => 0,
+        Written::Length => 11,
+        Written::NoCode => 61,
+        Written::Repeats => 62,
+        Written::Code => 63,
+    }
 }
 
 // Bytes 105 to 111.
