@@ -15,7 +15,7 @@ unfolding framesByte
 returns c = rw (lt-ltb (c .before .before .args .place) 4 (c .before .if1 .taken))
 
 sub-result : tie.Need-sub-result
-sub-result c = repeats-within (c .before .args .t1) (c .before .pre) .0
+sub-result c = omega (arith, repeats-within (c .before .args .t1) (c .before .pre) .0)
 
 cast-result : tie.Need-cast-result
 cast-result c = record { fits = omega (arith, repeats-within (c .before .args .t1) (c .before .pre) .1) }
