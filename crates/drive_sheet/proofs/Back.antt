@@ -31,7 +31,7 @@ use Rattle.drive_sheet.proofs.Passes.{code-below, rate-below, repeats-w
 
 -- ---- lists
 -- a list by its elements
-tabled : {A : Type 0} (n : ℕ) (f : ℕ → A) (d : A) (xs : List A) → length xs ≡ n → ((k : ℕ) → k < n → f k ≡ getD xs k d) → tab n f ≡ xs
+pub tabled : {A : Type 0} (n : ℕ) (f : ℕ → A) (d : A) (xs : List A) → length xs ≡ n → ((k : ℕ) → k < n → f k ≡ getD xs k d) → tab n f ≡ xs
 tabled n f d xs e h =
     ext-getD d (tab n f) xs (length-tab n f ∙ sym e)
     (λ k l. let m : k < n = subst (λ (j : ℕ). k < j) (length-tab n f) l in getD-tab n f k d m ∙ h k m)
