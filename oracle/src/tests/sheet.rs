@@ -99,7 +99,11 @@ impl Sheet {
         for (supply, &millivolts) in self.millivolts.iter().enumerate() {
             setting[106 + supply] = code_of(supply, millivolts).ok_or(61)?;
         }
-        if self.groups.iter().any(|group| !(1..=256).contains(&group.repeats)) {
+        if self
+            .groups
+            .iter()
+            .any(|group| !(1..=256).contains(&group.repeats))
+        {
             return Err(62);
         }
         let bad = |group: &Group| group.rate > 15 || group.codes.iter().any(|&code| code > 3);
@@ -143,7 +147,12 @@ fn group_of(line: &str, number: usize) -> Option<Group> {
     if line.len() != LINE - 1 || column(0, 3)? != number as i64 {
         return None;
     }
-    let mut group = Group { frames: [0; 4], repeats: column(19, 4)?, rate: column(23, 3)?, codes: [0; 20] };
+    let mut group = Group {
+        frames: [0; 4],
+        repeats: column(19, 4)?,
+        rate: column(23, 3)?,
+        codes: [0; 20],
+    };
     for (phase, frames) in group.frames.iter_mut().enumerate() {
         *frames = column(3 + 4 * phase, 4).filter(|&frames| frames <= 255)?;
     }
@@ -161,7 +170,11 @@ fn group_of(line: &str, number: usize) -> Option<Group> {
 /// A line `name` and seven columns.
 fn named(line: &str, name: &str) -> Option<i64> {
     let column = line.strip_prefix(name)?;
-    if column.len() == 7 { whole(column) } else { None }
+    if column.len() == 7 {
+        whole(column)
+    } else {
+        None
+    }
 }
 
 /// The sheet of a text, or the first line that is bad.
@@ -175,7 +188,10 @@ fn parsed(text: &[u8]) -> Result<Sheet, usize> {
         };
         let found = &rest[..end];
         rest = &rest[end + 1..];
-        (number, str::from_utf8(found).ok().filter(|line| line.is_ascii()))
+        (
+            number,
+            str::from_utf8(found).ok().filter(|line| line.is_ascii()),
+        )
     };
     let mut groups = Vec::new();
     for group in 0..GROUPS {
@@ -183,7 +199,10 @@ fn parsed(text: &[u8]) -> Result<Sheet, usize> {
         groups.push(line.and_then(|line| group_of(line, group)).ok_or(number)?);
     }
     let (last, gate) = line();
-    let gate = gate.and_then(|line| named(line, "gate")).filter(|gate| (0..=255).contains(gate)).ok_or(last)?;
+    let gate = gate
+        .and_then(|line| named(line, "gate"))
+        .filter(|gate| (0..=255).contains(gate))
+        .ok_or(last)?;
     let mut millivolts = [0; 4];
     for (supply, name) in NAMES.iter().enumerate() {
         let (number, line) = line();
@@ -193,7 +212,11 @@ fn parsed(text: &[u8]) -> Result<Sheet, usize> {
         return Err(16);
     }
     let groups = groups.try_into().expect("ten groups");
-    Ok(Sheet { groups, gate, millivolts })
+    Ok(Sheet {
+        groups,
+        gate,
+        millivolts,
+    })
 }
 
 /// How often each answer comes about.
@@ -216,7 +239,11 @@ fn answer(text: &[u8], tally: &mut Tally) -> Vec<u8> {
     match sheet.setting() {
         Ok(setting) => {
             tally.settings += 1;
-            assert_eq!(Sheet::decoded(&setting), sheet, "the reference reads another sheet");
+            assert_eq!(
+                Sheet::decoded(&setting),
+                sheet,
+                "the reference reads another sheet"
+            );
             setting.to_vec()
         }
         Err(number) => {
@@ -248,7 +275,11 @@ pub(super) fn run(input: &[u8], out: &mut impl Write) -> io::Result<bool> {
             out.write_all(&answer(&body[..count], &mut tally))?;
         }
     }
-    let Tally { settings, refused: [no_code, repeats, codes], bad_lines } = tally;
+    let Tally {
+        settings,
+        refused: [no_code, repeats, codes],
+        bad_lines,
+    } = tally;
     eprintln!("settings {settings}, 61 {no_code}, 62 {repeats}, 63 {codes}, bad lines {bad_lines}");
     Ok(rest.is_empty())
 }
@@ -285,7 +316,11 @@ fn sheet(random: &mut Random) -> Sheet {
         true => 0,
         false => listed_code(supply, random),
     });
-    Sheet { groups, gate: random.byte().into(), millivolts }
+    Sheet {
+        groups,
+        gate: random.byte().into(),
+        millivolts,
+    }
 }
 
 /// What 61, 62 and 63 refuse, put into a sheet: each bit of `faults` one of them.
@@ -336,8 +371,16 @@ pub(super) fn generate(seed: u64, count: u64, out: &mut impl Write) -> io::Resul
     }
     for line in 0..16 {
         let mut text = sheet(&mut random).text().into_bytes();
-        let place = if line < 10 { LINE * line + 5 } else { LINE * 10 + 12 * (line - 10) + 5 };
-        if place < text.len() { text[place] = b'x' } else { text.push(b'x') }
+        let place = if line < 10 {
+            LINE * line + 5
+        } else {
+            LINE * 10 + 12 * (line - 10) + 5
+        };
+        if place < text.len() {
+            text[place] = b'x'
+        } else {
+            text.push(b'x')
+        }
         case(b't', &text, out)?;
     }
     for place in 0..count {
