@@ -28,19 +28,23 @@ unfoldable pub groupLine : GroupCodes → ℕ → List ℕ
 groupLine g number =
     natural 3 number ++ framesText g ++ natural 4 (g .repeats) ++ natural 3 (g .«frame_rate») ++ joined 5 (codesText g) ++ lineEnd
 
--- `gate`, `VSH1`, `VSH2`, `VSL ` and `VCOM`, in ASCII
+-- `gate`, in ASCII
 abbrev pub gateName : List ℕ
 gateName = 103 ∷ 97 ∷ 116 ∷ 101 ∷ []
 
+-- `VSH1`
 abbrev pub vsh1Name : List ℕ
 vsh1Name = 86 ∷ 83 ∷ 72 ∷ 49 ∷ []
 
+-- `VSH2`
 abbrev pub vsh2Name : List ℕ
 vsh2Name = 86 ∷ 83 ∷ 72 ∷ 50 ∷ []
 
+-- `VSL `
 abbrev pub vslName : List ℕ
 vslName = 86 ∷ 83 ∷ 76 ∷ 32 ∷ []
 
+-- `VCOM`
 abbrev pub vcomName : List ℕ
 vcomName = 86 ∷ 67 ∷ 79 ∷ 77 ∷ []
 
