@@ -19,7 +19,7 @@ pub record ColumnFits (z : ℤ) : Type 0 where
   pub low : negsuc 999998 ≤ℤ z
   pub high : z ≤ℤ pos 9999999
 
--- all that a sheet can hold of what `write` accepts, and more
+-- a sheet of such groups and voltages, with a gate byte
 pub record SheetFits (h : Sheet) : Type 0 where
   pub group-fits : (k : ℕ) → k < 10 → GroupFits (groupAt h k)
   pub gate-fits : h .gate < 256
