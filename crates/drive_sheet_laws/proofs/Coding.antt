@@ -82,7 +82,8 @@ pos-one m n e = ap natAbs e
 below-one : (m n : ℕ) → below m ≡ below n → m ≡ n
 below-one m n e = pos-one m n (sym (negℤ-negℤ (pos m)) ∙ ap negℤ e ∙ negℤ-negℤ (pos n))
 
-one-code : (supply : Supply) (a b : ℕ) (z : ℤ) → voltageOf supply a ≡ Listed z → voltageOf supply b ≡ Listed z → a ≡ b
+-- no millivolts have two codes, 0 mV among them
+pub one-code : (supply : Supply) (a b : ℕ) (z : ℤ) → voltageOf supply a ≡ Listed z → voltageOf supply b ≡ Listed z → a ≡ b
 one-code Vsh1 = signed-once pos pos-one (sourceHigh ∷ sourceLow ∷ []) source-once
 one-code Vsh2 = signed-once pos pos-one (sourceHigh ∷ sourceLow ∷ []) source-once
 one-code Vsl = signed-once below below-one (vslLine ∷ []) vsl-once

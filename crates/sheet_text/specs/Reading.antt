@@ -68,7 +68,7 @@ differsIn n [] (y ∷ ys) = n
 differsIn n (x ∷ xs) [] = n
 differsIn n (x ∷ xs) (y ∷ ys) = pick (eqb x y) (differsIn (lineAfter n x) xs ys) n
 
--- the first line of a text that no sheet has there, counted from 1; 0 where the text is a sheet's
+-- the first line of a text that no sheet that fits the columns has there, counted from 1; 0 where the text is such a sheet's
 abbrev pub badLineOf : List ℕ → ℕ
 badLineOf text = differsIn 1 text (sheetText (sheetIn text))
 

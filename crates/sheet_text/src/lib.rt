@@ -18,13 +18,15 @@ pub const SETTING_BYTES: usize = 112;
 
 // What a text says.
 pub struct Drawing {
-    // The first line that no sheet has there, counted from 1; 0 where the text is a sheet's.
+    // The first line that no sheet that fits the columns has there, counted from 1; 0 where the text is such a sheet's.
     pub bad_line: usize,
     // The numbers at their places.
     pub sheet: Sheet,
 }
 
 // The text of a sheet, to the front of `out`; answers its length. An `out` of fewer than 580 bytes stays as it is, and the answer is 0.
+// A sheet that does not fit the columns (a LUT code of 10, ..) has no text: its numbers are written by their last digits, which is the text
+// of another sheet.
 pub fn put(sheet: Sheet, out: &mut [u8]) -> usize
     ensures text { λ r. ⌜ buffer r (now (out .exit)) ≡ putIn sheet (now (out .entry)) ⌝ }
     ensures within { λ r. ⌜ r ≤ length (now (out .exit)) ⌝ }

@@ -146,11 +146,17 @@ module _ (h : Sheet) (formed : Formed h) (fits : SheetFits h) where
   text-is-read =
       λ i. record { «bad_line» = (ap (λ (s : Sheet). differsIn 1 text (sheetText s)) sheet-read ∙ differs-not 1 text) i; sheet = sheet-read i }
 
-  -- what `sheet` writes for it, where `write` accepts it, is its setting
+  -- what `sheet` writes for it is the setting, or the number, that `write` answers of it
+  pub text-is-told : answerText text ≡ settingText h
+  unfolding answerText drawingOf
+  text-is-told =
+      sym (took _ _ _ _ (eq-eqb (badLineOf text) 0 (ap (λ (d : Drawing). d .«bad_line») text-is-read)) refl)
+      ∙ ap settingText sheet-read
+
+  -- its setting, where `write` accepts it
   pub text-is-answered : Writable h → answerText text ≡ settingOf h
-  unfolding answerText settingText toldOf drawingOf
+  unfolding settingText toldOf
   text-is-answered w =
       let lent : List ℕ = replicate 112 0 in
       let told : accepted ≡ writtenOf h lent .answer = ap (λ (r : Reply). r .answer) (all-written h lent (settingOf h) (length-replicate {A = ℕ} 112 0) w refl) in
-      sym (took _ _ _ _ (eq-eqb (badLineOf text) 0 (ap (λ (d : Drawing). d .«bad_line») text-is-read)) refl)
-      ∙ ap settingText sheet-read ∙ ap (replyText h) (sym told)
+      text-is-told ∙ ap (replyText h) (sym told)
