@@ -25,8 +25,8 @@ pub struct Drawing {
 }
 
 // The text of a sheet, to the front of `out`; answers its length. An `out` of fewer than 580 bytes stays as it is, and the answer is 0.
-// A sheet that does not fit the columns (a LUT code of 10, ..) has no text: its numbers are written by their last digits, which is the text
-// of another sheet.
+// Of a sheet that does not fit the columns (a LUT code of 10, ..) the last digits of the numbers are written: the text of another sheet, or
+// one with leading zeros, which has a bad line.
 pub fn put(sheet: Sheet, out: &mut [u8]) -> usize
     ensures text { λ r. ⌜ buffer r (now (out .exit)) ≡ putIn sheet (now (out .entry)) ⌝ }
     ensures within { λ r. ⌜ r ≤ length (now (out .exit)) ⌝ }

@@ -3,3 +3,4 @@ mod Holds
 mod Signs
 mod Places
 pub mod Text
+pub mod Fits

@@ -60,7 +60,7 @@ column-value w n true l m =
 
 -- ---- the sign
 module _ (p : ℕ → Bool) where
-  any-false : (n : ℕ) → ((k : ℕ) → k < n → p k ≡ false) → anyOf p n ≡ false
+  pub any-false : (n : ℕ) → ((k : ℕ) → k < n → p k ≡ false) → anyOf p n ≡ false
   unfolding anyOf
   any-false zero h = refl
   any-false (suc n) h = rw (any-false n (λ k l. h k (omega arith)), h n (omega arith))
