@@ -18,6 +18,7 @@ mod record;
 mod records;
 mod replay;
 mod settings;
+mod sheet;
 mod tally;
 
 use std::io::{self, Read, Write};
@@ -33,6 +34,10 @@ const USAGE: &str = "usage: oracle replay < events
        oracle listing < setting
        oracle listings < settings
        oracle settings SEED COUNT
+       oracle sheet < text
+       oracle sheets < cases
+       oracle sheets-generate SEED COUNT
+       oracle sheets-voltages
        oracle records
        oracle figures";
 
@@ -65,6 +70,13 @@ impl crate::Judge for Ssd1677 {
                 (Ok(seed), Ok(count)) => listing::generate(seed, count, &mut out),
                 _ => return usage(),
             },
+            ["sheet"] => sheet::one(&input(), &mut out),
+            ["sheets"] => sheet::run(&input(), &mut out),
+            ["sheets-generate", seed, count] => match (seed.parse(), count.parse()) {
+                (Ok(seed), Ok(count)) => sheet::generate(seed, count, &mut out),
+                _ => return usage(),
+            },
+            ["sheets-voltages"] => sheet::voltages(&mut out),
             ["records"] => records::run(&mut out),
             ["figures"] => figures::run(&mut out),
             _ => return usage(),

@@ -1,0 +1,4 @@
+-- Laws that several proofs cite.
+mod Values
+mod Differ
+mod Fronts

@@ -1,0 +1,2 @@
+-- The root of sheet_text_laws' specs.
+pub mod Fits
