@@ -1,6 +1,7 @@
 //! The oracle's programs (oracle/README.md). The reference names this module `tests`.
 
 mod bench;
+mod charge;
 mod configuration;
 mod configurations;
 mod dump;
@@ -32,6 +33,9 @@ const USAGE: &str = "usage: oracle replay < events
        oracle listing < setting
        oracle listings < settings
        oracle settings SEED COUNT
+       oracle charge [PERIOD..] < table
+       oracle charge-table SEED PLACE
+       oracle charge-periods SEED PLACE
        oracle records
        oracle figures";
 
@@ -62,6 +66,15 @@ impl crate::Judge for Ssd1677 {
             ["listings"] => listing::run(&input(), &mut out),
             ["settings", seed, count] => match (seed.parse(), count.parse()) {
                 (Ok(seed), Ok(count)) => listing::generate(seed, count, &mut out),
+                _ => return usage(),
+            },
+            ["charge", periods @ ..] => charge::run(periods, &input(), &mut out),
+            ["charge-table", seed, place] => match (seed.parse(), place.parse()) {
+                (Ok(seed), Ok(place)) => charge::table(seed, place, &mut out),
+                _ => return usage(),
+            },
+            ["charge-periods", seed, place] => match (seed.parse(), place.parse()) {
+                (Ok(seed), Ok(place)) => charge::periods(seed, place, &mut out),
                 _ => return usage(),
             },
             ["records"] => records::run(&mut out),

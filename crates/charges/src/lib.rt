@@ -135,15 +135,15 @@ pub fn report(frame_period: [u64; 16], otp: &[u8], out: &mut [u8]) -> Reported
 {
     let error = parameters_error(frame_period, otp);
     let accepted = config::is_accepted(error);
-    let long = has_long_period(frame_period);
-    let other = out.len() != LINE_BYTES * (otp.len() / ENTRY_BYTES);
+    let long_period = has_long_period(frame_period);
+    let other_length = out.len() != LINE_BYTES * (otp.len() / ENTRY_BYTES);
     if !accepted {
         return Reported::Refused(error);
     }
-    if long {
+    if long_period {
         return Reported::LongPeriod;
     }
-    if other {
+    if other_length {
         return Reported::OtherLength;
     }
     put_text(out, otp, &frame_period);
