@@ -24,8 +24,8 @@ is-accepted-requires c κs = search needs
 has-long-period-requires : tie.Need-has-long-period-requires
 has-long-period-requires c κs = search needs
 
-mul-other : tie.Need-mul-other
-mul-other c = search needs
+mul-other-length : tie.Need-mul-other-length
+mul-other-length c = search needs
 
 -- ---- the tests, and what is left of the buffer
 abbrev Asked : Type 0
@@ -100,7 +100,7 @@ report-spec =
     parameters-error-requires
     is-accepted-requires
     has-long-period-requires
-    mul-other
+    mul-other-length
     returns
     returns-2
     returns-3
