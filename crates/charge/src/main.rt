@@ -39,7 +39,7 @@ fn write_lines(lines: &[u8]) {
 fn answer(table: &[u8], frame_period: [u64; 16], lines: &mut [u8]) {
     match charges::report(frame_period, table, lines) {
         Reported::Written => write_lines(lines),
-        Reported::Refused(error) => say::refused(error),
+        Reported::Refused(error) => say::refused(error, table),
         Reported::LongPeriod => say::long_period(frame_period),
         Reported::OtherLength => say::refusal(11),
     }

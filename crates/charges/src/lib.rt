@@ -19,7 +19,7 @@ use otp::ENTRY_BYTES;
 pub const LINE_BYTES: usize = 88;
 
 // Bytes of a setting.
-pub const SETTING_BYTES: usize = 112;
+const SETTING_BYTES: usize = 112;
 
 // 81 refuses a longer frame period, in nanoseconds: up to it no sum leaves 64 bits.
 pub const LONGEST_PERIOD: u64 = 100_000_000;
