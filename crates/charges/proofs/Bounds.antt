@@ -1,10 +1,10 @@
 -- No product and no sum of a charge leaves 64 bits while no period exceeds 100,000,000 ns: a phase drives at most
 -- 34,000 mV × 255 frames × the period, a group has four phases at most 256 times, and there are ten. Assumes nothing.
-use mathlib.Core.Path.{_≡_, refl, sym, ap, subst, _∙_}
+use mathlib.Core.Path.{_≡_, refl, sym, subst, _∙_}
 use mathlib.Core.List.{List, [], _∷_, _++_}
 use Prim.Native.Nat.{ℕ, zero, suc, _+_, _*_, _≤_, _<_}
 use native.Mathlib.Omega.{arith}
-use native.Mathlib.Nat.{mul-le-mul, mul-suc, le-trans, add-assoc}
+use native.Mathlib.Nat.{mul-le-mul, mul-suc, le-trans}
 use lib.IntN.{ℤ, pos, negsuc, negℤ, natAbs, _+ℤ_, _*ℤ_}
 use lib.ListN.{getD}
 use mir.Syntax.{w64}

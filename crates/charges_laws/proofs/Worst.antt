@@ -1,18 +1,15 @@
 -- The bound of the charge is reached, in both signs. Assumes nothing.
-use mathlib.Core.Path.{_≡_, refl, sym, ap, _∙_}
-use mathlib.Core.List.{List}
-use Prim.Native.Nat.{ℕ, zero, suc, _+_}
+use mathlib.Core.Path.{_≡_, refl, _∙_}
+use Prim.Native.Nat.{ℕ, zero, suc}
 use lib.IntN.{ℤ, pos, negsuc, _+ℤ_, _*ℤ_}
 use lib.ListN.{getD}
 use Rattle.numbers.specs.Lists.{tab}
 use Rattle.voltage.specs.Codes.{voltage}
 use Rattle.waveform.specs.declared.Drive.the-variants.{Lut}
-use Rattle.waveform.specs.declared.Group.{Group}
-use Rattle.waveform.specs.declared.Phase.{Phase}
 use Rattle.waveform.specs.declared.Waveform.{Waveform}
 use Rattle.waveform.specs.Voltages.{levelsOf, sourceLevel, vcomSwing}
 use Rattle.waveform.specs.Setting.{codesOf, frameRateOf, groupCodesOf, waveformOf}
-use Rattle.waveform.specs.Phases.{phaseOf, driven, joined, fourPhases, groupPhases, phasesOf, noGroup}
+use Rattle.waveform.specs.Phases.{phaseOf, driven, joined, fourPhases, groupPhases, noGroup}
 use Rattle.waveform.specs.Exact.{allDrives}
 use Rattle.charges.specs.Charge.{sumZ, driveSum, chargeOf}
 use Rattle.charges.proofs.Sums.{sum-append, sum-repeats}

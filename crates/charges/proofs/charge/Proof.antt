@@ -1,5 +1,5 @@
 -- `charges::charge` meets its contract: 5, 81 and 11 in their order, then the sum.
-use mathlib.Core.Path.{_≡_, sym, ap, _∙_}
+use mathlib.Core.Path.{sym, ap, _∙_}
 use mathlib.Core.Bool.{not}
 use mathlib.Core.List.{List, [], _∷_}
 use Prim.Native.Nat.{ℕ, _<_}
@@ -9,7 +9,6 @@ use lib.ListN.{length}
 use borrow.Author.Tests.{eqb-true}
 use Rattle.numbers.proofs.Lin.{got}
 use Rattle.waveform.specs.declared.Drive.the-variants.{Lut}
-use Rattle.waveform.specs.declared.Waveform.{Waveform}
 use Rattle.waveform.specs.Phases.{phasesOf}
 use Rattle.config.specs.Answer.{Test}
 use Rattle.config.specs.Tests.{periodsTest, lentTest}

@@ -10,7 +10,6 @@ use Rattle.column.specs.Columns.{Buffer, buffer, appended}
 use Rattle.listing.proofs.Joined.{joined-none, joined-more}
 use Rattle.charges.specs.Report.{settingBytes, chargeLine, chargeText}
 use Rattle.charges.proofs.Answers.{filled}
-use borrow.Author.Needs.{needs}
 use Rattle.charges.proofs.put_text.Statement.{statement}
 use Rattle.charges.proofs.put_text.Tie as tie
 

@@ -1,6 +1,5 @@
 -- `charges::line::put_sums` meets its contract: four columns, one after the other.
-use mathlib.Core.List.{List}
-use Prim.Native.Nat.{ℕ, _≤_}
+use Prim.Native.Nat.{_≤_}
 use native.Mathlib.Omega.{arith}
 use lib.ListN.{length}
 use Rattle.waveform.specs.Phases.{joined}
