@@ -68,7 +68,10 @@ impl crate::Judge for Ssd1677 {
                 (Ok(seed), Ok(count)) => listing::generate(seed, count, &mut out),
                 _ => return usage(),
             },
-            ["charge", periods @ ..] => charge::run(periods, &input(), &mut out),
+            ["charge", periods @ ..] => match charge::periods_of(periods) {
+                Some(periods) => charge::run(&input(), &periods, &mut out),
+                None => return usage(),
+            },
             ["charge-table", seed, place] => match (seed.parse(), place.parse()) {
                 (Ok(seed), Ok(place)) => charge::table(seed, place, &mut out),
                 _ => return usage(),

@@ -68,18 +68,17 @@ fn text(table: &[u8], periods: &Periods) -> String {
     text
 }
 
-/// `words` are sixteen periods, or none for the default; whether they are.
-pub(super) fn run(words: &[&str], table: &[u8], out: &mut impl Write) -> io::Result<bool> {
+/// Sixteen periods, or the default where there are no words.
+pub(super) fn periods_of(words: &[&str]) -> Option<Periods> {
+    if words.is_empty() {
+        return Some([DEFAULT; 16]);
+    }
     let given: Result<Vec<u64>, _> = words.iter().map(|word| word.parse()).collect();
-    let periods = match given {
-        Ok(given) if given.is_empty() => [DEFAULT; 16],
-        Ok(given) => match Periods::try_from(given) {
-            Ok(periods) => periods,
-            Err(_) => return Ok(false),
-        },
-        Err(_) => return Ok(false),
-    };
-    out.write_all(text(table, &periods).as_bytes())?;
+    Periods::try_from(given.ok()?).ok()
+}
+
+pub(super) fn run(table: &[u8], periods: &Periods, out: &mut impl Write) -> io::Result<bool> {
+    out.write_all(text(table, periods).as_bytes())?;
     Ok(true)
 }
 
