@@ -78,6 +78,7 @@ pub(crate) fn charge_of(waveform: Waveform, lut: usize) -> i64
     ensures { λ r. ⌜ r ≡ driveSum (phasesOf waveform (Lut lut)) ⌝ }
 {
     let levels = waveform.levels;
+    // A phase is made without the swing and the panel's sign, whatever they are.
     let driving = Driving {
         levels,
         drive: Drive::Lut(lut),
