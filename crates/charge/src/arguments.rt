@@ -4,7 +4,7 @@ use column::read::Column;
 // No number of 64 bits has more digits.
 const DIGITS: usize = 20;
 
-// Argument 0 is the program's own name.
+// Blanks in front are taken, up to 20 bytes in all. Argument 0 is the program's own name.
 fn period(argument: usize) -> Column {
     let mut text = [0u8; DIGITS];
     let length = os::arg(argument, &mut text);

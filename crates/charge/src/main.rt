@@ -23,10 +23,11 @@ fn default_periods() -> [u64; 16] {
     timing.frame_period
 }
 
-// `io::read_full` stops where the input ends and where a read fails; another read tells the two apart.
-fn reading_fails() -> bool {
+// `io::read_full` stops where the input ends and where a read fails or is interrupted. Past the end another read gets nothing and does
+// not fail: one that fails or gets a byte tells that what was read is not the whole.
+fn is_cut_short() -> bool {
     let mut byte = [0u8; 1];
-    libc::read(STDIN_FILENO, &mut byte) < 0
+    libc::read(STDIN_FILENO, &mut byte) != 0
 }
 
 fn write_lines(lines: &[u8]) {
@@ -57,8 +58,8 @@ fn answer_input(frame_period: [u64; 16]) {
     let mut input = [0u8; INPUT_BYTES];
     let read = io::read_full(STDIN_FILENO, &mut input);
     if read < INPUT_BYTES {
-        if reading_fails() {
-            say::failure(b"charge: standard input cannot be read\n");
+        if is_cut_short() {
+            say::failure(b"charge: standard input could not be read to its end\n");
             return;
         }
     }

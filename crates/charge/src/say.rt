@@ -37,7 +37,7 @@ pub fn bad_period(code: usize) {
     number_words(
         b"charge: the argument for frame-rate code ",
         code,
-        b" is no number: digits alone, no leading 0, below 2^64\n",
+        b" is no number: up to 20 bytes, blanks or none, then a decimal below 2^64, no leading 0\n",
     );
 }
 

@@ -17,7 +17,7 @@ use Rattle.config.proofs.Answers.{refuses, passes, none-left, stops, goes-on}
 use Rattle.otp.specs.Search.{anyOf}
 use Rattle.column.specs.Columns.{Buffer, buffer, appended}
 use Rattle.column.proofs.Appended.{fronted}
-use Rattle.charges.specs.Charge.{longestPeriod, longPeriodTest, AllShort, answered, tested}
+use Rattle.charges.specs.Charge.{longestPeriod, longPeriodTest, AllShort, withAnswer, tested, asRefusal}
 
 -- a text from the buffer's front to its end
 pub filled : (text before : List ℕ) {at : ℕ} {now : List ℕ} → buffer at now ≡ appended (buffer 0 before) text → at ≡ length before → now ≡ text
@@ -54,29 +54,37 @@ pub unturned : (b : Bool) → not b ≡ false → b ≡ true
 unturned true e = refl
 unturned false e = sym e
 
-module _ {A : Type 0} (tests : List Test) (before done : A) where
-  left-alone : (x : Answer) → x ≡ firstOf tests → isAccepted x ≡ false → answered x before ≡ tested tests before done
-  unfolding tested
-  left-alone x e h = λ i. answered (e i) (passed _ done before before (ap isAccepted (sym e) ∙ h) refl i)
+-- what is refused is told as it is
+still-refused : (x : Answer) → isAccepted x ≡ false → asRefusal x ≡ x
+still-refused accepted h = absurd (let z : _≡_ {A = ℕ} 0 1 = cc in omega arith)
+still-refused (refused n v) h = refl
 
-  does : {now : A} → accepted ≡ firstOf tests → now ≡ done → answered accepted now ≡ tested tests before done
+module _ {A : Type 0} (tests : List Test) (before done : A) where
+  left-alone : (x : Answer) → x ≡ firstOf tests → isAccepted x ≡ false → withAnswer x before ≡ tested tests before done
   unfolding tested
-  does {now} e t = λ i. answered (e i) (took _ done before now (ap isAccepted (sym e)) t i)
+  left-alone x e h = λ i. withAnswer (e i) (passed _ done before before (ap isAccepted (sym e) ∙ h) refl i)
+
+  does : {now : A} → accepted ≡ firstOf tests → now ≡ done → withAnswer accepted now ≡ tested tests before done
+  unfolding tested
+  does {now} e t = λ i. withAnswer (e i) (took _ done before now (ap isAccepted (sym e)) t i)
 
 module _ {A : Type 0} (first : List Test) (long lent : Test) (before done : A) {x : Answer} (e : x ≡ firstOf first) where
-  pub at-first : not (isAccepted x) ≡ true → answered x before ≡ tested (first ++ long ∷ lent ∷ []) before done
-  at-first h = left-alone _ before done x (stops first (long ∷ lent ∷ []) x e (turned _ h)) (turned _ h)
+  pub at-first : not (isAccepted x) ≡ true → withAnswer (asRefusal x) before ≡ tested (first ++ long ∷ lent ∷ []) before done
+  at-first h =
+      let no : isAccepted x ≡ false = turned _ h in
+      let same = still-refused x no in
+      left-alone _ before done (asRefusal x) (same ∙ stops first (long ∷ lent ∷ []) x e no) (ap isAccepted same ∙ no)
 
   module _ (passes-first : not (isAccepted x) ≡ false) where
     on : (y : Answer) → y ≡ firstOf (long ∷ lent ∷ []) → y ≡ firstOf (first ++ long ∷ lent ∷ [])
     on y = goes-on first (long ∷ lent ∷ []) x y e (unturned _ passes-first)
 
-    pub at-long : long .refuses ≡ true → answered (refused (long .number) (long .value)) before ≡ tested (first ++ long ∷ lent ∷ []) before done
+    pub at-long : long .refuses ≡ true → withAnswer (refused (long .number) (long .value)) before ≡ tested (first ++ long ∷ lent ∷ []) before done
     at-long h = left-alone _ before done _ (on _ (refuses long (lent ∷ []) _ h refl)) refl
 
     module _ (passes-long : long .refuses ≡ false) where
-      pub at-lent : lent .refuses ≡ true → answered (refused (lent .number) (lent .value)) before ≡ tested (first ++ long ∷ lent ∷ []) before done
+      pub at-lent : lent .refuses ≡ true → withAnswer (refused (lent .number) (lent .value)) before ≡ tested (first ++ long ∷ lent ∷ []) before done
       at-lent h = left-alone _ before done _ (on _ (passes long (lent ∷ []) _ passes-long (refuses lent [] _ h refl))) refl
 
-      pub at-none : {now : A} → lent .refuses ≡ false → now ≡ done → answered accepted now ≡ tested (first ++ long ∷ lent ∷ []) before done
+      pub at-none : {now : A} → lent .refuses ≡ false → now ≡ done → withAnswer accepted now ≡ tested (first ++ long ∷ lent ∷ []) before done
       at-none h t = does _ before done (on _ (passes long (lent ∷ []) _ passes-long (passes lent [] _ h (none-left _ refl)))) t

@@ -43,17 +43,22 @@ abbrev pub longPeriodTest : List ℕ → Test
 longPeriodTest periods = record { number = 81; value = 0; refuses = anyOf (λ code. ltb longestPeriod (getD periods code 0)) 16 }
 
 -- what a call answers, and what it gives or leaves beside it
-pub record Answered (A : Type 0) : Type 0 where
+pub record WithAnswer (A : Type 0) : Type 0 where
   pub answer : Answer
   pub held : A
 
 -- the two as one
-abbrev pub answered : {A : Type 0} → Answer → A → Answered A
-answered answer held = record { answer = answer; held = held }
+abbrev pub withAnswer : {A : Type 0} → Answer → A → WithAnswer A
+withAnswer answer held = record { answer = answer; held = held }
 
 -- the answer of the first test that refuses, beside what was there; where none does, beside what is done
-unfoldable pub tested : {A : Type 0} → List Test → A → A → Answered A
-tested tests before done = answered (firstOf tests) (pick (isAccepted (firstOf tests)) done before)
+unfoldable pub tested : {A : Type 0} → List Test → A → A → WithAnswer A
+tested tests before done = withAnswer (firstOf tests) (pick (isAccepted (firstOf tests)) done before)
+
+-- the answer of an error that is told as a refusal: no test has the number 0, so that to tell `Accepted` as one meets no contract
+abbrev pub asRefusal : Answer → Answer
+asRefusal accepted = refused 0 0
+asRefusal (refused number value) = refused number value
 
 -- ---- one sum
 
@@ -65,11 +70,11 @@ lutNumber Lut2 = 2
 lutNumber Lut3 = 3
 
 -- the number, the value and the sum of each case; a refusal has the sum 0
-unfoldable pub chargedOf : Charged → Answered ℤ
-chargedOf (Sum z) = answered accepted z
-chargedOf (Refused error) = answered (answerOf error) (pos 0)
-chargedOf LongPeriod = answered (refused 81 0) (pos 0)
-chargedOf OtherLength = answered (refused 11 0) (pos 0)
+unfoldable pub chargedOf : Charged → WithAnswer ℤ
+chargedOf (Sum z) = withAnswer accepted z
+chargedOf (Refused error) = withAnswer (asRefusal (answerOf error)) (pos 0)
+chargedOf LongPeriod = withAnswer (refused 81 0) (pos 0)
+chargedOf OtherLength = withAnswer (refused 11 0) (pos 0)
 
 -- 5, 81, 11
 abbrev pub chargeTests : List ℕ → List ℕ → List Test

@@ -8,7 +8,7 @@ use Rattle.config.specs.Answer.{Answer, accepted, refused, Test, answerOf}
 use Rattle.config.specs.Tests.{periodsTest, lentTest}
 use Rattle.otp.specs.Table.{entryBytes, entryCount, tableTest}
 use Rattle.column.specs.Columns.{natural, whole, lineEnd}
-use Rattle.charges.specs.Charge.{chargeOf, longPeriodTest}
+use Rattle.charges.specs.Charge.{chargeOf, longPeriodTest, asRefusal}
 use Rattle.charges.specs.declared.Reported.{Reported}
 use Rattle.charges.specs.declared.Reported.the-variants.{Written, Refused, LongPeriod, OtherLength}
 
@@ -39,6 +39,6 @@ reportTests periods otp out = periodsTest periods ∷ tableTest otp ∷ longPeri
 -- the number and the value of each case
 unfoldable pub reportedOf : Reported → Answer
 reportedOf Written = accepted
-reportedOf (Refused error) = answerOf error
+reportedOf (Refused error) = asRefusal (answerOf error)
 reportedOf LongPeriod = refused 81 0
 reportedOf OtherLength = refused 11 0

@@ -10,7 +10,7 @@ ghost use lib.ListN.{length};
 ghost use Rattle.config.specs.Answer.{firstOf, answerOf};
 ghost use Rattle.config.specs.Tests.{periodsTest};
 ghost use Rattle.otp.specs.Table.{entryCount, tableTest};
-ghost use Rattle.charges.specs.Charge.{chargeOf, longPeriodTest, answered, tested, lutNumber, chargedOf, chargeTests, AllShort};
+ghost use Rattle.charges.specs.Charge.{chargeOf, longPeriodTest, withAnswer, tested, lutNumber, chargedOf, chargeTests, AllShort};
 ghost use Rattle.charges.specs.Report.{chargeText, lineBytes, reportTests, reportedOf};
 use config::ConfigError;
 use otp::ENTRY_BYTES;
@@ -131,7 +131,7 @@ fn put_text(out: &mut [u8], otp: &[u8], frame_period: &[u64; 16])
 // Fills `out` with a line for each entry of the table: its number and the charge of LUT 0 to 3, in millivolts × nanoseconds. An unlisted
 // source voltage counts as 0. Refused, `out` stays as it is.
 pub fn report(frame_period: [u64; 16], otp: &[u8], out: &mut [u8]) -> Reported
-    ensures { λ r. ⌜ answered (reportedOf r) (now (out .exit)) ≡ tested (reportTests «frame_period» (now (otp .entry)) (now (out .entry))) (now (out .entry)) (chargeText «frame_period» (now (otp .entry))) ⌝ }
+    ensures { λ r. ⌜ withAnswer (reportedOf r) (now (out .exit)) ≡ tested (reportTests «frame_period» (now (otp .entry)) (now (out .entry))) (now (out .entry)) (chargeText «frame_period» (now (otp .entry))) ⌝ }
 {
     let error = parameters_error(frame_period, otp);
     let accepted = config::is_accepted(error);
