@@ -1,6 +1,7 @@
 //! The oracle's programs (oracle/README.md). The reference names this module `tests`.
 
 mod bench;
+mod charge;
 mod coldest;
 mod configuration;
 mod configurations;
@@ -38,6 +39,9 @@ const USAGE: &str = "usage: oracle replay < events
        oracle sheets < cases
        oracle sheets-generate SEED COUNT
        oracle sheets-voltages
+       oracle charge [PERIOD..] < table
+       oracle charge-table SEED PLACE
+       oracle charge-periods SEED PLACE
        oracle records
        oracle figures";
 
@@ -77,6 +81,18 @@ impl crate::Judge for Ssd1677 {
                 _ => return usage(),
             },
             ["sheets-voltages"] => sheet::voltages(&mut out),
+            ["charge", periods @ ..] => match charge::periods_of(periods) {
+                Some(periods) => charge::run(&input(), &periods, &mut out),
+                None => return usage(),
+            },
+            ["charge-table", seed, place] => match (seed.parse(), place.parse()) {
+                (Ok(seed), Ok(place)) => charge::table(seed, place, &mut out),
+                _ => return usage(),
+            },
+            ["charge-periods", seed, place] => match (seed.parse(), place.parse()) {
+                (Ok(seed), Ok(place)) => charge::periods(seed, place, &mut out),
+                _ => return usage(),
+            },
             ["records"] => records::run(&mut out),
             ["figures"] => figures::run(&mut out),
             _ => return usage(),

@@ -185,3 +185,16 @@ fn waveform(entry: &[u8; ENTRY_BYTES]) -> Option<OtpWaveform> {
         provenance: Configuration::provenance(u64::from(entry[1])),
     })
 }
+
+/// A waveform as an entry of the table (SCOPE, OTP table).
+pub(super) fn entry(waveform: &OtpWaveform) -> Vec<u8> {
+    let measured = matches!(waveform.provenance, Provenance::Measured);
+    let mut entry: Vec<u8> = [waveform.mode == DisplayMode::Two, measured]
+        .map(u8::from)
+        .into();
+    for bound in [waveform.lower, waveform.upper] {
+        entry.extend(bound.register().to_be_bytes());
+    }
+    entry.extend(waveform.setting);
+    entry
+}

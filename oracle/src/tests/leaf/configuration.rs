@@ -1,10 +1,11 @@
 //! Temperatures, the choice of a waveform, and the conditions of a start.
 
 use super::{Arguments, Leaf, option};
-use crate::glass::Provenance;
 use crate::ssd1677::config::find_waveform;
 use crate::ssd1677::reference::gdeq0426t82_otp;
-use crate::ssd1677::tests::configuration::{Configuration, FIELDS, Refusal, largest, waveforms};
+use crate::ssd1677::tests::configuration::{
+    Configuration, FIELDS, Refusal, entry, largest, waveforms,
+};
 use crate::ssd1677::tests::configurations;
 use crate::ssd1677::tests::random::Random;
 use crate::ssd1677::{DisplayMode, LUT_BYTES, Temperature};
@@ -60,15 +61,7 @@ fn find_waveform_question(_: u64, random: &mut Random) -> Vec<i128> {
 
 /// A byte of the reference's waveforms, 118 an entry (SCOPE, OTP table).
 fn reference_byte(arguments: &mut Arguments) -> Option<Vec<i128>> {
-    let mut table = Vec::new();
-    for waveform in gdeq0426t82_otp() {
-        let measured = matches!(waveform.provenance, Provenance::Measured);
-        table.extend([waveform.mode == DisplayMode::Two, measured].map(u8::from));
-        for bound in [waveform.lower, waveform.upper] {
-            table.extend(bound.register().to_be_bytes());
-        }
-        table.extend(waveform.setting);
-    }
+    let table: Vec<u8> = gdeq0426t82_otp().iter().flat_map(entry).collect();
     let place: u16 = arguments.take()?;
     Some(option(table.get(usize::from(place)).copied()))
 }

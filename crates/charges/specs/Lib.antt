@@ -1,0 +1,3 @@
+-- The root of charges' specs.
+pub mod Charge
+pub mod Report

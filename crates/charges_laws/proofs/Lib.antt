@@ -1,0 +1,3 @@
+-- The theorems of the charge.
+pub mod Fits
+pub mod Worst

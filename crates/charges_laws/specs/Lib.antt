@@ -1,0 +1,2 @@
+-- The root of charges_laws' specs.
+pub mod Worst
