@@ -1,0 +1,2 @@
+-- The root of voltage_shift_laws' specs.
+pub mod Settings
