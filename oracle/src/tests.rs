@@ -16,6 +16,7 @@ mod random;
 mod record;
 mod records;
 mod replay;
+mod sensitivity;
 mod settings;
 mod tally;
 
@@ -32,6 +33,7 @@ const USAGE: &str = "usage: oracle replay < events
        oracle listing < setting
        oracle listings < settings
        oracle settings SEED COUNT
+       oracle sensitivity PROGRAM SEED COUNT
        oracle records
        oracle figures";
 
@@ -62,6 +64,10 @@ impl crate::Judge for Ssd1677 {
             ["listings"] => listing::run(&input(), &mut out),
             ["settings", seed, count] => match (seed.parse(), count.parse()) {
                 (Ok(seed), Ok(count)) => listing::generate(seed, count, &mut out),
+                _ => return usage(),
+            },
+            ["sensitivity", program, seed, count] => match (seed.parse(), count.parse()) {
+                (Ok(seed), Ok(count)) => sensitivity::run(program, seed, count, &mut out),
                 _ => return usage(),
             },
             ["records"] => records::run(&mut out),

@@ -60,14 +60,14 @@ returns c =
     let l = w .before .before .before in
     let a = l .before .before .before .args in
     ap shifting (c .lut-shifts .ensures ∙ (λ i. lutShifts (c .before .swing-of .ensures i) (c .before .before .change .ensures i) (a .driving) (w .waveform-of .ensures i .groups)))
-    ∙ decided (a .setting .now) (a .driving) (a .before) (a .after) _ (l .before .is-listed .ensures) (l .is-listed2 .ensures) _ (rw (w .before .if2 .taken, w .before .before .if1 .taken))
+    ∙ decided (a .setting .now) (a .driving) (a .before) (a .after) _ (l .before .is-listed .ensures) (l .is-listed2 .ensures) _ (simp (w .before .if2 .taken, w .before .before .if1 .taken))
 
 returns-2 : tie.Need-returns-2
 unfolding shiftAnswer
 returns-2 c =
     let l = c .before .before in
     let a = l .before .before .before .args in
-    decided (a .setting .now) (a .driving) (a .before) (a .after) _ (l .before .is-listed .ensures) (l .is-listed2 .ensures) _ (rw (c .if2 .left, c .before .if1 .taken))
+    decided (a .setting .now) (a .driving) (a .before) (a .after) _ (l .before .is-listed .ensures) (l .is-listed2 .ensures) _ (simp (c .if2 .left, c .before .if1 .taken))
 
 returns-3 : tie.Need-returns-3
 unfolding shiftAnswer
