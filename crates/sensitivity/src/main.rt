@@ -12,6 +12,9 @@ use shift_report::words::CodeWord;
 use shift_report::words::VoltageWord;
 use voltage_shift::DrivingVoltage;
 
+// One byte more than a setting has, so that longer input is seen to be longer.
+const INPUT_BYTES: usize = voltage_shift::SETTING_BYTES + 1;
+
 // Reading stops at the input's end or where it fails; one read more tells which.
 fn is_unreadable() -> bool {
     let mut more = [0u8; 1];
@@ -19,10 +22,9 @@ fn is_unreadable() -> bool {
 }
 
 fn report(optics: Optics, frame_period: [u64; 16], driving: DrivingVoltage, before: u8, after: u8) {
-    // One byte more than a setting has, so that longer input is seen to be longer.
-    let mut input = [0u8; 113];
+    let mut input = [0u8; INPUT_BYTES];
     let read = io::read_full(STDIN_FILENO, &mut input);
-    if read < 113 {
+    if read < INPUT_BYTES {
         if is_unreadable() {
             os::fail(b"sensitivity: standard input");
             return;

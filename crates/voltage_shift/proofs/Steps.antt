@@ -1,9 +1,9 @@
 -- Steps of grey: the nearest grey of a state, or the next, is 255 × state / S rounded up. Assumes nothing.
 use mathlib.Core.Path.{_≡_, sym, _∙_}
-use Prim.Native.Nat.{ℕ, _+_, _-_, _*_, _/_, _%_, _≤_, _<_}
+use Prim.Native.Nat.{ℕ, _+_, _-_, _*_, _/_, _≤_, _<_}
 use native.Mathlib.Omega.{arith}
 use native.Mathlib.Decide.{decLt}
-use native.Mathlib.Nat.{add-mul, one-mul, mul-comm, mul-left-comm, div-add-mod, mod-lt, div-eq-of-lt-le, le-div-iff-mul-le, div-lt-iff-lt-mul, mul-le-mul-right}
+use native.Mathlib.Nat.{add-mul, mul-comm, mul-left-comm, div-eq-of-lt-le, le-div-iff-mul-le, div-lt-iff-lt-mul, mul-le-mul-right}
 use lib.IntN.{pos}
 use Rattle.numbers.proofs.Lin.{whole, le-in, is-le}
 use Rattle.glass.specs.Greys.{grayZ}
@@ -63,13 +63,8 @@ module _ (S n g : ℕ) (some : 1 ≤ S) (in-swing : n ≤ S) (is : g ≡ grayZ (
 
   -- and it is not the last
   pub steps-before : S * g / 255 < n → g < 255
-  steps-before h =
-      let l = short h in
-      div-before (decLt g 255)
+  steps-before h = by (decLt g 255)
     where
-      div-before : Dec (g < 255) → g < 255
-      div-before (yes k) = k
-      div-before (no k) = absurd (omega (arith, short h, mul-mono))
-        where
-          mul-mono : 255 * S ≤ g * S
-          mul-mono = mul-le-mul-right S (omega arith)
+      by : Dec (g < 255) → g < 255
+      by (yes k) = k
+      by (no k) = absurd (omega (arith, short h, mul-le-mul-right {m = 255} {n = g} S (omega arith)))

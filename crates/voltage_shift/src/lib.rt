@@ -49,7 +49,7 @@ pub enum Bounded {
     UnlistedCode,
 }
 
-const SETTING_BYTES: usize = 112;
+pub const SETTING_BYTES: usize = 112;
 
 // 2^63 − 1.
 const LARGEST_SWING: u64 = 9223372036854775807;

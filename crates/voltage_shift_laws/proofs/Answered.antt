@@ -1,5 +1,9 @@
--- What `bounds` answers (#112): it holds, for each LUT 0 to 3 and every state from 0 to S, whole or cut at any one moment, of the lent setting
--- with the code before and with the code after; and it is answered wherever 4, 5, 11 and 91 find nothing. Assumes nothing.
+-- What `bounds` answers (#112), by its contract `shiftAnswer r ≡ boundsOf ..`:
+--     bounds-hold       the bounds hold for each LUT 0 to 3 and every state from 0 to S, whole or cut at any one moment, of the lent setting with
+--                       the code before and with the code after
+--     grays-hold        so do the steps of grey, of the greys that the two show
+--     bounds-answered   where 4, 5, 11 and 91 find nothing, the answer is the bounds, each the smaller of the exact sum and S
+-- Assumes nothing.
 use mathlib.Core.Path.{_≡_, refl, sym, ap, subst, _∙_}
 use mathlib.Core.Bool.{Bool, true, false, not, _||_}
 use mathlib.Core.List.{List, [], _∷_}
@@ -7,7 +11,7 @@ use Prim.Native.Nat.{ℕ, zero, suc, _≤_, _<_, min}
 use native.Mathlib.Omega.{arith}
 use native.Mathlib.Decide.{decLt}
 use lib.IntN.{ℤ, pos, natAbs, _-ℤ_}
-use lib.Dec.{eqb, ltb}
+use lib.Dec.{eqb}
 use lib.ListN.{length, getD}
 use borrow.Author.Tests.{eqb-false, eq-eqb, ne-eqb, le-ltb}
 use Rattle.numbers.specs.Choice.{pick}
@@ -29,11 +33,13 @@ use Rattle.config.proofs.Answers.{passes, none-left}
 use Rattle.config.proofs.Lowest.{lowest-none}
 use Rattle.panel.specs.Finish.{settingTransfer}
 use Rattle.panel.specs.Start.{swingOf}
+use Rattle.voltage_shift.specs.declared.Bounded.{Bounded}
+use Rattle.voltage_shift.specs.declared.Bounded.the-variants.{Within, Refused, NotASetting, UnlistedCode}
 use Rattle.voltage_shift.specs.declared.DrivingVoltage.{DrivingVoltage}
 use Rattle.voltage_shift.specs.declared.Shift.{Shift}
 use Rattle.voltage_shift.specs.declared.Shifts.{Shifts}
-use Rattle.voltage_shift.specs.Shift.{voltageByte, drivingMillivolts, boundOf, graySteps}
-use Rattle.voltage_shift.specs.Bounds.{opticsSwing, codesTest, boundsTests, changeOf, lutShift, lutShifts, shiftsFor, shifting, shiftingUnless, boundsOf}
+use Rattle.voltage_shift.specs.Shift.{voltageByte, drivingMillivolts}
+use Rattle.voltage_shift.specs.Bounds.{opticsSwing, codesTest, boundsTests, changeOf, lutShift, lutShifts, shiftsFor, shifting, shiftingUnless, boundsOf, shiftAnswer}
 use Rattle.voltage_shift_laws.specs.Settings.{AgreeBut, shiftAt}
 use Rattle.voltage_shift_laws.proofs.Sensitivity.{codes-bounded, codes-grays}
 
@@ -74,7 +80,7 @@ shift-is S change v s p (suc (suc zero)) h = refl
 shift-is S change v s p (suc (suc (suc zero))) h = refl
 shift-is S change v s p (suc (suc (suc (suc n)))) h = absurd (omega arith)
 
-module _ (o : Optics) (p s : List ℕ) (v : DrivingVoltage) (before after : ℕ) (b : Shifts) (answer : boundsOf o p s v before after ≡ shifting b) where
+module _ (o : Optics) (p s : List ℕ) (v : DrivingVoltage) (before after : ℕ) (b : Shifts) (answer : shiftAnswer (Within b) ≡ boundsOf o p s v before after) where
   -- what the tests found, and which bounds these are
   record Found : Type 0 where
     some : 1 ≤ opticsSwing o
@@ -83,9 +89,9 @@ module _ (o : Optics) (p s : List ℕ) (v : DrivingVoltage) (before after : ℕ)
     are : shiftsFor o p s v before after ≡ b
 
   found : Found
-  unfolding boundsOf
+  unfolding boundsOf shiftAnswer
   found =
-      let a = answered (firstOf (boundsTests o p s v before after)) (shiftsFor o p s v before after) b answer in
+      let a = answered (firstOf (boundsTests o p s v before after)) (shiftsFor o p s v before after) b (sym answer) in
       let p4 = passed (swingTest o) (periodsTest p ∷ lentTest (length s) 112 ∷ codesTest v before after ∷ []) (a .0) in
       let p5 = passed (periodsTest p) (lentTest (length s) 112 ∷ codesTest v before after ∷ []) (p4 .1) in
       let p11 = passed (lentTest (length s) 112) (codesTest v before after ∷ []) (p5 .1) in
@@ -137,10 +143,20 @@ module _ (o : Optics) (p s : List ℕ) (v : DrivingVoltage) (before after : ℕ)
       h))
 
 -- ---- where bounds are answered: a full swing and periods from 1 on, 112 bytes, and two listed codes
-pub bounds-answered : (o : Optics) (p s : List ℕ) (v : DrivingVoltage) (before after : ℕ) (was will : ℤ) → 1 ≤ o .«full_swing» → ((code : ℕ) → code < 16 → 1 ≤ getD p code 0)
-    → length s ≡ 112 → drivingMillivolts v before ≡ Listed was → drivingMillivolts v after ≡ Listed will → boundsOf o p s v before after ≡ shifting (shiftsFor o p s v before after)
+is-within : (r : Bounded) (x : Shifts) → shiftAnswer r ≡ shifting x → r ≡ Within x
+unfolding shiftAnswer
+is-within (Within b) x e = ap Within cc
+is-within (Refused a) x e = absurd (let z : _≡_ {A = ℕ} 0 1 = cc in omega arith)
+is-within NotASetting x e = absurd (let z : _≡_ {A = ℕ} 0 1 = cc in omega arith)
+is-within UnlistedCode x e = absurd (let z : _≡_ {A = ℕ} 0 1 = cc in omega arith)
+
+pub bounds-answered : (o : Optics) (p s : List ℕ) (v : DrivingVoltage) (before after : ℕ) (r : Bounded) → shiftAnswer r ≡ boundsOf o p s v before after
+    → (was will : ℤ) → 1 ≤ o .«full_swing» → ((code : ℕ) → code < 16 → 1 ≤ getD p code 0) → length s ≡ 112
+    → drivingMillivolts v before ≡ Listed was → drivingMillivolts v after ≡ Listed will
+    → r ≡ Within (lutShifts (min (o .«full_swing») 9223372036854775807) (natAbs (was -ℤ will)) v (waveformOf s p .groups))
 unfolding boundsOf
-bounds-answered o p s v before after was will some periods long is-was is-will = ap (λ (a : Answer). shiftingUnless a (shiftsFor o p s v before after)) (sym all)
+bounds-answered o p s v before after r answer was will some periods long is-was is-will =
+    is-within r _ (answer ∙ ap (λ (a : Answer). shiftingUnless a (shiftsFor o p s v before after)) (sym all) ∙ ap shifting change)
   where
     none : zeroPeriod p ≡ 16
     none = lowest-none (λ code. eqb (getD p code 0) 0) 16 (λ code h. ne-eqb (getD p code 0) 0 (λ e. omega (arith, periods code h)))
@@ -151,3 +167,6 @@ bounds-answered o p s v before after was will some periods long is-was is-will =
         (passes (periodsTest p) _ accepted (le-ltb (zeroPeriod p) 16 (omega (arith, none)))
         (passes (lentTest (length s) 112) _ accepted (ap not (eq-eqb (length s) 112 long))
         (passes (codesTest v before after) _ accepted (rw (is-was, is-will)) (none-left accepted refl))))
+
+    change : shiftsFor o p s v before after ≡ lutShifts (opticsSwing o) (natAbs (was -ℤ will)) v (waveformOf s p .groups)
+    change = rw (is-was, is-will)

@@ -18,7 +18,7 @@ use Rattle.waveform.specs.Walks.{saturatedDrive, pushed, wholeTransfer}
 use Rattle.panel.specs.Finish.{settingTransfer}
 use Rattle.voltage_shift.specs.declared.DrivingVoltage.{DrivingVoltage}
 use Rattle.voltage_shift.specs.declared.DrivingVoltage.the-variants.{Vsh1, Vsh2}
-use Rattle.voltage_shift.specs.Shift.{sourceUses, vcomUses, sum, phaseShift, groupShift, shiftOf, boundOf, graySteps}
+use Rattle.voltage_shift.specs.Shift.{sourceUses, vcomUses, sum, phaseShift, groupShift, shiftOf, boundOf}
 
 -- phase 0 of group 0 has one frame, the source's code 1 for LUT 0, and VCOM's code; the group runs `again` times more
 abbrev setting : ℕ → ℕ → ℕ → List ℕ

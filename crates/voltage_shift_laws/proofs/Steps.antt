@@ -1,6 +1,6 @@
 -- States no more than n apart show greys no more than n's steps of grey apart. Assumes nothing.
 use mathlib.Core.Path.{_≡_}
-use Prim.Native.Nat.{ℕ, _+_, _-_, _*_, _/_, _%_, _≤_, _<_}
+use Prim.Native.Nat.{ℕ, _+_, _-_, _*_, _/_, _≤_, _<_}
 use native.Mathlib.Omega.{arith}
 use native.Mathlib.Nat.{add-mul, mul-comm, div-add-mod, mod-lt, div-lt-iff-lt-mul}
 use lib.IntN.{pos}

@@ -1,13 +1,11 @@
 -- `shift_report::put` meets its contract.
-use mathlib.Core.Path.{_≡_, refl, sym, ap, _∙_}
+use mathlib.Core.Path.{_≡_, ap, _∙_}
 use mathlib.Core.List.{List}
 use Prim.Native.Nat.{ℕ}
-use native.Mathlib.Omega.{arith}
-use Rattle.config.specs.Answer.{answerOf}
 use Rattle.column.specs.Columns.{Buffer, buffer, appended}
 use Rattle.voltage_shift.specs.declared.Bounded.{Bounded}
 use Rattle.voltage_shift.specs.Bounds.{shiftAnswer}
-use Rattle.shift_report.specs.Report.{shiftLines, numberLine, shiftText}
+use Rattle.shift_report.specs.Report.{numberLine, shiftText}
 use borrow.Author.Needs.{needs}
 use Rattle.shift_report.proofs.put.Statement.{statement}
 use Rattle.shift_report.proofs.put.Tie as tie

@@ -1,5 +1,5 @@
 -- `voltage_shift::rise` meets its contract.
-use mathlib.Core.Path.{_≡_, _∙_}
+use mathlib.Core.Path.{_∙_}
 use lib.IntN.{ℤ, natAbs, _-ℤ_}
 use mir.Syntax.{w64}
 use mir.Val.{SFits}

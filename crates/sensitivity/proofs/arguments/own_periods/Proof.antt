@@ -1,6 +1,5 @@
 -- `sensitivity::arguments::own_periods` is safe and ends.
 use Prim.Native.Nat.{_-_, _≤_}
-use native.Mathlib.Omega.{arith}
 use lib.ListN.{length}
 use mathlib.Core.Path.{_≡_}
 use borrow.Author.Needs.{needs}

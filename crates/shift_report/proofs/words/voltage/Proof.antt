@@ -1,5 +1,5 @@
 -- `shift_report::words::voltage` meets its contract.
-use mathlib.Core.Path.{_≡_, sym, _∙_}
+use mathlib.Core.Path.{sym, _∙_}
 use Rattle.shift_report.specs.Words.{voltageWord}
 use borrow.Author.Needs.{needs}
 use Rattle.shift_report.proofs.words.voltage.Statement.{statement}
