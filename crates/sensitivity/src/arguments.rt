@@ -40,6 +40,7 @@ pub fn code(place: usize) -> CodeWord {
     shift_report::words::code(&word[..length])
 }
 
+// A decimal below 2^64 without leading zeros, as in a column: blanks in front are taken.
 fn number(place: usize) -> Column {
     let mut word = [0u8; LONGEST];
     let length = os::arg(place, &mut word);

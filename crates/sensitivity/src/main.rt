@@ -15,18 +15,24 @@ use voltage_shift::DrivingVoltage;
 // One byte more than a setting has, so that longer input is seen to be longer.
 const INPUT_BYTES: usize = voltage_shift::SETTING_BYTES + 1;
 
-// Reading stops at the input's end or where it fails; one read more tells which.
-fn is_unreadable() -> bool {
+// Reading stops at the input's end or where it fails. One read more tells which: at the end it gives no byte. Says why if not.
+fn is_at_end() -> bool {
     let mut more = [0u8; 1];
-    libc::read(STDIN_FILENO, &mut more) < 0
+    let count = libc::read(STDIN_FILENO, &mut more);
+    if count < 0 {
+        os::fail(b"sensitivity: standard input");
+    }
+    if 0 < count {
+        say::not_whole();
+    }
+    count == 0
 }
 
 fn report(optics: Optics, frame_period: [u64; 16], driving: DrivingVoltage, before: u8, after: u8) {
     let mut input = [0u8; INPUT_BYTES];
     let read = io::read_full(STDIN_FILENO, &mut input);
     if read < INPUT_BYTES {
-        if is_unreadable() {
-            os::fail(b"sensitivity: standard input");
+        if !is_at_end() {
             return;
         }
     }

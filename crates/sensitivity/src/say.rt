@@ -32,6 +32,13 @@ pub fn usage() {
     words(b"and the same in steps of grey, rounded up.\n");
 }
 
+// More bytes after a read that gave none.
+pub fn not_whole() {
+    words(
+        b"sensitivity: standard input: not read whole, it goes on after a read that failed or gave nothing\n",
+    );
+}
+
 // A bad argument: what it should be.
 pub fn voltage(place: usize) {
     bad(place, b"a voltage: give vsh1, vsh2 or vsl\n");
@@ -42,7 +49,10 @@ pub fn code(place: usize) {
 }
 
 pub fn decimal(place: usize) {
-    bad(place, b"a decimal number below 2^64\n");
+    bad(
+        place,
+        b"a decimal number below 2^64 without leading zeros (blanks in front are taken)\n",
+    );
 }
 
 fn bad(place: usize, what: &[u8]) {

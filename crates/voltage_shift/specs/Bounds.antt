@@ -24,13 +24,13 @@ abbrev pub opticsSwing : Optics → ℕ
 opticsSwing o = min (o .«full_swing») (largest 63)
 
 -- 91: the code before or after is not listed for its voltage
-abbrev pub codesTest : DrivingVoltage → ℕ → ℕ → Test
-codesTest v before after =
+abbrev pub listedTest : DrivingVoltage → ℕ → ℕ → Test
+listedTest v before after =
     record { number = 91; value = 0; refuses = not (isVoltage (drivingMillivolts v before)) || not (isVoltage (drivingMillivolts v after)) }
 
 -- 11, 91
 abbrev pub settingTests : List ℕ → DrivingVoltage → ℕ → ℕ → List Test
-settingTests s v before after = lentTest (length s) 112 ∷ codesTest v before after ∷ []
+settingTests s v before after = lentTest (length s) 112 ∷ listedTest v before after ∷ []
 
 -- 4, 5, 11, 91
 abbrev pub boundsTests : Optics → List ℕ → List ℕ → DrivingVoltage → ℕ → ℕ → List Test

@@ -28,15 +28,15 @@ abbrev periods : List ℕ
 periods = replicate 16 20000000
 
 -- black, afterwards
-ending : ℕ → ℤ
-ending vsh1 = applyT (settingTransfer (setting 0 0 vsh1) periods (Lut 0) (pos 6000000000000) false Whole) (pos 0)
+blackAfter : ℕ → ℤ
+blackAfter vsh1 = applyT (settingTransfer (setting 0 0 vsh1) periods (Lut 0) (pos 6000000000000) false Whole) (pos 0)
 
 bound : ℕ → ℕ → ℕ → DrivingVoltage → ℕ
 bound S vcom again v = boundOf S 200 v (waveformOf (setting vcom again 0x23) periods .groups) 0
 
--- the bound is met
-met : natAbs (ending 0x23 -ℤ ending 0x24) ≡ bound 6000000000000 0 0 Vsh1
-unfolding ending bound wholeTransfer waveformOf groupCodesOf codesOf frameRateOf levelsOf voltage sourceLevel vcomSwing phaseOf driven joined pushed saturatedDrive clampZ tab sourceUses vcomUses sum phaseShift groupShift shiftOf
+-- the bound of this one setting and LUT, shown whole, is met
+met : natAbs (blackAfter 0x23 -ℤ blackAfter 0x24) ≡ bound 6000000000000 0 0 Vsh1
+unfolding blackAfter bound wholeTransfer waveformOf groupCodesOf codesOf frameRateOf levelsOf voltage sourceLevel vcomSwing phaseOf driven joined pushed saturatedDrive clampZ tab sourceUses vcomUses sum phaseShift groupShift shiftOf
 met = refl
 
 -- 200 mV × 20 ms; 256 times that; no more than S; 0 where VCOM uses VSH1 too, and for VSH2, which VCOM's code 3 does not use

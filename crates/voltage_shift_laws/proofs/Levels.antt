@@ -20,7 +20,7 @@ use Rattle.voltage_shift.specs.declared.DrivingVoltage.{DrivingVoltage}
 use Rattle.voltage_shift.specs.declared.DrivingVoltage.the-variants.{Vsh1, Vsh2, Vsl}
 use Rattle.voltage_shift.specs.Shift.{sourceUses, vcomUses, exactlyOne, usesOne, phaseShift, groupShift, shiftOf}
 use Rattle.voltage_shift_laws.proofs.Apart.{Apart, apart-abs}
-use Rattle.voltage_shift_laws.proofs.Paired.{Alike, Paired, same, joined-paired, driven-paired}
+use Rattle.voltage_shift_laws.proofs.Paired.{PhasesApart, Paired, same, joined-paired, driven-paired}
 
 -- the levels with one voltage set
 abbrev pub with : DrivingVoltage → ℤ → Levels → Levels
@@ -67,9 +67,9 @@ module _ (v : DrivingVoltage) (b a : ℤ) (l : Levels) (lut : ℕ) where
   change : ℕ
   change = natAbs (b -ℤ a)
 
-  phase-alike : (g : Group) (k : ℕ) → Alike (phaseOf (with v b l) (Lut lut) g k) (phaseOf (with v a l) (Lut lut) g k) (pick (usesOne v g lut k) change 0)
+  phases-apart : (g : Group) (k : ℕ) → PhasesApart (phaseOf (with v b l) (Lut lut) g k) (phaseOf (with v a l) (Lut lut) g k) (pick (usesOne v g lut k) change 0)
   unfolding phaseOf change
-  phase-alike g k =
+  phases-apart g k =
       let i = getD (g .codes) (4 * lut + k) 0 in
       let j = getD (g .codes) (16 + k) 0 in
       record {
@@ -88,7 +88,7 @@ module _ (v : DrivingVoltage) (b a : ℤ) (l : Levels) (lut : ℕ) where
       joined-paired (g .repeats) _ _ _
       (λ r.
       joined-paired 4 _ _ (phaseShift change v g lut)
-      (λ k. same (out (usesOne v g lut k) change (getD (g .frames) k 0) (g .«frame_ns»)) (driven-paired _ _ (phase-alike g k))))
+      (λ k. same (out (usesOne v g lut k) change (getD (g .frames) k 0) (g .«frame_ns»)) (driven-paired _ _ (phases-apart g k))))
 
   pub waveform-paired : (groups : List Group)
       → Paired (phasesOf (record { groups = groups; levels = with v b l }) (Lut lut)) (phasesOf (record { groups = groups; levels = with v a l }) (Lut lut)) (shiftOf (natAbs (b -ℤ a)) v groups lut)

@@ -21,7 +21,7 @@ farther : {x y m n : ℕ} → m ≤ n → Near x y m → Near x y n
 farther h k = record { above = omega arith; below = omega arith }
 
 -- two phases of the same frames, no more than n millivolts apart
-pub record Alike (p q : Phase) (n : ℕ) : Type 0 where
+pub record PhasesApart (p q : Phase) (n : ℕ) : Type 0 where
   pub frames : q .frames ≡ p .frames
   pub period : q .«frame_ns» ≡ p .«frame_ns»
   pub apart : Apart (p .millivolts) (q .millivolts) n
@@ -29,10 +29,10 @@ pub record Alike (p q : Phase) (n : ℕ) : Type 0 where
 -- two lists of such phases, no more than n millivolts × nanoseconds apart in all
 pub data Paired : List Phase → List Phase → ℕ → Type 0 where
   none : Paired [] [] 0
-  more : {p q : Phase} {ps qs : List Phase} {c n : ℕ} → Alike p q c → Paired ps qs n → Paired (p ∷ ps) (q ∷ qs) (c * p .frames * p .«frame_ns» + n)
+  more : {p q : Phase} {ps qs : List Phase} {c n : ℕ} → PhasesApart p q c → Paired ps qs n → Paired (p ∷ ps) (q ∷ qs) (c * p .frames * p .«frame_ns» + n)
 
 -- as many frames of both
-frames-near : (S : ℕ) (black : Bool) (p q : Phase) {c x y m : ℕ} (r s : ℕ) → s ≡ r → r ≤ p .frames → Alike p q c → x ≤ S → y ≤ S → Near x y m
+frames-near : (S : ℕ) (black : Bool) (p q : Phase) {c x y m : ℕ} (r s : ℕ) → s ≡ r → r ≤ p .frames → PhasesApart p q c → x ≤ S → y ≤ S → Near x y m
     → Near (drive S (framesDrive black p r) x) (drive S (framesDrive black q s) y) (m + c * p .frames * p .«frame_ns»)
 frames-near S black p q {c} {x} {y} {m} r s e h a kx ky n = farther (omega (arith, mul-le-mul-right (p .«frame_ns») (mul-le-mul-left c h))) (drive-near S (framesDrive black p r) (framesDrive black q s) kx ky by n)
   where
@@ -84,7 +84,7 @@ joined-paired zero f g h r = none
 joined-paired (suc n) f g h r = two (joined-paired n f g h r) (r n)
 
 -- a phase of 0 frames is passed over
-pub driven-paired : (p q : Phase) {c : ℕ} → Alike p q c → Paired (driven p) (driven q) (c * p .frames * p .«frame_ns»)
+pub driven-paired : (p q : Phase) {c : ℕ} → PhasesApart p q c → Paired (driven p) (driven q) (c * p .frames * p .«frame_ns»)
 unfolding driven
 driven-paired p q {c} a =
     subst (λ (n : ℕ). Paired (pick (eqb (p .frames) 0) [] (p ∷ [])) (pick (eqb n 0) [] (q ∷ [])) (c * p .frames * p .«frame_ns»)) (sym (a .frames)) (by (eqb (p .frames) 0) refl)

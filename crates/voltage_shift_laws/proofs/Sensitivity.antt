@@ -51,7 +51,7 @@ unfolding cutTransfer wholeTransfer
 cut-late s p drive swing black until h = late (drivingOf (waveformOf s p) drive swing black) until (settingPhases s p drive) (walkStart swing) h refl
 
 -- ---- what two displays leave of two states
-record Left (S n : ℕ) (y z : ℤ) : Type 0 where
+record TwoResults (S n : ℕ) (y z : ℤ) : Type 0 where
   one : ℕ
   other : ℕ
   is-one : y ≡ pos one
@@ -61,19 +61,19 @@ record Left (S n : ℕ) (y z : ℤ) : Type 0 where
   near : Near one other n
 
 -- held to S, since both are
-held-near : (S n : ℕ) (y z : ℤ) (l : Left S n y z) → Near (l .one) (l .other) (min n S)
+held-near : (S n : ℕ) (y z : ℤ) (l : TwoResults S n y z) → Near (l .one) (l .other) (min n S)
 held-near S n y z l = let k = l .near in let i = l .one-in in let j = l .other-in in record { above = omega arith; below = omega arith }
 
-apart-left : (S n : ℕ) (y z : ℤ) → Left S n y z → natAbs (y -ℤ z) ≤ min n S
+apart-left : (S n : ℕ) (y z : ℤ) → TwoResults S n y z → natAbs (y -ℤ z) ≤ min n S
 apart-left S n y z l = rw (l .is-one, l .is-other) (abs-near (l .one) (l .other) (min n S) (held-near S n y z l))
 
-grays-left : (S n : ℕ) (y z : ℤ) → 1 ≤ S → Left S n y z → natAbs (pos (grayZ y (pos S)) -ℤ pos (grayZ z (pos S))) ≤ graySteps S (min n S)
+grays-left : (S n : ℕ) (y z : ℤ) → 1 ≤ S → TwoResults S n y z → natAbs (pos (grayZ y (pos S)) -ℤ pos (grayZ z (pos S))) ≤ graySteps S (min n S)
 grays-left S n y z some l =
     rw (l .is-one, l .is-other) (abs-near _ _ _ (grays-near S (l .one) (l .other) (min n S) some (l .one-in) (l .other-in) (held-near S n y z l)))
 
 module _ (S : ℕ) (some : 1 ≤ S) (room : S ≤ 9223372036854775807) (s t p : List ℕ) (drive : Drive) (black : Bool) {n : ℕ} (paired : Paired (settingPhases s p drive) (settingPhases t p drive) n)
     (x y m : ℕ) (hx : x ≤ S) (hy : y ≤ S) (near : Near x y m) where
-  whole-left : Left S (m + n) (applyT (wholeTransfer s p drive (pos S) black) (pos x)) (applyT (wholeTransfer t p drive (pos S) black) (pos y))
+  whole-left : TwoResults S (m + n) (applyT (wholeTransfer s p drive (pos S) black) (pos x)) (applyT (wholeTransfer t p drive (pos S) black) (pos y))
   whole-left =
       record {
         one = drives S (allDrives black (settingPhases s p drive)) x;
@@ -85,7 +85,7 @@ module _ (S : ℕ) (some : 1 ≤ S) (room : S ≤ 9223372036854775807) (s t p : 
         near = whole-near S black paired hx hy near;
       }
 
-  cut-left : (until : ℕ) → until < largest 64 → Left S (m + n) (applyT (cutTransfer s p drive (pos S) black until) (pos x)) (applyT (cutTransfer t p drive (pos S) black until) (pos y))
+  cut-left : (until : ℕ) → until < largest 64 → TwoResults S (m + n) (applyT (cutTransfer s p drive (pos S) black until) (pos x)) (applyT (cutTransfer t p drive (pos S) black until) (pos y))
   cut-left until h =
       record {
         one = drives S (cutDrives black until (settingPhases s p drive)) x;
@@ -97,12 +97,12 @@ module _ (S : ℕ) (some : 1 ≤ S) (room : S ≤ 9223372036854775807) (s t p : 
         near = cut-near S black paired until hx hy near;
       }
 
-  paired-left : (until : Until) → Left S (m + n) (applyT (settingTransfer s p drive (pos S) black until) (pos x)) (applyT (settingTransfer t p drive (pos S) black until) (pos y))
+  paired-left : (until : Until) → TwoResults S (m + n) (applyT (settingTransfer s p drive (pos S) black until) (pos x)) (applyT (settingTransfer t p drive (pos S) black until) (pos y))
   unfolding wholeTransfer cutTransfer
   paired-left Whole = whole-left
   paired-left (Cut until) = by (decLt until (largest 64))
     where
-      by : Dec (until < largest 64) → Left S (m + n) (applyT (cutTransfer s p drive (pos S) black until) (pos x)) (applyT (cutTransfer t p drive (pos S) black until) (pos y))
+      by : Dec (until < largest 64) → TwoResults S (m + n) (applyT (cutTransfer s p drive (pos S) black until) (pos x)) (applyT (cutTransfer t p drive (pos S) black until) (pos y))
       by (yes h) = cut-left until h
       by (no h) = rw (cut-late s p drive (pos S) black until (omega arith), cut-late t p drive (pos S) black until (omega arith)) whole-left
 
@@ -114,10 +114,10 @@ module _ (S : ℕ) (some : 1 ≤ S) (room : S ≤ 9223372036854775807) (p : List
   -- two settings that are s but for the code of one voltage
   codes-left : (v : DrivingVoltage) (s t u : List ℕ) (before after : ℤ) → AgreeBut v s t → AgreeBut v s u
       → drivingMillivolts v (getD t (voltageByte v) 0) ≡ Listed before → drivingMillivolts v (getD u (voltageByte v) 0) ≡ Listed after → (lut x : ℕ) → x ≤ S
-      → Left S (shiftOf (natAbs (before -ℤ after)) v (waveformOf s p .groups) lut) (left t lut x) (left u lut x)
+      → TwoResults S (shiftOf (natAbs (before -ℤ after)) v (waveformOf s p .groups) lut) (left t lut x) (left u lut x)
   codes-left v s t u before after agree-t agree-u is-before is-after lut x h =
       let n = shiftOf (natAbs (before -ℤ after)) v (waveformOf s p .groups) lut in
-      subst (λ (k : ℕ). Left S k (left t lut x) (left u lut x)) (zero-add n)
+      subst (λ (k : ℕ). TwoResults S k (left t lut x) (left u lut x)) (zero-add n)
       (paired-left S some room t u p (Lut lut) black (setting-paired v s t u p before after agree-t agree-u is-before is-after lut) x x 0 h h
       (record { above = omega arith; below = omega arith }) until)
 

@@ -22,6 +22,9 @@ fn text(expected: &Result<Bounds, u8>) -> String {
     }
 }
 
+/// So many runs have every refusal, bounds met and bounds at S among them.
+const MANY: u64 = 1000;
+
 /// What was seen.
 #[derive(Default)]
 struct Tally {
@@ -67,12 +70,51 @@ impl Tally {
         }
     }
 
+    /// The first of what must occur that did not.
+    fn unseen(&self) -> Option<&'static str> {
+        let [four, five, eleven, ninety_one] = self.refusals;
+        let needed = [
+            (four, "refusal 4"),
+            (five, "refusal 5"),
+            (eleven, "refusal 11"),
+            (ninety_one, "refusal 91"),
+            (self.capped, "bound at S"),
+            (self.met, "bound met"),
+            (self.met_below, "bound below S met"),
+        ];
+        let unseen = needed.iter().find(|(count, _)| *count == 0)?;
+        Some(unseen.1)
+    }
+
     fn pair(&mut self, states: (i64, i64), results: (i64, i64)) {
         self.pairs += 1;
         if results.0.abs_diff(results.1) > states.0.abs_diff(states.1) {
             self.past
                 .get_or_insert(format!("{states:?} end farther apart: {results:?}"));
         }
+    }
+
+    fn write(&self, count: u64, out: &mut impl Write) -> io::Result<()> {
+        let [four, five, eleven, ninety_one] = self.refusals;
+        writeln!(
+            out,
+            "{count} runs alike; refused with 4, 5, 11, 91: {four}, {five}, {eleven}, {ninety_one}"
+        )?;
+        writeln!(
+            out,
+            "{} bounds equal to exact sums; {} are 0, {} are S",
+            self.bounds, self.zero, self.capped
+        )?;
+        writeln!(
+            out,
+            "{} results within them; {} meet a bound above 0, {} of them one below S; {} meet its greys",
+            self.results, self.met, self.met_below, self.steps_met
+        )?;
+        writeln!(
+            out,
+            "{} pairs of states end no farther apart than they began",
+            self.pairs
+        )
     }
 }
 
@@ -109,7 +151,8 @@ fn claims(case: &Case, bounds: &Bounds, random: &mut Random, tally: &mut Tally) 
     }
 }
 
-/// Runs `program` on generated cases; whether it wrote what it must and no result went past it.
+/// Runs `program` on generated cases; whether it wrote what it must, no result went past it, and
+/// among many runs there were all that must be.
 pub(super) fn run(program: &str, seed: u64, count: u64, out: &mut impl Write) -> io::Result<bool> {
     let mut tally = Tally::default();
     for place in 0..count {
@@ -131,25 +174,10 @@ pub(super) fn run(program: &str, seed: u64, count: u64, out: &mut impl Write) ->
             return Ok(false);
         }
     }
-    let [four, five, eleven, ninety_one] = tally.refusals;
-    writeln!(
-        out,
-        "{count} runs alike; refused with 4, 5, 11, 91: {four}, {five}, {eleven}, {ninety_one}"
-    )?;
-    writeln!(
-        out,
-        "{} bounds equal to exact sums; {} are 0, {} are S",
-        tally.bounds, tally.zero, tally.capped
-    )?;
-    writeln!(
-        out,
-        "{} results within them; {} meet a bound above 0, {} of them one below S; {} meet its greys",
-        tally.results, tally.met, tally.met_below, tally.steps_met
-    )?;
-    writeln!(
-        out,
-        "{} pairs of states end no farther apart than they began",
-        tally.pairs
-    )?;
-    Ok(true)
+    tally.write(count, out)?;
+    let unseen = tally.unseen().filter(|_| count >= MANY);
+    if let Some(what) = unseen {
+        writeln!(out, "no {what} among {count} runs")?;
+    }
+    Ok(unseen.is_none())
 }

@@ -11,14 +11,8 @@ slice-aggregate-read-full c = search needs
 read-full-requires : tie.Need-read-full-requires
 read-full-requires c κs = search needs
 
-is-unreadable-requires : tie.Need-is-unreadable-requires
-is-unreadable-requires c κs = search needs
-
-slice-aggregate-fail : tie.Need-slice-aggregate-fail
-slice-aggregate-fail c = search needs
-
-fail-requires : tie.Need-fail-requires
-fail-requires c κs = search needs
+is-at-end-requires : tie.Need-is-at-end-requires
+is-at-end-requires c κs = search needs
 
 returns : tie.Need-returns
 returns c = search needs
@@ -44,11 +38,11 @@ slice-aggregate-write-all c = sym (length-take-le (c .before .before .report .re
 write-all-requires : tie.Need-write-all-requires
 write-all-requires c κs = search needs
 
-slice-aggregate-fail-2 : tie.Need-slice-aggregate-fail-2
-slice-aggregate-fail-2 c = search needs
+slice-aggregate-fail : tie.Need-slice-aggregate-fail
+slice-aggregate-fail c = search needs
 
-fail-requires-2 : tie.Need-fail-requires-2
-fail-requires-2 c κs = search needs
+fail-requires : tie.Need-fail-requires
+fail-requires c κs = search needs
 
 returns-2 : tie.Need-returns-2
 returns-2 c = search needs
@@ -62,9 +56,7 @@ report-spec =
     (tie.spec
     slice-aggregate-read-full
     read-full-requires
-    is-unreadable-requires
-    slice-aggregate-fail
-    fail-requires
+    is-at-end-requires
     returns
     array-share-prefix-input
     slice-aggregate-report
@@ -73,7 +65,7 @@ report-spec =
     array-share-prefix-text
     slice-aggregate-write-all
     write-all-requires
-    slice-aggregate-fail-2
-    fail-requires-2
+    slice-aggregate-fail
+    fail-requires
     returns-2
     returns-3)

@@ -188,11 +188,13 @@ impl Case {
         }))
     }
 
+    /// What the program writes; an error where it ends badly or says anything on standard error.
     pub(super) fn run(&self, program: &str) -> io::Result<String> {
         let mut child = Command::new(program)
             .args(&self.arguments)
             .stdin(Stdio::piped())
             .stdout(Stdio::piped())
+            .stderr(Stdio::piped())
             .spawn()?;
         // A program that does not read all of it has what it needs.
         let _ = child
@@ -200,6 +202,12 @@ impl Case {
             .take()
             .map(|mut pipe| pipe.write_all(&self.input));
         let output = child.wait_with_output()?;
+        if !output.status.success() || !output.stderr.is_empty() {
+            let said = String::from_utf8_lossy(&output.stderr);
+            let arguments = self.arguments.join(" ");
+            let failed = format!("{program} {arguments}: {}: {said}", output.status);
+            return Err(io::Error::other(failed));
+        }
         Ok(String::from_utf8_lossy(&output.stdout).into_owned())
     }
 }
