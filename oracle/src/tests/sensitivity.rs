@@ -159,7 +159,14 @@ pub(super) fn run(program: &str, seed: u64, count: u64, out: &mut impl Write) ->
         let random = &mut Random::of_place(seed, place);
         let case = case(random);
         let expected = case.expected();
-        let (wanted, written) = (text(&expected), case.run(program)?);
+        let wanted = text(&expected);
+        let written = match case.run(program) {
+            Ok(written) => written,
+            Err(failed) => {
+                writeln!(out, "case {place}: {failed}")?;
+                return Ok(false);
+            }
+        };
         if written != wanted {
             writeln!(out, "case {place}: {}", case.arguments.join(" "))?;
             writeln!(out, "must write\n{wanted}and wrote\n{written}")?;
