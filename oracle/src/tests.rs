@@ -18,6 +18,7 @@ mod random;
 mod record;
 mod records;
 mod replay;
+mod sensitivity;
 mod settings;
 mod sheet;
 mod tally;
@@ -42,6 +43,7 @@ const USAGE: &str = "usage: oracle replay < events
        oracle charge [PERIOD..] < table
        oracle charge-table SEED PLACE
        oracle charge-periods SEED PLACE
+       oracle sensitivity PROGRAM SEED COUNT
        oracle records
        oracle figures";
 
@@ -91,6 +93,10 @@ impl crate::Judge for Ssd1677 {
             },
             ["charge-periods", seed, place] => match (seed.parse(), place.parse()) {
                 (Ok(seed), Ok(place)) => charge::periods(seed, place, &mut out),
+                _ => return usage(),
+            },
+            ["sensitivity", program, seed, count] => match (seed.parse(), count.parse()) {
+                (Ok(seed), Ok(count)) => sensitivity::run(program, seed, count, &mut out),
                 _ => return usage(),
             },
             ["records"] => records::run(&mut out),

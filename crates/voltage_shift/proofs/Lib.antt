@@ -1,0 +1,4 @@
+-- Laws of voltage_shift that belong to no one function.
+pub mod Sums
+pub mod Listed
+pub mod Steps
