@@ -23,7 +23,7 @@ use Rattle.waveform_laws.proofs.Range.{phase-range}
 use Rattle.waveform_laws.proofs.Joined.{driven-none, driven-some}
 use Rattle.waveform_laws.proofs.Decoded.{levels-listable, rate-below}
 use Rattle.waveform.specs.Exact.{allDrives}
-use Rattle.charges.specs.Charge.{sumZ, driveSum, AllShort, BoundedPhase, BoundedGroup, Bounded}
+use Rattle.charges.specs.Charge.{sumZ, driveSum, AllShort, BoundedPhase, BoundedGroup, BoundedWaveform}
 use Rattle.charges.proofs.Sums.{driveOf}
 
 -- ---- how far a product and a sum are from 0
@@ -142,12 +142,12 @@ module _ (l : Levels) (drive : Drive) (g : Group) (listable : AllListable l) (bo
 abbrev pub groupsOf : Waveform → Drive → ℕ → List Phase
 groupsOf w drive k = groupPhases (w .levels) drive (getD (w .groups) k noGroup)
 
-pub groups-sizes : (w : Waveform) (drive : Drive) → Bounded w → (n : ℕ) → n ≤ 10 → sizes (joined n (groupsOf w drive)) ≤ 887808000000000000 * n
+pub groups-sizes : (w : Waveform) (drive : Drive) → BoundedWaveform w → (n : ℕ) → n ≤ 10 → sizes (joined n (groupsOf w drive)) ≤ 887808000000000000 * n
 groups-sizes w drive h n l =
     sizes-joined 887808000000000000 (groupsOf w drive) n
     (λ k j. group-sizes (w .levels) drive (getD (w .groups) k noGroup) (h .listable) (h .groups-bounded k (omega arith)))
 
-pub groups-within : (w : Waveform) (drive : Drive) → Bounded w → (n : ℕ) → n ≤ 10 → natAbs (driveSum (joined n (groupsOf w drive))) ≤ 887808000000000000 * n
+pub groups-within : (w : Waveform) (drive : Drive) → BoundedWaveform w → (n : ℕ) → n ≤ 10 → natAbs (driveSum (joined n (groupsOf w drive))) ≤ 887808000000000000 * n
 groups-within w drive h n l = le-trans (sum-within (joined n (groupsOf w drive))) (groups-sizes w drive h n l)
 
 -- ---- a setting
@@ -169,7 +169,7 @@ module _ (s p : List ℕ) (bytes : (i : ℕ) → getD s i 0 < 256) (periods : Al
         period-within = periods (groupCodesOf s g .«frame_rate») (rate-below s g);
       }
 
-  pub setting-bounded : Bounded (waveformOf s p)
+  pub setting-bounded : BoundedWaveform (waveformOf s p)
   unfolding waveformOf
   setting-bounded =
       record {

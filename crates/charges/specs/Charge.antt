@@ -95,7 +95,7 @@ pub record BoundedGroup (g : Group) : Type 0 where
   pub period-within : g .«frame_ns» ≤ longestPeriod
 
 -- a waveform of such groups
-pub record Bounded (w : Waveform) : Type 0 where
+pub record BoundedWaveform (w : Waveform) : Type 0 where
   pub listable : AllListable (w .levels)
   pub groups-bounded : (k : ℕ) → k < 10 → BoundedGroup (getD (w .groups) k noGroup)
 

@@ -6,7 +6,7 @@ ghost use lib.ListN.{length};
 ghost use Rattle.waveform.specs.declared.Drive.the-variants.{Lut};
 ghost use Rattle.waveform.specs.Phases.{phasesOf};
 ghost use Rattle.column.specs.Columns.{whole, buffer, appended};
-ghost use Rattle.charges.specs.Charge.{driveSum, Bounded, AllShort};
+ghost use Rattle.charges.specs.Charge.{driveSum, BoundedWaveform, AllShort};
 ghost use Rattle.charges.specs.Report.{sumsText, chargeLine};
 
 // A column of 21. No number of 64 bits reaches into the first, and `column::put` writes at most 20.
@@ -24,7 +24,7 @@ fn put_whole(out: &mut [u8], at: usize, sum: i64) -> usize
 fn put_sum(out: &mut [u8], at: usize, waveform: Waveform, lut: usize) -> usize
     requires room { ⌜ at + 21 ≤ length (now out) ⌝ }
     requires lut { ⌜ lut < 4 ⌝ }
-    requires bounded { ⌜ Bounded waveform ⌝ }
+    requires bounded { ⌜ BoundedWaveform waveform ⌝ }
     ensures text { λ r. ⌜ buffer r (now (out .exit)) ≡ appended (buffer at (now (out .entry))) (whole 21 (driveSum (phasesOf waveform (Lut lut)))) ⌝ }
     ensures end { λ r. ⌜ r ≡ at + 21 ⌝ }
 {
@@ -34,7 +34,7 @@ fn put_sum(out: &mut [u8], at: usize, waveform: Waveform, lut: usize) -> usize
 
 fn put_sums(out: &mut [u8], at: usize, waveform: Waveform) -> usize
     requires room { ⌜ at + 84 ≤ length (now out) ⌝ }
-    requires bounded { ⌜ Bounded waveform ⌝ }
+    requires bounded { ⌜ BoundedWaveform waveform ⌝ }
     ensures text { λ r. ⌜ buffer r (now (out .exit)) ≡ appended (buffer at (now (out .entry))) (sumsText (λ lut. driveSum (phasesOf waveform (Lut lut)))) ⌝ }
     ensures end { λ r. ⌜ r ≡ at + 84 ⌝ }
 {

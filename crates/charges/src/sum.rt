@@ -15,7 +15,7 @@ ghost use Rattle.waveform.specs.Exact.{framesDrive};
 ghost use Rattle.waveform.specs.Phases.{driven, phasesOf};
 ghost use Rattle.waveform.specs.Setting.{waveformOf};
 ghost use Rattle.waveform.specs.Walks.{Drivable, phaseIn, fourIn, groupIn};
-ghost use Rattle.charges.specs.Charge.{driveSum, AllShort, BoundedPhase, BoundedGroup, Bounded};
+ghost use Rattle.charges.specs.Charge.{driveSum, AllShort, BoundedPhase, BoundedGroup, BoundedWaveform};
 
 // Millivolts × frames × period.
 fn phase_drive(phase: Phase) -> i64
@@ -74,7 +74,7 @@ fn group_charge(driving: Driving, group: Group) -> i64
 // All ten groups of a LUT.
 pub(crate) fn charge_of(waveform: Waveform, lut: usize) -> i64
     requires lut { ⌜ lut < 4 ⌝ }
-    requires bounded { ⌜ Bounded waveform ⌝ }
+    requires bounded { ⌜ BoundedWaveform waveform ⌝ }
     ensures { λ r. ⌜ r ≡ driveSum (phasesOf waveform (Lut lut)) ⌝ }
 {
     let levels = waveform.levels;
@@ -100,7 +100,7 @@ pub(crate) fn waveform_of(setting: &[u8], frame_period: &[u64; 16]) -> Waveform
     requires setting { ⌜ length (now setting) ≡ 112 ⌝ }
     requires periods { ⌜ AllShort (now «frame_period») ⌝ }
     ensures is { λ r. ⌜ r ≡ waveformOf (now (setting .entry)) (now («frame_period» .entry)) ⌝ }
-    ensures bounded { λ r. ⌜ Bounded r ⌝ }
+    ensures bounded { λ r. ⌜ BoundedWaveform r ⌝ }
 {
     let mut copied = [0u8; 112];
     bytes::copy(setting, &mut copied);

@@ -51,7 +51,7 @@ pub fn code(place: usize) {
 pub fn decimal(place: usize) {
     bad(
         place,
-        b"a decimal number below 2^64 without leading zeros (blanks in front are taken)\n",
+        b"a decimal number below 2^64 without leading zeros (blanks in front are taken, 20 bytes in all)\n",
     );
 }
 

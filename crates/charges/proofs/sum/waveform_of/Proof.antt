@@ -6,7 +6,7 @@ use native.Mathlib.Omega.{arith}
 use lib.ListN.{length, take, drop, replicate}
 use lib.Seq.{take-length}
 use Rattle.waveform.specs.Setting.{waveformOf}
-use Rattle.charges.specs.Charge.{Bounded}
+use Rattle.charges.specs.Charge.{BoundedWaveform}
 use Rattle.charges.proofs.Bounds.{setting-bounded}
 use borrow.Author.Needs.{needs}
 use Rattle.charges.proofs.sum.waveform_of.Statement.{statement}
@@ -31,7 +31,7 @@ returns c =
     let s = known .before in
     let p = s .args .frame-period .now in
     let is = c .from-setting .ensures ∙ ap (λ (l : List ℕ). waveformOf l p) (whole (s .args .setting .now) _ (s .pre .0) (copy .copy .ensures .1)) in
-    (is, subst Bounded (sym is) (setting-bounded (s .args .setting .now) p (λ i. omega (arith, known .shared-slice-known .given i)) (s .pre .1)))
+    (is, subst BoundedWaveform (sym is) (setting-bounded (s .args .setting .now) p (λ i. omega (arith, known .shared-slice-known .given i)) (s .pre .1)))
 
 pub waveform-of-spec : {M : Type 1} → statement M
 waveform-of-spec =
