@@ -1,4 +1,4 @@
--- What an activation keeps, and that a display does not end before it starts. Assumes nothing.
+-- What an activation keeps. Assumes nothing.
 use Prim.Native.Nat.{ℕ, _+_, _≤_, min}
 use mathlib.Core.Path.{_≡_, refl, sym, subst, _∙_}
 use mathlib.Core.Bool.{Bool, _&&_}
@@ -106,12 +106,3 @@ unfolding activated staged runSettled
 mux-activated k w =
     let s = stagedIn k w in
     mux-advanced (s .luts) (s .device .now) (withGlass (s .device) (w .states) (w .pixels))
-
-later : (time before ns most : ℕ) → min (time + before) most ≤ min (time + min (before + ns) most) most
-later time before ns most = omega arith
-
--- a display that starts does not end before
-pub starts-before-end : (blackWhite red gates : List ℕ) (d : Ssd1677) (two : Bool) (s : Step) (luts : List ℕ)
-    → displayBegun blackWhite red gates d two s luts .display .started ≤ displayBegun blackWhite red gates d two s luts .display .ends
-unfolding displayBegun displayOf afterNs
-starts-before-end blackWhite red gates d two s luts = later _ _ _ _
