@@ -1,11 +1,10 @@
 -- What an activation keeps. Assumes nothing.
-use Prim.Native.Nat.{ℕ, _+_, _≤_, min}
+use Prim.Native.Nat.{ℕ}
 use mathlib.Core.Path.{_≡_, refl, sym, subst, _∙_}
 use mathlib.Core.Bool.{Bool, _&&_}
 use mathlib.Core.List.{List}
 use lib.IntN.{ℤ}
 use lib.ListN.{length}
-use native.Mathlib.Omega.{arith}
 use Rattle.numbers.specs.Choice.{pick}
 use Rattle.numbers.proofs.Painted.{length-tab}
 use Rattle.panel.specs.Finish.{Ending, published, finished}

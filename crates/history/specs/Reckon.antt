@@ -191,7 +191,7 @@ unfoldable pub reached : ℕ → Refreshing → List Worked
 reached t none = []
 reached t (one r) = pick (leb (r .ends) t) (workedOf r all ∷ []) []
 
--- so many cycles of a clock in nanoseconds, rounded down (#101)
+-- so many cycles of the time base in nanoseconds, rounded down (#101)
 abbrev pub lasted : ℕ → ℕ → ℕ
 lasted frequency cycles = cycles * 1000000000 / frequency
 
