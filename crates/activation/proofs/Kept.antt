@@ -15,12 +15,11 @@ use Rattle.diagnostic.specs.declared.Stage.the-variants as stage
 use Rattle.scan.specs.Luts.{lutOf}
 use Rattle.device.specs.declared.Ssd1677.{Ssd1677}
 use Rattle.world.specs.World.{WithGlass, withGlass, WithBuffers, Lent}
-use Rattle.moment.specs.Moments.{afterNs}
 use Rattle.clock.specs.Advance.{Ready, endingOf, glassOf, isOver, ended, clocked, advanced}
 use Rattle.clock.specs.Advance as clock
 use Rattle.stages.specs.Run.{Step, noted}
 use Rattle.stages_laws.proofs.Kept.{either}
-use Rattle.activation.specs.Display.{Displayed, scanOf, displayOf, unchanged, displayBegun, displayShown}
+use Rattle.activation.specs.Display.{Displayed, scanOf, unchanged, displayBegun, displayShown}
 use Rattle.activation.specs.Activation.{runSettled, WithLuts, withLuts, staged, stagedIn, activated}
 
 -- the stages leave the configuration and the glass as they were
