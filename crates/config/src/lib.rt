@@ -209,7 +209,7 @@ pub struct Ssd1677Config {
     pub vci_millivolts: u32,
     // The user ID of the OTP, read by 0x2E and loaded into its register at reset.
     pub user_id: [u8; 10],
-    // Cycles a second of the clock that times are counted in (#101).
+    // Cycles a second of the time base, which times are counted in (#101).
     pub frequency: u32,
 }
 
@@ -226,7 +226,7 @@ pub enum ConfigError {
     ZeroSwing,
     // The frame period of this frame-rate code is 0.
     ZeroFramePeriod(usize),
-    // The clock that times are counted in stands still.
+    // The time base, which times are counted in, stands still.
     ZeroFrequency,
     // The bytes lent are no table of waveforms.
     BadTable,

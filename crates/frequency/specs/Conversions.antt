@@ -1,11 +1,11 @@
--- Spans in nanoseconds and in cycles of a clock (#101: nanoseconds become cycles rounded up, cycles become nanoseconds rounded down,
+-- Spans in nanoseconds and in cycles of a time base (#101: nanoseconds become cycles rounded up, cycles become nanoseconds rounded down,
 -- and both hold at 2^64 − 1).
 use Prim.Native.Nat.{ℕ, _+_, _*_, _/_, min}
 use lib.Dec.{eqb}
 use Rattle.numbers.specs.Choice.{pick}
 use Rattle.numbers.specs.Saturation.{largest}
 
--- a span in nanoseconds, in cycles of a clock of so many a second
+-- a span in nanoseconds, in cycles of a time base of so many a second
 unfoldable pub cyclesOf : ℕ → ℕ → ℕ
 cyclesOf frequency ns = min ((ns * frequency + 999999999) / 1000000000) (largest 64)
 

@@ -1,4 +1,4 @@
--- Moments in cycles of the configuration's clock, spans in nanoseconds, and BUSY (SCOPE, Time: computed moments stop at 2^64 − 1; #101).
+-- Moments in cycles of the configuration's time base, spans in nanoseconds, and BUSY (SCOPE, Time: computed moments stop at 2^64 − 1; #101).
 use Prim.Native.Nat.{ℕ, _+_, _-_, min}
 use mathlib.Core.Bool.{Bool, false, _&&_, not}
 use lib.Dec.{leb, ltb}

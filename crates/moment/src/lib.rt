@@ -1,5 +1,5 @@
 // Moments, and when BUSY rises and falls (mod.rs, `after`, `ns_between`, `busy_for`, `advance`). A moment is a number of cycles of the
-// configuration's clock, and a span a number of nanoseconds.
+// configuration's time base, and a span a number of nanoseconds.
 ghost use mathlib.Core.Path.{_≡_};
 ghost use Rattle.moment.specs.Moments.{afterNs, nsBetween, hasCome, lowered, quietAt, busyFor};
 use device::Bus;
