@@ -7,13 +7,11 @@ use super::driving::{busy_until, clocks, planes};
 use super::firmware::{activate, load_setting, power_on};
 use super::script::Script;
 use super::{FAMILIES, Family};
-use crate::ssd1677::LUT_BYTES;
 use crate::ssd1677::tests::configuration::{Configuration, FREQUENCY};
 use crate::ssd1677::tests::configurations::{self, Geometry};
 use crate::ssd1677::tests::settings::{self, Periods, Setting};
 
 const SECOND: u64 = 1_000_000_000;
-
 /// The frequencies in turn, and after them one of chance.
 const FREQUENCIES: [u32; 7] = [
     1,
@@ -68,10 +66,11 @@ fn span(script: &mut Script, frequency: Frequency) -> u64 {
 /// A start with a waveform for each mode at every temperature, both planes filled, and cuts of refreshes: at the cycle
 /// in which a frame ends, one before and one after, or anywhere. The clock begins at `now`.
 fn cuts(script: &mut Script, mut configuration: Configuration, panel: Geometry, now: u64) {
-    let settings = [listed_setting(script), listed_setting(script)];
+    let mut waveforms: [Setting; 2] = [(); 2].map(|()| settings::setting(&mut script.random));
     configuration.otp.clear();
-    for (mode, setting) in settings.iter().enumerate() {
-        configuration.push_entry(mode.to_le_bytes()[0], [0x800, 0x7FF], setting);
+    for (mode, setting) in [0, 1].into_iter().zip(&mut waveforms) {
+        settings::make_listed(setting, &mut script.random);
+        configuration.push_entry(mode, [0x800, 0x7FF], setting);
     }
     let periods = std::array::from_fn(|code| configuration.fields[22 + code]);
     script.start(&configuration);
@@ -87,7 +86,7 @@ fn cuts(script: &mut Script, mut configuration: Configuration, panel: Geometry, 
             let time_base = device.time_base;
             // Early ones too, before the glass has come to an end of its swing.
             let most = script.random.pick(&[4, 16, 4096]);
-            let edges = settings::frame_ends(&settings[mode], &periods, most);
+            let edges = settings::frame_ends(&waveforms[mode], &periods, most);
             let edge = cycles(time_base, script.random.pick(&edges));
             let between = script.random.between(started, ends);
             let edge = started.saturating_add(edge);
@@ -100,13 +99,6 @@ fn cuts(script: &mut Script, mut configuration: Configuration, panel: Geometry, 
         script.reset(false);
         script.wait();
     }
-}
-
-/// A setting of few frames that every start accepts.
-fn listed_setting(script: &mut Script) -> Setting {
-    let mut setting = settings::setting(&mut script.random);
-    settings::make_listed(&mut setting, &mut script.random);
-    setting
 }
 
 /// Frames of a part of a cycle up to some cycles, and a swing that so many of them drive through.
@@ -164,17 +156,6 @@ fn about_driving(script: &mut Script, frequency: Frequency) {
     }
 }
 
-/// A setting of one group with so many frames, frame-rate code 0, that drives every LUT.
-fn one_group(script: &mut Script, frames: u8) -> Setting {
-    let mut setting = [0; LUT_BYTES];
-    for lut in 0..4 {
-        setting[10 * lut] = script.random.byte() | 0x40;
-    }
-    setting[50] = frames;
-    setting[106..109].copy_from_slice(&[0x41, 0xA8, 0x32]);
-    setting
-}
-
 /// A refresh that starts driving and ends at one moment though it takes time: within a cycle, or, where none is longer
 /// than a nanosecond, at the end of all clocks.
 fn one_cycle(script: &mut Script, frequency: Frequency) {
@@ -186,8 +167,8 @@ fn one_cycle(script: &mut Script, frequency: Frequency) {
     let last = frequency.cycles_to_nanos(Cycles(cycle));
     let room = last.saturating_sub(first);
     let before = first + script.random.below(room.max(1));
-    let most = script.random.pick(&[1, 2, 5]);
-    let period = ((last.max(before + 1) - before) / most).max(1);
+    let frames = script.random.pick(&[1, 2, 5]);
+    let period = ((last.max(before + 1) - before) / frames).max(1);
     configuration.fields[13] = before;
     configuration.set_periods(&[period; 16]);
     configuration.fields[8] = period.saturating_mul(20_000);
@@ -196,7 +177,13 @@ fn one_cycle(script: &mut Script, frequency: Frequency) {
         script.now = u64::MAX - script.random.below(before);
     }
     planes(script, panel);
-    let setting = one_group(script, most.to_le_bytes()[0]);
+    // One group of these frames that drives under every LUT.
+    let mut setting: Setting = [0; _];
+    for byte in setting[0..40].iter_mut().step_by(10) {
+        *byte = script.random.byte() | 0x40;
+    }
+    setting[50] = frames.to_le_bytes()[0];
+    setting[106..109].copy_from_slice(&[0x41, 0xA8, 0x32]);
     load_setting(script, &setting);
     for _ in 0..3 {
         let stages = script.random.pick(&[0xC7, 0xCF]);
