@@ -5,7 +5,7 @@ use std::marker::PhantomData;
 
 use emu_core::{Cycles, Frequency, Level};
 
-pub const ONE_GIGAHERTZ: Frequency = Frequency;
+pub const ONE_GIGAHERTZ: Frequency = Frequency(1_000_000_000);
 pub const MAX_LINE_FAULTS: usize = 0;
 
 pub struct LineFault;

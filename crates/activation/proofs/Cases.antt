@@ -43,18 +43,18 @@ pub ping-pong : (two : Bool) (n : ℕ) (b : Bool) → two && not (eqb (bitAnd n 
 unfolding bitOf
 ping-pong two n b e = ap (λ (x : Bool). two && x) (sym (test-bit 6 n)) ∙ e
 
-pub displays : (setting : List ℕ) (border time before ns : ℕ) (two : Bool) (a w b : ℕ) (k : RefreshKind)
-    → a ≡ afterNs time before → w ≡ min (before + ns) (largest 64) → b ≡ afterNs time w → k ≡ refreshKindOf two
-    → record { running = true; started = a; ends = b; kind = k; setting = setting; border = border } ≡ displayOf setting border time before ns two
+pub displays : (setting : List ℕ) (border frequency time before ns : ℕ) (two : Bool) (a w b : ℕ) (k : RefreshKind)
+    → a ≡ afterNs frequency time before → w ≡ min (before + ns) (largest 64) → b ≡ afterNs frequency time w → k ≡ refreshKindOf two
+    → record { running = true; started = a; ends = b; kind = k; setting = setting; border = border } ≡ displayOf setting border frequency time before ns two
 unfolding displayOf
-displays setting border time before ns two a w b k e₁ e₂ e₃ e₄ = rw (e₁, e₃, e₂, e₄)
+displays setting border frequency time before ns two a w b k e₁ e₂ e₃ e₄ = rw (e₁, e₃, e₂, e₄)
 
 module _ (blackWhite red gates : List ℕ) (d : Ssd1677) where
   pub begins : (two : Bool) (s : Step) (luts : List ℕ) (scan : Scan) (a : Step) (ns : ℕ) (u : List ℕ) (x : Display) (r : Run)
       → scan ≡ scanOf (d .regs) → a ≡ warned (d .now) two (d .regs .«display_option») s
       → ns ≡ durationOf (waveformOf (s .run .lut) (d .config .timing .«frame_period»))
       → u ≡ tab (length luts) (lutOf gates red blackWhite (d .config .panel) scan)
-      → x ≡ displayOf (s .run .lut) (d .regs .border) (d .now) (s .run .ns) ns two
+      → x ≡ displayOf (s .run .lut) (d .regs .border) (d .config .frequency) (d .now) (s .run .ns) ns two
       → r ≡ waited ns (a .run) → displayed r x u (a .log) ≡ displayBegun blackWhite red gates d two s luts
   unfolding displayBegun
   begins two s luts scan a ns u x r e₁ e₂ e₃ e₄ e₅ e₆ = rw (e₆, e₅, e₄, e₁, e₂, e₃)
@@ -81,7 +81,7 @@ module _ (blackWhite red gates : List ℕ) (d : Ssd1677) where
   shows-not wanted two s luts h = rw h
 
 pub settles : (d : Ssd1677) (r : Run) (x : Display) (g : Registers) (b : Bus) (z : Ssd1677) → g ≡ withLoaded (d .regs) (r .temperature) (r .lut)
-    → b ≡ busyFor (d .bus) (d .now) (r .ns) → z ≡ withActivated d g b (r .clock) (r .analog) x (r .journal) → z ≡ runSettled d r x
+    → b ≡ busyFor (d .bus) (d .config .frequency) (d .now) (r .ns) → z ≡ withActivated d g b (r .clock) (r .analog) x (r .journal) → z ≡ runSettled d r x
 unfolding runSettled
 settles d r x g b z e₁ e₂ e₃ = rw (e₃, e₂, e₁)
 

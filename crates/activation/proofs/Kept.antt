@@ -1,11 +1,10 @@
--- What an activation keeps, and that a display does not end before it starts. Assumes nothing.
-use Prim.Native.Nat.{ℕ, _+_, _≤_, min}
+-- What an activation keeps. Assumes nothing.
+use Prim.Native.Nat.{ℕ}
 use mathlib.Core.Path.{_≡_, refl, sym, subst, _∙_}
 use mathlib.Core.Bool.{Bool, _&&_}
 use mathlib.Core.List.{List}
 use lib.IntN.{ℤ}
 use lib.ListN.{length}
-use native.Mathlib.Omega.{arith}
 use Rattle.numbers.specs.Choice.{pick}
 use Rattle.numbers.proofs.Painted.{length-tab}
 use Rattle.panel.specs.Finish.{Ending, published, finished}
@@ -16,12 +15,11 @@ use Rattle.diagnostic.specs.declared.Stage.the-variants as stage
 use Rattle.scan.specs.Luts.{lutOf}
 use Rattle.device.specs.declared.Ssd1677.{Ssd1677}
 use Rattle.world.specs.World.{WithGlass, withGlass, WithBuffers, Lent}
-use Rattle.moment.specs.Moments.{afterNs}
 use Rattle.clock.specs.Advance.{Ready, endingOf, glassOf, isOver, ended, clocked, advanced}
 use Rattle.clock.specs.Advance as clock
 use Rattle.stages.specs.Run.{Step, noted}
 use Rattle.stages_laws.proofs.Kept.{either}
-use Rattle.activation.specs.Display.{Displayed, scanOf, displayOf, unchanged, displayBegun, displayShown}
+use Rattle.activation.specs.Display.{Displayed, scanOf, unchanged, displayBegun, displayShown}
 use Rattle.activation.specs.Activation.{runSettled, WithLuts, withLuts, staged, stagedIn, activated}
 
 -- the stages leave the configuration and the glass as they were
@@ -106,12 +104,3 @@ unfolding activated staged runSettled
 mux-activated k w =
     let s = stagedIn k w in
     mux-advanced (s .luts) (s .device .now) (withGlass (s .device) (w .states) (w .pixels))
-
-later : (time before ns most : ℕ) → min (time + before) most ≤ min (time + min (before + ns) most) most
-later time before ns most = omega arith
-
--- a display that starts does not end before
-pub starts-before-end : (blackWhite red gates : List ℕ) (d : Ssd1677) (two : Bool) (s : Step) (luts : List ℕ)
-    → displayBegun blackWhite red gates d two s luts .display .started ≤ displayBegun blackWhite red gates d two s luts .display .ends
-unfolding displayBegun displayOf afterNs
-starts-before-end blackWhite red gates d two s luts = later _ _ _ _

@@ -40,7 +40,7 @@ runOf d =
 -- and leave it there; BUSY is high for their time from now on
 unfoldable pub runSettled : Ssd1677 → Run → Display → Ssd1677
 runSettled d r display =
-    withActivated d (withLoaded (d .regs) (r .temperature) (r .lut)) (busyFor (d .bus) (d .now) (r .ns)) (r .clock) (r .analog) display (r .journal)
+    withActivated d (withLoaded (d .regs) (r .temperature) (r .lut)) (busyFor (d .bus) (d .config .frequency) (d .now) (r .ns)) (r .clock) (r .analog) display (r .journal)
 
 -- the state with the chosen LUTs and the log, which the stages change
 pub record WithLuts : Type 0 where

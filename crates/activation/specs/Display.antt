@@ -53,13 +53,13 @@ scanOf r =
 unfoldable pub warned : ℕ → Bool → List ℕ → Step → Step
 warned time two options s = pick (two && bitOf (getD options 5 0) 6) (noted time RamPingPong s) s
 
--- the display that starts `before` nanoseconds from now and lasts `ns` (mod.rs, `start_display`)
-unfoldable pub displayOf : List ℕ → ℕ → ℕ → ℕ → ℕ → Bool → Display
-displayOf setting border time before ns two =
+-- the display that starts `before` nanoseconds from now and lasts `ns`; both its ends are converted from now (mod.rs, `start_display`; #101)
+unfoldable pub displayOf : List ℕ → ℕ → ℕ → ℕ → ℕ → ℕ → Bool → Display
+displayOf setting border frequency time before ns two =
     record {
       running = true;
-      started = afterNs time before;
-      ends = afterNs time (min (before + ns) (largest 64));
+      started = afterNs frequency time before;
+      ends = afterNs frequency time (min (before + ns) (largest 64));
       kind = refreshKindOf two;
       setting = setting;
       border = border;
@@ -86,7 +86,7 @@ module _ (blackWhite red gates : List ℕ) (d : Ssd1677) where
   displayBegun two s luts =
       let ns = durationOf (waveformOf (s .run .lut) (d .config .timing .«frame_period»)) in
       let a = warned (d .now) two (d .regs .«display_option») s in
-      displayed (waited ns (a .run)) (displayOf (s .run .lut) (d .regs .border) (d .now) (s .run .ns) ns two)
+      displayed (waited ns (a .run)) (displayOf (s .run .lut) (d .regs .border) (d .config .frequency) (d .now) (s .run .ns) ns two)
       (tab (length luts) (lutOf gates red blackWhite (d .config .panel) (scanOf (d .regs)))) (a .log)
 
   -- bit 2: it starts unless a LUT load found no waveform; it needs the clock, else 33, and the analog supplies, else 34 (mod.rs, `powered`)

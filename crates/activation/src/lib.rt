@@ -66,12 +66,20 @@ fn duration_of(lut: [u8; 112], frame_period: [u64; 16]) -> u64
 }
 
 // The display that starts `before` nanoseconds from now and lasts `ns`.
-fn display_of(setting: [u8; 112], border: u8, time: u64, before: u64, ns: u64, two: bool) -> Display
-    ensures { λ r. ⌜ r ≡ displayOf setting border time before ns two ⌝ }
+fn display_of(
+    setting: [u8; 112],
+    border: u8,
+    frequency: u32,
+    time: u64,
+    before: u64,
+    ns: u64,
+    two: bool,
+) -> Display
+    ensures { λ r. ⌜ r ≡ displayOf setting border frequency time before ns two ⌝ }
 {
-    let started = moment::after(time, before);
+    let started = moment::after(frequency, time, before);
     let whole = numbers::saturating_add_u64(before, ns);
-    let ends = moment::after(time, whole);
+    let ends = moment::after(frequency, time, whole);
     let kind = kind_of(two);
     Display {
         running: true,
@@ -112,7 +120,15 @@ fn start_display(
     let warned = warn(run, log, state.now, two, options);
     let ns = duration_of(lut, periods);
     scan::start(&mut luts[..], gates, red, black_white, config.panel, scan);
-    let display = display_of(lut, regs.border, state.now, run.ns, ns, two);
+    let display = display_of(
+        lut,
+        regs.border,
+        config.frequency,
+        state.now,
+        run.ns,
+        ns,
+        two,
+    );
     let next = stages::wait(warned, ns);
     Shown { run: next, display }
 }
@@ -191,9 +207,10 @@ fn run_of(state: Ssd1677) -> Run
 fn settle(state: Ssd1677, run: Run, display: Display) -> Ssd1677
     ensures { λ r. ⌜ r ≡ runSettled state run display ⌝ }
 {
+    let config = state.config;
     let lut = run.lut;
     let regs = part::set_loaded(state.regs, run.temperature, lut);
-    let bus = moment::busy_for(state.bus, state.now, run.ns);
+    let bus = moment::busy_for(state.bus, config.frequency, state.now, run.ns);
     part::set_activated(
         state,
         regs,

@@ -1,2 +1,3 @@
 -- The laws of the master activation.
 pub mod Parts
+pub mod Timed

@@ -48,7 +48,7 @@ module _ (k : Lent) (w : WithBuffers) where
 
   current-staged : stagedIn k w .device .bus .current ≡ w .device .bus .current
   unfolding staged runSettled
-  current-staged = current-busy (w .device .bus) (w .device .now) _
+  current-staged = current-busy (w .device .bus) (w .device .config .frequency) (w .device .now) _
 
   pub current-activated : activated k w .device .bus .current ≡ w .device .bus .current
   unfolding activated

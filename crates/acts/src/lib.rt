@@ -32,6 +32,7 @@ pub fn check(state: Ssd1677, log: &mut [u8], command: u8, byte: u8, is_listed: b
 pub fn busy_for(state: Ssd1677, ns: u64) -> Ssd1677
     ensures { λ r. ⌜ r ≡ withBusyFor state ns ⌝ }
 {
-    let bus = moment::busy_for(state.bus, state.now, ns);
+    let config = state.config;
+    let bus = moment::busy_for(state.bus, config.frequency, state.now, ns);
     part::set_bus(state, bus)
 }

@@ -20,7 +20,7 @@ use Rattle.device.specs.declared.Deadline.the-variants.{At}
 use Rattle.device.specs.Parts.{withStatus, withUntil}
 use Rattle.world.specs.World.{WithLog, withLog, WithRam, on, deviceInRam, logInRam}
 use Rattle.registers.proofs.Bounds.{Bounded}
-use Rattle.moment.specs.Moments.{afterNs, busyFor}
+use Rattle.moment.proofs.Current.{current-busy}
 use Rattle.chip.specs.Close.{entriesOf}
 use Rattle.chip.specs.Report.{logged}
 use Rattle.start.specs.Start.{withBusyFor, isPowered, unpowered}
@@ -127,18 +127,10 @@ unpowered-kept stage k = by (k .device .clock) (k .device .analog)
     by false c = logged-kept (WithoutClock stage) k
 
 -- BUSY and the status leave the command
-busy-current : (bus : Bus) (moment ns : ℕ) → busyFor bus moment ns .current ≡ bus .current
-unfolding busyFor
-busy-current bus moment ns = by (ltb 0 ns)
-  where
-    by : (b : Bool) → pick b (withUntil bus (At (afterNs moment ns))) bus .current ≡ bus .current
-    by true = refl
-    by false = refl
-
 pub busy-kept : (d : Ssd1677) (log : List ℕ) (ns : ℕ) → Kept (withLog d log) (withLog (withBusyFor d ns) log)
 busy-kept d log ns =
     record {
-      same = record { same-config = refl; same-now = refl; same-panel = refl; same-display = refl; same-current = busy-current (d .bus) (d .now) ns };
+      same = record { same-config = refl; same-now = refl; same-panel = refl; same-display = refl; same-current = current-busy (d .bus) (d .config .frequency) (d .now) ns };
       sound = λ s. record { bounded = s .bounded; room = s .room; long = s .long };
     }
 

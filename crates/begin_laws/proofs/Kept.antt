@@ -195,6 +195,6 @@ unfolding logged commandMade restored
 current-begun k command w p h =
     begun-keeps (λ (x : WithBuffers). currentFine (x .device .bus .current) ≡ true) (λ kind x h. h)
     (λ command kind x e h. active-fine _ e) (λ x h. h)
-    (λ ns x h. ap currentFine (current-busy (x .device .bus) (x .device .now) ns) ∙ h)
+    (λ ns x h. ap currentFine (current-busy (x .device .bus) (x .device .config .frequency) (x .device .now) ns) ∙ h)
     (λ k x h. ap currentFine (current-activated k x) ∙ h)
     k command w h p

@@ -32,7 +32,7 @@ referenceTiming =
       «frame_period» = replicate 16 20000000;
     }
 
--- a panel of a size, wired as the GDEQ0426T82, at 25 °C on a 3.3 V supply (config.rs, `gdeq0426t82`)
+-- a panel of a size, wired as the GDEQ0426T82, at 25 °C on a 3.3 V supply (config.rs, `gdeq0426t82`), its times in nanoseconds
 abbrev pub configOf : ℕ → ℕ → Ssd1677Config
 configOf width height =
     record {
@@ -44,6 +44,7 @@ configOf width height =
       «external_sensor» = Absent;
       «vci_millivolts» = 3300;
       «user_id» = replicate 10 0;
+      frequency = 1000000000;
     }
 
 -- what a run hands back: how many events were made, the image's header, and the buffers

@@ -10,6 +10,9 @@ ghost use Rattle.bench_device.specs.Whole.{configOf};
 // The frame period of every code in the reference that the device is held to (config.rs, `gdeq0426t82`); the default is another (#105).
 const FRAME_PERIOD: u64 = 20_000_000;
 
+// Cycles a second where the device is held to the reference: one a nanosecond (#101).
+const FREQUENCY: u32 = 1_000_000_000;
+
 // A panel of a size, wired as the GDEQ0426T82, at 25 °C on a 3.3 V supply.
 pub(crate) fn config_of(width: u16, height: u16) -> Ssd1677Config
     ensures { λ r. ⌜ r ≡ configOf width height ⌝ }
@@ -27,5 +30,6 @@ pub(crate) fn config_of(width: u16, height: u16) -> Ssd1677Config
         external_sensor: ExternalSensor::Absent,
         vci_millivolts: 3300,
         user_id: [0u8; 10],
+        frequency: FREQUENCY,
     }
 }

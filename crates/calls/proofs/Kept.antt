@@ -108,7 +108,7 @@ module _ (otp : List ℕ) (w : World) (s : Sound otp w) where
         let same = config ∙ moved-config in
         is-sound otp v (s .table)
         (fine-kept (w .device) (v .device) (sound-fine otp w s) (ap (λ (c : Ssd1677Config). c .panel) same) (ap (λ (c : Ssd1677Config). c .timing) same)
-        (swing ∙ moved-swing) bounded count current)
+        (ap (λ (c : Ssd1677Config). c .frequency) same) (swing ∙ moved-swing) bounded count current)
         (long-kept (w .device .config .panel) (v .device .config .panel) w v (sound-long otp w s) (ap (λ (c : Ssd1677Config). c .panel) same)
         (states ∙ states-advanced (w .luts) time (glassInWorld .get w)) luts (pixels ∙ moved-pixels) log black-white red gates)
 
@@ -170,7 +170,7 @@ module _ (otp : List ℕ) (w : World) (s : Sound otp w) where
       let v = taken otp w (set-ambient register) in
       let f = sound-fine otp w s in
       let l = sound-long otp w s in
-      is-sound otp v (s .table) (fine-kept (w .device) (v .device) f refl refl refl (f .bounded) (f .count) (f .current))
+      is-sound otp v (s .table) (fine-kept (w .device) (v .device) f refl refl refl refl (f .bounded) (f .count) (f .current))
       (long-kept (w .device .config .panel) (w .device .config .panel) w v l refl refl refl refl (l .log) refl refl refl)
 
   diagnostics-keeps : Sound otp (taken otp w take-diagnostics)
@@ -178,7 +178,7 @@ module _ (otp : List ℕ) (w : World) (s : Sound otp w) where
       let v = taken otp w take-diagnostics in
       let f = sound-fine otp w s in
       let l = sound-long otp w s in
-      is-sound otp v (s .table) (fine-kept (w .device) (v .device) f refl refl refl (f .bounded) zero-le (f .current))
+      is-sound otp v (s .table) (fine-kept (w .device) (v .device) f refl refl refl refl (f .bounded) zero-le (f .current))
       (long-kept (w .device .config .panel) (w .device .config .panel) w v l refl refl refl refl (l .log) refl refl refl)
 
   pub sound-kept : (call : Call) → Typed call → Sound otp (taken otp w call)

@@ -194,7 +194,7 @@ module _ (luts : List ℕ) where
 
   current-released : (w : WithGlassLog) → currentFine (released (w .device) .bus .current) ≡ true
   unfolding released
-  current-released w = ap currentFine (current-busy _ (w .device .now) (w .device .config .timing .«hardware_reset»)) ∙ idle
+  current-released w = ap currentFine (current-busy _ (w .device .config .frequency) (w .device .now) (w .device .config .timing .«hardware_reset»)) ∙ idle
 
   pub current-line : (low : Bool) (w : WithGlassLog) (p : Power) → currentFine (w .device .bus .current) ≡ true
       → currentFine (byLine luts low w p .device .bus .current) ≡ true

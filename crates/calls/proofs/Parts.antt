@@ -15,7 +15,7 @@ use Rattle.guard_lengths.specs.declared.Lent.{Lent}
 use Rattle.guard_lengths.specs.declared.Lent.the-variants.{Of}
 use Rattle.guard_kinds.specs.Kinds.{currentFine}
 use Rattle.guard_lengths.specs.Lengths.{planeBytes, logBytes, pixelsOf, fits, lengthsFit, lengthsOf}
-use Rattle.guard_state.specs.State.{panelFine, swingFine, periodsFine, registersFine, countFine, stateFine}
+use Rattle.guard_state.specs.State.{panelFine, swingFine, periodsFine, registersFine, countFine, frequencyFine, stateFine}
 use Rattle.guard_laws.proofs.Joined.{each}
 use Rattle.guard_laws.proofs.Accepted.{fine-registers, fine-lengths}
 use Rattle.guard_laws.proofs.Kept.{registers-pass, state-passes}
@@ -29,6 +29,7 @@ pub record Fine (d : Ssd1677) : Type 0 where
   pub bounded : Bounded (d .regs)
   pub count : d .journal .count ≤ 1024
   pub current : currentFine (d .bus .current) ≡ true
+  pub ticks : frequencyFine (d .config .frequency) ≡ true
 
 pub fine-parts : (d : Ssd1677) → stateFine d ≡ true → Fine d
 unfolding stateFine
@@ -36,7 +37,7 @@ fine-parts d e =
     let at =
     each (panelFine (d .config .panel))
     (swingFine (d .panel .swing) ∷ periodsFine (d .config .timing .«frame_period») ∷ registersFine (d .regs) ∷ countFine (d .journal .count)
-    ∷ currentFine (d .bus .current) ∷ [])
+    ∷ currentFine (d .bus .current) ∷ frequencyFine (d .config .frequency) ∷ [])
     e in
     record {
       panel = at 0;
@@ -45,16 +46,18 @@ fine-parts d e =
       bounded = fine-registers (d .regs) (at 3);
       count = leb-true (d .journal .count) 1024 (at 4);
       current = at 5;
+      ticks = at 6;
     }
 
 pub fine-passes : (d : Ssd1677) → Fine d → stateFine d ≡ true
 fine-passes d f =
     state-passes d (f .panel) (f .swing) (f .periods) (registers-pass (d .regs) (f .bounded)) (le-leb (d .journal .count) 1024 (f .count)) (f .current)
+    (f .ticks)
 
--- another state of the same panel, timing and swing
+-- another state of the same panel, timing, frequency and swing
 pub fine-kept : (d e : Ssd1677) → Fine d → e .config .panel ≡ d .config .panel → e .config .timing ≡ d .config .timing
-    → e .panel .swing ≡ d .panel .swing → Bounded (e .regs) → e .journal .count ≤ 1024 → currentFine (e .bus .current) ≡ true → Fine e
-fine-kept d e f panel timing swing bounded count current =
+    → e .config .frequency ≡ d .config .frequency → e .panel .swing ≡ d .panel .swing → Bounded (e .regs) → e .journal .count ≤ 1024 → currentFine (e .bus .current) ≡ true → Fine e
+fine-kept d e f panel timing frequency swing bounded count current =
     record {
       panel = ap panelFine panel ∙ f .panel;
       swing = ap swingFine swing ∙ f .swing;
@@ -62,6 +65,7 @@ fine-kept d e f panel timing swing bounded count current =
       bounded = bounded;
       count = count;
       current = current;
+      ticks = ap frequencyFine frequency ∙ f .ticks;
     }
 
 -- what 11 asks

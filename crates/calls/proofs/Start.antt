@@ -27,7 +27,7 @@ use Rattle.guard_kinds.specs.Kinds.{currentFine}
 use Rattle.guard.specs.Refusals.{guarded, guardedWithTable}
 use Rattle.guard_state.specs.State.{swingFine, stateFine}
 use Rattle.guard_laws.proofs.Accepted.{FineLengths}
-use Rattle.guard_laws.proofs.Started.{started-panel, started-swing, started-periods, started-table}
+use Rattle.guard_laws.proofs.Started.{started-panel, started-swing, started-periods, started-frequency, started-table}
 use Rattle.query.specs.Outcome.{outcome, unless, stateGuarded}
 use Rattle.query.specs.Queries.{WithCount, ambientSet, diagnosticsTaken}
 use Rattle.power_on.specs.Start.{Buffers, lengthsIn, allTests, poweredOn, cleared, filled, Powered, poweredUp, unstarted, started, worldOf}
@@ -69,6 +69,7 @@ module _ (c : Ssd1677Config) (otp : List ℕ) (b : Buffers) where
           bounded = reset-bounded (c .«user_id»);
           count = zero-le;
           current = idle;
+          ticks = started-frequency c otp tests;
         }
 
     powered-long : Long (c .panel) (worldOf (poweredUp c b))

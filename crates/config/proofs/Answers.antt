@@ -7,7 +7,7 @@ use lib.Dec.{eqb}
 use native.Mathlib.Omega.{arith}
 use Rattle.numbers.specs.Choice.{pick}
 use Rattle.config.specs.declared.ConfigError.{ConfigError}
-use Rattle.config.specs.declared.ConfigError.the-variants.{Accepted, EmptyPanel, PanelOutsideRam, OddRowsWithGd, ZeroSwing, ZeroFramePeriod, BadTable, OtpVoltage}
+use Rattle.config.specs.declared.ConfigError.the-variants.{Accepted, EmptyPanel, PanelOutsideRam, OddRowsWithGd, ZeroSwing, ZeroFramePeriod, ZeroFrequency, BadTable, OtpVoltage}
 use Rattle.config.specs.Answer.{Answer, accepted, refused, isAccepted, Test, firstOf, answerOf}
 
 -- the first test refuses, or lets pass
@@ -53,7 +53,7 @@ coded n v =
     pick (eqb n 1) EmptyPanel
     (pick (eqb n 2) PanelOutsideRam
     (pick (eqb n 3) OddRowsWithGd
-    (pick (eqb n 4) ZeroSwing (pick (eqb n 5) (ZeroFramePeriod v) (pick (eqb n 6) (OtpVoltage v) BadTable)))))
+    (pick (eqb n 4) ZeroSwing (pick (eqb n 5) (ZeroFramePeriod v) (pick (eqb n 6) (OtpVoltage v) (pick (eqb n 14) ZeroFrequency BadTable))))))
 
 errorOf : Answer → ConfigError
 errorOf accepted = Accepted
@@ -67,6 +67,7 @@ error-of-answer PanelOutsideRam = refl
 error-of-answer OddRowsWithGd = refl
 error-of-answer ZeroSwing = refl
 error-of-answer (ZeroFramePeriod code) = refl
+error-of-answer ZeroFrequency = refl
 error-of-answer BadTable = refl
 error-of-answer (OtpVoltage index) = refl
 

@@ -4,7 +4,7 @@ use mathlib.Core.List.{List, [], _∷_}
 use Prim.Native.Nat.{ℕ}
 use Rattle.numbers.specs.Choice.{pick}
 use Rattle.config.specs.declared.ConfigError.{ConfigError}
-use Rattle.config.specs.declared.ConfigError.the-variants.{Accepted, EmptyPanel, PanelOutsideRam, OddRowsWithGd, ZeroSwing, ZeroFramePeriod, BadTable, OtpVoltage}
+use Rattle.config.specs.declared.ConfigError.the-variants.{Accepted, EmptyPanel, PanelOutsideRam, OddRowsWithGd, ZeroSwing, ZeroFramePeriod, ZeroFrequency, BadTable, OtpVoltage}
 
 -- accepted, or refused with a number and its value (0 where there is none)
 pub data Answer : Type 0 where
@@ -35,5 +35,6 @@ answerOf PanelOutsideRam = refused 2 0
 answerOf OddRowsWithGd = refused 3 0
 answerOf ZeroSwing = refused 4 0
 answerOf (ZeroFramePeriod code) = refused 5 code
+answerOf ZeroFrequency = refused 14 0
 answerOf BadTable = refused 12 0
 answerOf (OtpVoltage index) = refused 6 index

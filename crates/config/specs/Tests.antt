@@ -1,4 +1,4 @@
--- Tests of a configuration that need no table, 1 to 5, and the test of a lent buffer, 11 (SCOPE, Refusals; config.rs, `validate`).
+-- Tests of a configuration that need no table, 1 to 5 and 14, and the test of a lent buffer, 11 (SCOPE, Refusals; config.rs, `validate`).
 use mathlib.Core.Bool.{not, _&&_, _||_}
 use mathlib.Core.List.{List, [], _∷_, _++_}
 use Prim.Native.Nat.{ℕ, _+_, _%_}
@@ -46,9 +46,14 @@ zeroPeriod periods = lowest (λ code. eqb (getD periods code 0) 0) 16
 abbrev pub periodsTest : List ℕ → Test
 periodsTest periods = record { number = 5; value = zeroPeriod periods; refuses = ltb (zeroPeriod periods) 16 }
 
--- 1, 2, 3, 4, 5
+-- 14: frequency 0 (#101)
+abbrev pub frequencyTest : ℕ → Test
+frequencyTest frequency = record { number = 14; value = 0; refuses = eqb frequency 0 }
+
+-- 1, 2, 3, 4, 5, 14
 abbrev pub configTests : Ssd1677Config → List Test
-configTests c = geometryTests (c .panel) ++ swingTest (c .optics) ∷ periodsTest (c .timing .«frame_period») ∷ []
+configTests c =
+    geometryTests (c .panel) ++ swingTest (c .optics) ∷ periodsTest (c .timing .«frame_period») ∷ frequencyTest (c .frequency) ∷ []
 
 -- 11: a lent buffer's length is not the one asked
 abbrev pub lentTest : ℕ → ℕ → Test

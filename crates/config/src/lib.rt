@@ -5,7 +5,7 @@ ghost use mathlib.Core.Path.{_≡_};
 ghost use lib.IntN.{pos, _*ℤ_};
 ghost use Rattle.config.specs.Temperature.{coldest, warmest, sixteenthsOf, registerOf, fromSixteenths};
 ghost use Rattle.config.specs.Answer.{isAccepted, firstOf, answerOf};
-ghost use Rattle.config.specs.Tests.{geometryTests, swingTest, periodsTest, configTests};
+ghost use Rattle.config.specs.Tests.{geometryTests, swingTest, periodsTest, frequencyTest, configTests};
 ghost use Rattle.config.specs.Defaults.{defaultGateScan, defaultTiming};
 ghost use Rattle.config.specs.Mode.{modeNumber};
 use glass::Optics;
@@ -209,6 +209,8 @@ pub struct Ssd1677Config {
     pub vci_millivolts: u32,
     // The user ID of the OTP, read by 0x2E and loaded into its register at reset.
     pub user_id: [u8; 10],
+    // Cycles a second of the time base, which times are counted in (#101).
+    pub frequency: u32,
 }
 
 // Parameters an SSD1677 model cannot be built on.
@@ -224,6 +226,8 @@ pub enum ConfigError {
     ZeroSwing,
     // The frame period of this frame-rate code is 0.
     ZeroFramePeriod(usize),
+    // The time base, which times are counted in, stands still.
+    ZeroFrequency,
     // The bytes lent are no table of waveforms.
     BadTable,
     // The waveform of this index holds a source or VCOM voltage that the datasheet does not list.
@@ -240,6 +244,7 @@ pub fn is_accepted(error: ConfigError) -> bool
         ConfigError::OddRowsWithGd => false,
         ConfigError::ZeroSwing => false,
         ConfigError::ZeroFramePeriod(_) => false,
+        ConfigError::ZeroFrequency => false,
         ConfigError::BadTable => false,
         ConfigError::OtpVoltage(_) => false,
     }
@@ -284,7 +289,16 @@ pub fn periods_error(periods: [u64; 16]) -> ConfigError
     ConfigError::Accepted
 }
 
-// What is refused of a configuration whatever the table: 1 to 5.
+pub fn frequency_error(frequency: u32) -> ConfigError
+    ensures { λ r. ⌜ answerOf r ≡ firstOf (frequencyTest frequency ∷ []) ⌝ }
+{
+    if frequency == 0 {
+        return ConfigError::ZeroFrequency;
+    }
+    ConfigError::Accepted
+}
+
+// What is refused of a configuration whatever the table: 1 to 5, then 14.
 pub fn config_error(config: Ssd1677Config) -> ConfigError
     ensures { λ r. ⌜ answerOf r ≡ firstOf (configTests config) ⌝ }
 {
@@ -294,7 +308,11 @@ pub fn config_error(config: Ssd1677Config) -> ConfigError
     if is_accepted(geometry) {
         let swing = swing_error(config.optics);
         if is_accepted(swing) {
-            return periods_error(periods);
+            let period = periods_error(periods);
+            if is_accepted(period) {
+                return frequency_error(config.frequency);
+            }
+            return period;
         }
         return swing;
     }

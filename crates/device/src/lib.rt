@@ -109,7 +109,7 @@ pub struct Status {
 // An SSD1677 and the glass it drives.
 pub struct Ssd1677 {
     pub config: Ssd1677Config,
-    // The latest instant seen.
+    // The latest instant seen. It and every other moment are cycles of the configuration's time base.
     pub now: u64,
     pub regs: Registers,
     pub bus: Bus,

@@ -61,7 +61,7 @@ pub struct PanelImage {
     pub kind: RefreshKind,
     // A hardware reset cut the display short: the image is the state the glass had reached.
     pub interrupted: bool,
-    // When the display began driving the glass (0 at power-on).
+    // When the display began driving the glass (0 at power-on), in cycles of the time base.
     pub started: u64,
     // When the display ended or was cut.
     pub at: u64,

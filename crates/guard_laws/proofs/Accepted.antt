@@ -1,5 +1,5 @@
 -- What a call that is not refused knows of what it was handed. Assumes nothing.
-use Prim.Native.Nat.{ℕ, _+_, _%_, _≤_, _<_}
+use Prim.Native.Nat.{ℕ, zero, suc, _+_, _%_, _≤_, _<_}
 use mathlib.Core.Path.{_≡_, refl, sym, ap, _∙_, subst}
 use mathlib.Core.Bool.{Bool, true, false, _&&_, not}
 use mathlib.Core.List.{List, [], _∷_}
@@ -25,7 +25,7 @@ use Rattle.guard_lengths.specs.declared.Lengths.{Lengths}
 use Rattle.guard.specs.declared.Refusal.{Refusal}
 use Rattle.guard.specs.declared.Refusal.the-variants.{Accepted, Buffer, Table, State}
 use Rattle.guard_kinds.specs.Kinds.{currentFine}
-use Rattle.guard_state.specs.State.{panelFine, swingFine, periodsFine, registersFine, countFine, stateFine}
+use Rattle.guard_state.specs.State.{panelFine, swingFine, periodsFine, registersFine, countFine, frequencyFine, stateFine}
 use Rattle.guard_lengths.specs.Lengths.{planeBytes, logBytes, pixelsOf, fits, lengthsFit}
 use Rattle.guard.specs.Refusals.{accepts, guarded, guardedWithTable}
 use Rattle.guard_laws.proofs.Joined.{each}
@@ -142,9 +142,14 @@ pub record FineState (d : Ssd1677) : Type 0 where
   pub registers : Bounded (d .regs)
   pub count : d .journal .count ≤ 1024
   pub current : currentFine (d .bus .current) ≡ true
+  pub ticks : 0 < d .config .frequency
 
 at-most : (a b : ℤ) → leZ a b ≡ true → a ≤ℤ b
 at-most a b e = leZ-yes (subst T (sym e) tt)
+
+pub some-ticks : (frequency : ℕ) → frequencyFine frequency ≡ true → 0 < frequency
+some-ticks zero e = absurd (never e)
+some-ticks (suc n) e = omega arith
 
 pub fine-state : (d : Ssd1677) → stateFine d ≡ true → FineState d
 unfolding stateFine
@@ -153,7 +158,9 @@ fine-state d e =
     let periods = d .config .timing .«frame_period» in
     let at =
     each (panelFine (d .config .panel))
-    (swingFine swing ∷ periodsFine periods ∷ registersFine (d .regs) ∷ countFine (d .journal .count) ∷ currentFine (d .bus .current) ∷ []) e in
+    (swingFine swing ∷ periodsFine periods ∷ registersFine (d .regs) ∷ countFine (d .journal .count) ∷ currentFine (d .bus .current)
+    ∷ frequencyFine (d .config .frequency) ∷ [])
+    e in
     record {
       panel = fine-panel (d .config .panel) (at 0);
       swing = at-most (pos 1) swing (left (leZ (pos 1) swing) (leZ swing most) (at 1));
@@ -162,6 +169,7 @@ fine-state d e =
       registers = fine-registers (d .regs) (at 3);
       count = leb-true (d .journal .count) 1024 (at 4);
       current = at 5;
+      ticks = some-ticks (d .config .frequency) (at 6);
     }
 
 -- ---- the lengths

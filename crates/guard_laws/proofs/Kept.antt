@@ -6,7 +6,7 @@ use Rattle.device.specs.declared.Registers.{Registers}
 use Rattle.device.specs.declared.Ssd1677.{Ssd1677}
 use Rattle.registers.proofs.Bounds.{Bounded}
 use Rattle.guard_kinds.specs.Kinds.{currentFine}
-use Rattle.guard_state.specs.State.{panelFine, swingFine, periodsFine, registersFine, countFine, stateFine}
+use Rattle.guard_state.specs.State.{panelFine, swingFine, periodsFine, registersFine, countFine, frequencyFine, stateFine}
 
 pub registers-pass : (r : Registers) → Bounded r → registersFine r ≡ true
 unfolding registersFine
@@ -26,6 +26,7 @@ registers-pass r f =
 pub state-passes : (d : Ssd1677)
     → panelFine (d .config .panel) ≡ true → swingFine (d .panel .swing) ≡ true → periodsFine (d .config .timing .«frame_period») ≡ true
     → registersFine (d .regs) ≡ true → countFine (d .journal .count) ≡ true → currentFine (d .bus .current) ≡ true
+    → frequencyFine (d .config .frequency) ≡ true
     → stateFine d ≡ true
 unfolding stateFine
-state-passes d a b c e f g = rw (a, b, c, e, f, g)
+state-passes d a b c e f g h = rw (a, b, c, e, f, g, h)

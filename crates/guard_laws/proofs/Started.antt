@@ -1,4 +1,4 @@
--- A configuration and a table that start does not refuse give a panel, periods and a table that no later call refuses. Assumes nothing.
+-- A configuration and a table that start does not refuse give a panel, periods, a frequency and a table that no later call refuses. Assumes nothing.
 use Prim.Native.Nat.{ℕ, _≤_}
 use mathlib.Core.Path.{_≡_, refl}
 use mathlib.Core.Bool.{true, false}
@@ -8,9 +8,9 @@ use borrow.Author.Tests.{eqb-false}
 use Rattle.numbers.specs.Choice.{pick}
 use Rattle.config.specs.declared.Ssd1677Config.{Ssd1677Config}
 use Rattle.config.specs.Answer.{refused, isAccepted, Test, firstOf}
-use Rattle.config.specs.Tests.{geometryTests, swingTest, periodsTest}
+use Rattle.config.specs.Tests.{geometryTests, swingTest, periodsTest, frequencyTest}
 use Rattle.otp.specs.Table.{badTable, tableTest, voltagesTest, startTests}
-use Rattle.guard_state.specs.State.{panelFine, periodsFine}
+use Rattle.guard_state.specs.State.{panelFine, periodsFine, frequencyFine}
 use Rattle.guard_laws.proofs.Accepted.{none-refuses}
 
 -- both of two lists accept
@@ -25,19 +25,29 @@ both (t ∷ a) b e = by (none-refuses t (a ++ b) e) (both a b)
     by p more = let q = more (p .1) in (rw (p .0) (q .0), q .1)
 
 module _ (c : Ssd1677Config) (otp : List ℕ) (accepts : isAccepted (firstOf (startTests c otp)) ≡ true) where
+  abbrev table : List Test
+  table = tableTest otp ∷ voltagesTest otp ∷ []
+
+  abbrev after-five : List Test
+  after-five = frequencyTest (c .frequency) ∷ table
+
+  abbrev after-four : List Test
+  after-four = periodsTest (c .timing .«frame_period») ∷ after-five
+
   abbrev rest : List Test
-  rest = swingTest (c .optics) ∷ periodsTest (c .timing .«frame_period») ∷ tableTest otp ∷ voltagesTest otp ∷ []
+  rest = swingTest (c .optics) ∷ after-four
 
   after-panel : (isAccepted (firstOf (geometryTests (c .panel))) ≡ true) × (isAccepted (firstOf rest) ≡ true)
   after-panel = both (geometryTests (c .panel)) rest accepts
 
-  after-swing : (swingTest (c .optics) .refuses ≡ false)
-      × (isAccepted (firstOf (periodsTest (c .timing .«frame_period») ∷ tableTest otp ∷ voltagesTest otp ∷ [])) ≡ true)
-  after-swing =
-      none-refuses (swingTest (c .optics)) (periodsTest (c .timing .«frame_period») ∷ tableTest otp ∷ voltagesTest otp ∷ []) (after-panel .1)
+  after-swing : (swingTest (c .optics) .refuses ≡ false) × (isAccepted (firstOf after-four) ≡ true)
+  after-swing = none-refuses (swingTest (c .optics)) after-four (after-panel .1)
 
-  after-periods : (periodsTest (c .timing .«frame_period») .refuses ≡ false) × (isAccepted (firstOf (tableTest otp ∷ voltagesTest otp ∷ [])) ≡ true)
-  after-periods = none-refuses (periodsTest (c .timing .«frame_period»)) (tableTest otp ∷ voltagesTest otp ∷ []) (after-swing .1)
+  after-periods : (periodsTest (c .timing .«frame_period») .refuses ≡ false) × (isAccepted (firstOf after-five) ≡ true)
+  after-periods = none-refuses (periodsTest (c .timing .«frame_period»)) after-five (after-swing .1)
+
+  after-frequency : (frequencyTest (c .frequency) .refuses ≡ false) × (isAccepted (firstOf table) ≡ true)
+  after-frequency = none-refuses (frequencyTest (c .frequency)) table (after-periods .1)
 
   pub started-panel : panelFine (c .panel) ≡ true
   unfolding panelFine
@@ -50,5 +60,8 @@ module _ (c : Ssd1677Config) (otp : List ℕ) (accepts : isAccepted (firstOf (st
   unfolding periodsFine
   started-periods = rw (after-periods .0)
 
+  pub started-frequency : frequencyFine (c .frequency) ≡ true
+  started-frequency = rw (after-frequency .0)
+
   pub started-table : badTable otp ≡ false
-  started-table = none-refuses (tableTest otp) (voltagesTest otp ∷ []) (after-periods .1) .0
+  started-table = none-refuses (tableTest otp) (voltagesTest otp ∷ []) (after-frequency .1) .0

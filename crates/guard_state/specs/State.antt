@@ -8,7 +8,7 @@ use lib.Signed.{leZ}
 use Rattle.numbers.specs.Saturation.{most}
 use Rattle.config.specs.declared.PanelGeometry.{PanelGeometry}
 use Rattle.config.specs.Answer.{isAccepted, firstOf}
-use Rattle.config.specs.Tests.{geometryTests, periodsTest}
+use Rattle.config.specs.Tests.{geometryTests, periodsTest, frequencyTest}
 use Rattle.device.specs.declared.Registers.{Registers}
 use Rattle.device.specs.declared.Ssd1677.{Ssd1677}
 use Rattle.guard_kinds.specs.Kinds.{currentFine}
@@ -42,6 +42,10 @@ registersFine r =
 abbrev pub countFine : ℕ → Bool
 countFine count = leb count 1024
 
+-- 14 does not refuse the frequency: it is not 0 (#101)
+abbrev pub frequencyFine : ℕ → Bool
+frequencyFine frequency = not (frequencyTest frequency .refuses)
+
 -- 13 finds nothing to refuse
 unfoldable pub stateFine : Ssd1677 → Bool
 stateFine d =
@@ -51,3 +55,4 @@ stateFine d =
     && registersFine (d .regs)
     && countFine (d .journal .count)
     && currentFine (d .bus .current)
+    && frequencyFine (d .config .frequency)

@@ -89,4 +89,5 @@ pub fn state_is_fine(state: Ssd1677) -> bool
         & registers_fine
         & (journal.count <= MAX_DIAGNOSTICS)
         & current_fine
+        & (config.frequency != 0)
 }

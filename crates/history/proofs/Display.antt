@@ -37,7 +37,7 @@ module _ (blackWhite red gates : List ℕ) (d : Ssd1677) (luts : List ℕ) where
   abbrev from : Bool → Step → Step → Displayed
   from two s a =
       let ns = durationOf (waveformOf (s .run .lut) (d .config .timing .«frame_period»)) in
-      displayed (waited ns (a .run)) (displayOf (s .run .lut) (d .regs .border) (d .now) (s .run .ns) ns two)
+      displayed (waited ns (a .run)) (displayOf (s .run .lut) (d .regs .border) (d .config .frequency) (d .now) (s .run .ns) ns two)
       (tab (length luts) (lutOf gates red blackWhite (d .config .panel) (scanOf (d .regs)))) (a .log)
 
   pub blind-begun : (two : Bool) → Blind plainStep plainDisplayed (λ (s : Step). displayBegun blackWhite red gates d two s luts)

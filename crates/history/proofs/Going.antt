@@ -145,10 +145,10 @@ module _ (otp : List ℕ) (w : World) where
   unfolding worked
   works-in number (advance time) = reached-is (w .luts) (t time) (w .device .display)
   works-in number (set-reset time low) =
-      ap (λ (us : List Worked). us ++ pick (falls low (w .device .bus .power)) (cutAt (t time) (showsIn w)) [])
+      ap (λ (us : List Worked). us ++ pick (falls low (w .device .bus .power)) (cutAt (w .device .config .frequency) (t time) (showsIn w)) [])
       (reached-is (w .luts) (t time) (w .device .display))
       ∙ ap (λ (us : List Worked). endsIn (w .luts) time (w .device) ++ pick (falls low (w .device .bus .power)) us [])
-      (cut-is (w .luts) (t time) (w .device .display))
+      (cut-is (w .luts) (t time) (w .device .display) (w .device .config .frequency))
   works-in number (write-command time command) =
       ap (λ (us : List Worked). us ++ pick (activates (t time) command (coreOf w)) (reached (t time) (begins otp (c time))) [])
       (reached-is (w .luts) (t time) (w .device .display))

@@ -17,6 +17,7 @@ pub mod Going
 pub mod Calls
 pub mod Start
 pub mod History
+pub mod Cuts
 pub mod Tells
 pub mod TellsLog
 pub mod TellsData

@@ -1,14 +1,14 @@
 -- The reset line beside the whole numbers: a fall works in what the cut let the refresh under way finish, and nothing of one whose driving
 -- had not begun. Assumes nothing.
 use Prim.Native.Nat.{ℕ, _<_, _-_, max}
-use mathlib.Core.Path.{_≡_, refl, sym, ap, _∙_}
+use mathlib.Core.Path.{_≡_, refl, sym, ap, subst, _∙_}
 use mathlib.Core.Bool.{Bool, true, false, _&&_}
 use mathlib.Core.List.{List, [], _∷_}
 use native.Mathlib.Omega.{arith}
 use lib.Dec.{leb}
-use borrow.Author.Tests.{leb-false}
+use borrow.Author.Tests.{leb-true, leb-false}
 use Rattle.numbers.specs.Choice.{pick}
-use Rattle.numbers.proofs.Cases.{left}
+use Rattle.numbers.proofs.Cases.{left, right}
 use Rattle.waveform.specs.declared.Until.the-variants.{Whole}
 use Rattle.panel.specs.Finish.{finished}
 use Rattle.diagnostic.specs.declared.DiagnosticKind.the-variants.{ResetDuringDisplay}
@@ -20,11 +20,12 @@ use Rattle.device.specs.declared.Power.the-variants.{Running, Asleep, InReset}
 use Rattle.device.specs.declared.Ssd1677.{Ssd1677}
 use Rattle.world.specs.World.{WithGlass, withGlass, WithGlassLog, on, deviceInGlassLog, logInGlassLog, glassInGlassLog}
 use Rattle.moment.specs.Moments.{nsBetween, lowered}
+use Rattle.moment.proofs.Spans.{between-exact}
 use Rattle.clock.specs.Advance.{isOver, clocked, quieted, glassPublished, endingOf, glassOf, ended, advanced}
 use Rattle.chip.specs.Close.{closed}
 use Rattle.chip.specs.Report.{logged}
 use Rattle.reset.specs.Reset.{restored, isDriving, displayCut, displayDropped, cut, inReset, asserted, released, byLine}
-use Rattle.history.specs.Reckon.{upTo, Worked, falls, numberOver}
+use Rattle.history.specs.Reckon.{upTo, lasted, Worked, falls, numberOver}
 use Rattle.history.proofs.Blind.{seenGlassLog}
 use Rattle.history.proofs.Shows.{Marks, Shows, over, refresh, finish-shows}
 
@@ -98,11 +99,11 @@ power-moved luts time g =
 -- ---- the fall
 -- what a fall cuts of the refresh under way
 abbrev pub cutIn : List ℕ → Ssd1677 → List Worked
-cutIn luts d = pick (isDriving d) (refresh luts (d .display) (upTo (d .now - d .display .started)) ∷ []) []
+cutIn luts d = pick (isDriving d) (refresh luts (d .display) (upTo (lasted (d .config .frequency) (d .now - d .display .started))) ∷ []) []
 
 asserted-shows : (luts : List ℕ) (w : WithGlassLog) (number : Marks) → (w .device .display .running ≡ true → w .device .now < w .device .display .ends)
     → Shows (seenGlassLog w) number → Shows (seenGlassLog (asserted luts w)) (over (w .device .config) (cutIn luts (w .device)) number)
-unfolding asserted inReset restored cut displayCut closed logged nsBetween numberOver
+unfolding asserted inReset restored cut displayCut closed logged numberOver
 asserted-shows luts w number before h = by (isDriving (w .device)) refl
   where
     d : Ssd1677
@@ -115,13 +116,19 @@ asserted-shows luts w number before h = by (isDriving (w .device)) refl
     fallen b = on deviceInGlassLog inReset (on deviceInGlassLog restored (pick b (on glassInGlassLog (displayCut luts) v) (on deviceInGlassLog displayDropped (on logInGlassLog closed w))))
 
     by : (b : Bool) → isDriving d ≡ b
-        → Shows (seenGlassLog (fallen b)) (over (d .config) (pick b (refresh luts (d .display) (upTo (d .now - d .display .started)) ∷ []) []) number)
+        → Shows (seenGlassLog (fallen b))
+        (over (d .config) (pick b (refresh luts (d .display) (upTo (lasted (d .config .frequency) (d .now - d .display .started))) ∷ []) []) number)
     by true e =
         let soon = before (left (d .display .running) (leb (d .display .started) (d .now)) e) in
-        let r = finish-shows luts (withGlass (v .device) (v .states) (v .pixels)) (d .now) (upTo (d .now - d .display .started)) number (omega (arith, soon, h .ends))
-        h in
-        r
-    by false e = record { swing = h .swing; some = h .some; ends = h .ends; states = h .states; within = h .within; pixels = h .pixels; generation = h .generation }
+        let begun = leb-true (d .display .started) (d .now) (right (d .display .running) (leb (d .display .started) (d .now)) e) in
+        let short = h .short (d .now - d .display .started) (omega (arith, soon, begun)) in
+        -- the cut, converted, is not held
+        let is = between-exact (d .config .frequency) (d .display .started) (d .now) (h .ticks) (omega (arith, short)) in
+        let r =
+        finish-shows luts (withGlass (v .device) (v .states) (v .pixels)) (d .now) (upTo (nsBetween (d .config .frequency) (d .display .started) (d .now)))
+        number (rw is short) h in
+        subst (λ (n : ℕ). Shows (seenGlassLog (fallen true)) (over (d .config) (refresh luts (d .display) (upTo n) ∷ []) number)) is r
+    by false e = record { swing = h .swing; some = h .some; ticks = h .ticks; short = h .short; states = h .states; within = h .within; pixels = h .pixels; generation = h .generation }
 
 pub line-shows : (luts : List ℕ) (low : Bool) (w : WithGlassLog) (number : Marks) (power : Power)
     → (w .device .display .running ≡ true → w .device .now < w .device .display .ends) → Shows (seenGlassLog w) number

@@ -18,7 +18,7 @@ use Rattle.busy.specs.Busy.{pending}
 use Rattle.moment.specs.Moments.{lowered}
 use Rattle.clock.specs.Advance.{isOver, clocked, quieted, glassPublished, endingOf, ended, advanced}
 use Rattle.clock.specs.Advance as chip
-use Rattle.history.specs.Reckon.{upTo, Worked}
+use Rattle.history.specs.Reckon.{upTo, lasted, Worked}
 use Rattle.history.proofs.Shows.{refresh}
 use Rattle.history.proofs.Line.{cutIn, bus-moved, now-moved}
 
@@ -36,7 +36,7 @@ and-all true true e l o f = sym (f o)
 -- what the reckoning says that a reset at a moment cuts
 abbrev pub cutAt : List ℕ → ℕ → Ssd1677 → List Worked
 cutAt luts t d =
-    pick (d .display .running && (leb (d .display .started) t && ltb t (d .display .ends))) (refresh luts (d .display) (upTo (t - d .display .started)) ∷ []) []
+    pick (d .display .running && (leb (d .display .started) t && ltb t (d .display .ends))) (refresh luts (d .display) (upTo (lasted (d .config .frequency) (t - d .display .started))) ∷ []) []
 
 pub cut-moved : (luts : List ℕ) (time : ℕ) (g : WithGlass) → cutIn luts (advanced luts time g .device) ≡ cutAt luts (max (g .device .now) time) (g .device)
 unfolding advanced ended
@@ -55,7 +55,7 @@ cut-moved luts time g = by (isOver (clocked time g .device)) refl
     y b = quieted (pick b (glassPublished x (finished (endingOf (x .device) (x .device .display .ends) Whole) luts (chip.glassOf x))) x)
 
     cuts : Bool → List Worked
-    cuts b = pick b (refresh luts (d .display) (upTo (t - d .display .started)) ∷ []) []
+    cuts b = pick b (refresh luts (d .display) (upTo (lasted (d .config .frequency) (t - d .display .started))) ∷ []) []
 
     by : (b : Bool) → isOver (x .device) ≡ b → cutIn luts (y b .device) ≡ cutAt luts t d
     by true o =

@@ -1,5 +1,5 @@
 -- 0x20 beside the whole numbers: a refresh whose end the clock has already reached is worked in at once. Assumes nothing.
-use Prim.Native.Nat.{ℕ, _≤_, max}
+use Prim.Native.Nat.{ℕ, _<_, max}
 use mathlib.Core.Path.{_≡_, sym, ap, subst, _∙_}
 use mathlib.Core.Bool.{Bool, true, false, _&&_, not}
 use mathlib.Core.List.{List, [], _∷_}
@@ -7,7 +7,8 @@ use native.Mathlib.Omega.{arith}
 use lib.Dec.{leb}
 use Rattle.numbers.specs.Choice.{pick}
 use Rattle.numbers.specs.Rows.{lookup}
-use Rattle.numbers.specs.Saturation.{largest}
+use Rattle.waveform.specs.Setting.{waveformOf}
+use Rattle.waveform.specs.Duration.{durationOf}
 use Rattle.diagnostic.specs.declared.DiagnosticKind.the-variants.{WhileBusy, WhileAsleep, WhileInReset, WithoutClock, WithoutAnalog}
 use Rattle.diagnostic.specs.declared.Stage.the-variants as stage
 use Rattle.device.specs.declared.Kind.the-variants.{Write}
@@ -18,7 +19,7 @@ use Rattle.device.specs.declared.Ssd1677.{Ssd1677}
 use Rattle.world.specs.World.{World, withGlass, WithBuffers, Lent, lentOf, on, deviceInBuffers}
 use Rattle.command.specs.Table.{rows, kindOf}
 use Rattle.busy.specs.Busy.{pending}
-use Rattle.moment.specs.Moments.{afterNs}
+use Rattle.moment.proofs.Spans.{cut-short}
 use Rattle.stages.specs.Run.{controlOf, Step, noted}
 use Rattle.activation.specs.Display.{Displayed, displayOf, displayBegun, displayShown, unchanged}
 use Rattle.activation.specs.Activation.{WithLuts, withLuts, runSettled, before, during, staged, stagedIn, activated}
@@ -28,31 +29,33 @@ use Rattle.history.proofs.Blind.{seenBuffers}
 use Rattle.history.proofs.Stages.{unbused}
 use Rattle.history.proofs.Display.{during-plain}
 use Rattle.history.proofs.Begun.{told, still-told}
-use Rattle.history.proofs.Shows.{Marks, Shows, over, refresh, endsIn, advance-shows}
+use Rattle.history.proofs.Shows.{Marks, Short, Shows, over, refresh, endsIn, advance-shows}
 
 -- ---- the stages and the end of the display
-shown-ends : (blackWhite red gates : List ℕ) (d : Ssd1677) (wanted two : Bool) (s : Step) (luts : List ℕ) → d .display .ends ≤ largest 64
-    → displayShown blackWhite red gates d wanted two s luts .display .ends ≤ largest 64
-unfolding displayShown displayBegun displayOf afterNs
-shown-ends blackWhite red gates d wanted two s luts h = by (wanted && s .run .«waveform_found») (s .run .clock) (s .run .analog)
+-- a display that starts is short, by the span law of a cut; else it is the one before
+shown-short : (blackWhite red gates : List ℕ) (d : Ssd1677) (wanted two : Bool) (s : Step) (luts : List ℕ) → 0 < d .config .frequency
+    → Short (d .config .frequency) (d .display) → Short (d .config .frequency) (displayShown blackWhite red gates d wanted two s luts .display)
+unfolding displayShown displayBegun displayOf
+shown-short blackWhite red gates d wanted two s luts ticks h = by (wanted && s .run .«waveform_found») (s .run .clock) (s .run .analog)
   where
     by : (a b c : Bool)
-        → pick a
+        → Short (d .config .frequency)
+        (pick a
         (pick b
         (pick c (displayBegun blackWhite red gates d two s luts) (unchanged (d .display) luts (noted (d .now) (WithoutAnalog stage.Display) s)))
         (unchanged (d .display) luts (noted (d .now) (WithoutClock stage.Display) s)))
-        (unchanged (d .display) luts s) .display .ends
-        ≤ largest 64
-    by true true true = omega arith
+        (unchanged (d .display) luts s) .display)
+    by true true true = cut-short (d .config .frequency) ticks (d .now) (s .run .ns) (durationOf (waveformOf (s .run .lut) (d .config .timing .«frame_period»)))
     by true true false = h
     by true false c = h
     by false b c = h
 
-staged-ends : (k : Lent) (s : WithLuts) → s .device .display .ends ≤ largest 64 → staged k s .device .display .ends ≤ largest 64
+staged-short : (k : Lent) (s : WithLuts) → 0 < s .device .config .frequency → Short (s .device .config .frequency) (s .device .display)
+    → Short (s .device .config .frequency) (staged k s .device .display)
 unfolding staged runSettled
-staged-ends k s h =
+staged-short k s ticks h =
     let c = controlOf (s .device .regs .«update_control_2») in
-    shown-ends (k .blackWhite) (k .red) (k .gates) (s .device) (c .display) (c .«mode_two») (before k s c) (s .luts) h
+    shown-short (k .blackWhite) (k .red) (k .gates) (s .device) (c .display) (c .«mode_two») (before k s c) (s .luts) ticks h
 
 -- what ends at once, by what starts
 abbrev byStart : ℕ → Displayed → List Worked
@@ -99,7 +102,8 @@ module _ (k : Lent) (number : Marks) where
       (record {
         swing = h .swing;
         some = h .some;
-        ends = staged-ends k (withLuts (w .device) (w .luts) (w .log)) (h .ends);
+        ticks = h .ticks;
+        short = staged-short k (withLuts (w .device) (w .luts) (w .log)) (h .ticks) (h .short);
         states = h .states;
         within = h .within;
         pixels = h .pixels;

@@ -34,7 +34,7 @@ use Rattle.activation.specs.Display.{Displayed, displayOf, displayBegun, displa
 use Rattle.activation.specs.Activation.{WithLuts, withLuts, runSettled, before, during, staged, stagedIn, activated}
 use Rattle.begin.specs.Begin as begin
 use Rattle.power_on.specs.Start.{noDisplay}
-use Rattle.history.specs.Reckon.{Core, coreOf, deviceOf, bare, Refresh, Refreshing, none, one, shownBy, falls, begins, unreached, instead, all, upTo, reached, cutAt}
+use Rattle.history.specs.Reckon.{Core, coreOf, deviceOf, bare, Refresh, Refreshing, none, one, shownBy, falls, begins, unreached, instead, all, upTo, reached, lasted, cutAt}
 use Rattle.history.proofs.Stages.{unbused}
 use Rattle.history.proofs.Display.{during-plain}
 use Rattle.history.proofs.Begun.{told}
@@ -54,13 +54,13 @@ module _ (luts : List ℕ) (t : ℕ) (d : Display) where
       by true = refl
       by false = refl
 
-  pub cut-is : cutAt t (shownBy d luts)
-      ≡ pick (d .running && (leb (d .started) t && ltb t (d .ends))) (refresh luts d (upTo (t - d .started)) ∷ []) []
+  pub cut-is : (frequency : ℕ) → cutAt frequency t (shownBy d luts)
+      ≡ pick (d .running && (leb (d .started) t && ltb t (d .ends))) (refresh luts d (upTo (lasted frequency (t - d .started))) ∷ []) []
   unfolding cutAt
-  cut-is = by (d .running)
+  cut-is frequency = by (d .running)
     where
-      by : (b : Bool) → cutAt t (pick b (one its) none)
-          ≡ pick (b && (leb (d .started) t && ltb t (d .ends))) (refresh luts d (upTo (t - d .started)) ∷ []) []
+      by : (b : Bool) → cutAt frequency t (pick b (one its) none)
+          ≡ pick (b && (leb (d .started) t && ltb t (d .ends))) (refresh luts d (upTo (lasted frequency (t - d .started))) ∷ []) []
       by true = refl
       by false = refl
 

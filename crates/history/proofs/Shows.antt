@@ -1,6 +1,6 @@
 -- What a call leaves of the glass: each lent state is its pixel's whole number with the refreshes that ended or were cut worked in, and each
 -- pixel shows the grey of it. Here the end of one refresh, the clock's move and the reset line. Assumes nothing.
-use Prim.Native.Nat.{ℕ, _≤_, _<_, _+_, max, min}
+use Prim.Native.Nat.{ℕ, _≤_, _<_, _+_, _-_, max, min}
 use mathlib.Core.Path.{_≡_, refl, ap, _∙_}
 use mathlib.Core.Bool.{Bool, true, false, _&&_}
 use mathlib.Core.List.{List, [], _∷_, _++_}
@@ -24,7 +24,7 @@ use Rattle.panel_laws.proofs.Exactly.{byLut, CutBelowLargest, exactAfter, exact
 use Rattle.device.specs.declared.Ssd1677.{Ssd1677}
 use Rattle.world.specs.World.{WithGlass}
 use Rattle.clock.specs.Advance.{isOver, clocked, quieted, glassPublished, endingOf, glassOf, ended, advanced}
-use Rattle.history.specs.Reckon.{Part, all, upTo, Worked, swingS, drivesBy, numberAfter, numberOver}
+use Rattle.history.specs.Reckon.{Part, all, upTo, lasted, Worked, swingS, drivesBy, numberAfter, numberOver}
 use Rattle.history.proofs.Blind.{Seen, seenGlass}
 
 -- a whole number for each pixel, and how many refreshes have been worked in
@@ -32,11 +32,16 @@ pub record Marks : Type 0 where
   pub of : ℕ → ℕ
   pub count : ℕ
 
+-- cycles from the start of driving to before the end last at most 2^64 − 2 nanoseconds
+abbrev pub Short : ℕ → Display → Type 0
+Short frequency d = (cycles : ℕ) → cycles < d .ends - d .started → lasted frequency cycles < largest 64
+
 -- each lent state is its pixel's whole number, from 0 to S, each pixel shows it, and the image's generation is the count, stopping at 2^64 − 1
 pub record Shows (s : Seen) (number : Marks) : Type 0 where
   pub swing : s .panel .swing ≡ pos (swingS (s .config))
   pub some : 1 ≤ swingS (s .config)
-  pub ends : s .display .ends ≤ largest 64
+  pub ticks : 0 < s .config .frequency
+  pub short : Short (s .config .frequency) (s .display)
   pub states : (i : ℕ) → i < length (s .states) → getD (s .states) i (pos 0) ≡ pos (number .of i)
   pub within : (i : ℕ) → i < length (s .states) → number .of i ≤ swingS (s .config)
   pub pixels : (i : ℕ) → i < length (s .states) → getD (s .pixels) i 0 ≡ grayZ (pos (number .of i)) (pos (swingS (s .config)))
@@ -112,7 +117,8 @@ module _ (luts : List ℕ) (g : WithGlass) (at : ℕ) (part : Part) (number : Ma
       record {
         swing = h .swing;
         some = h .some;
-        ends = h .ends;
+        ticks = h .ticks;
+        short = h .short;
         states = λ i l. state-is i (long i l);
         within = λ i l. number-le i (long i l);
         pixels = λ i l.

@@ -15,7 +15,7 @@ use Rattle.config.specs.declared.Ssd1677Config.{Ssd1677Config}
 use Rattle.config.specs.Answer.{isAccepted}
 use Rattle.panel.specs.Start as panel
 use Rattle.power_on.specs.Start.{Buffers, Powered, lengthsIn, poweredOn, filled, poweredUp, started, worldOf}
-use Rattle.power_on.proofs.Accepted.{full-swing, lengths, passed, left-is}
+use Rattle.power_on.proofs.Accepted.{full-swing, some-cycles, lengths, passed, left-is}
 use Rattle.power_on_laws.proofs.First.{swing-is}
 use Rattle.history.specs.Reckon.{none, shownBy, swingS, firstNumber}
 use Rattle.history.proofs.Shows.{Marks, Shows}
@@ -50,7 +50,8 @@ module _ (c : Ssd1677Config) (otp : List ℕ) (b : Buffers) (ok : isAccepted (st
         record {
           swing = swing-is (c .optics .«full_swing»);
           some = omega (arith, some);
-          ends = omega arith;
+          ticks = some-cycles c otp (lengthsIn b) (passed c otp b ok);
+          short = λ cycles l. absurd (omega arith);
           states = λ i l. getD-tab (length (b .states)) (λ _. panel.firstState (c .optics)) i (pos 0) (in-states i l) ∙ first-is c;
           within = λ i l. level-le (swingS c) (c .optics .«initial_gray») byte;
           pixels = λ i l.

@@ -195,5 +195,5 @@ shows-taken otp w number h (write-command time command) = commands otp w number 
 shows-taken otp w number h (write-data time byte) = writes otp w number h time byte
 shows-taken otp w number h (read-data time) = reads otp w number h time
 shows-taken otp w number h (set-ambient register) =
-    record { swing = h .swing; some = h .some; ends = h .ends; states = h .states; within = h .within; pixels = h .pixels; generation = h .generation }
+    record { swing = h .swing; some = h .some; ticks = h .ticks; short = h .short; states = h .states; within = h .within; pixels = h .pixels; generation = h .generation }
 shows-taken otp w number h take-diagnostics = h

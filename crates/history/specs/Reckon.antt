@@ -191,16 +191,21 @@ unfoldable pub reached : ℕ → Refreshing → List Worked
 reached t none = []
 reached t (one r) = pick (leb (r .ends) t) (workedOf r all ∷ []) []
 
--- a reset at t from the start of driving on and before the end: what t less that start lets it finish; an earlier one adds nothing
-unfoldable pub cutAt : ℕ → Refreshing → List Worked
-cutAt t none = []
-cutAt t (one r) = pick (leb (r .started) t && ltb t (r .ends)) (workedOf r (upTo (t - r .started)) ∷ []) []
+-- so many cycles of the time base in nanoseconds, rounded down (#101)
+abbrev pub lasted : ℕ → ℕ → ℕ
+lasted frequency cycles = cycles * 1000000000 / frequency
+
+-- a reset at t from the start of driving on and before the end: what t less that start, in nanoseconds, lets it finish; an earlier one adds nothing
+unfoldable pub cutAt : ℕ → ℕ → Refreshing → List Worked
+cutAt frequency t none = []
+cutAt frequency t (one r) = pick (leb (r .started) t && ltb t (r .ends)) (workedOf r (upTo (lasted frequency (t - r .started))) ∷ []) []
 
 -- by call; one call may end two refreshes: 0x20 one before it, and at once the one that it begins, of no frame or at 2^64 − 1
 unfoldable pub worked : List ℕ → Reckoning → Call → List Worked
 worked otp r (advance time) = reached (later r time) (r .underWay)
 worked otp r (set-reset time low) =
-    reached (later r time) (r .underWay) ++ pick (falls low (r .core .bus .power)) (cutAt (later r time) (r .underWay)) []
+    reached (later r time) (r .underWay)
+    ++ pick (falls low (r .core .bus .power)) (cutAt (r .core .config .frequency) (later r time) (r .underWay)) []
 worked otp r (write-command time command) =
     reached (later r time) (r .underWay)
     ++ pick (activates (later r time) command (r .core)) (reached (later r time) (begins otp (coreAfter otp (r .core) (advance time)))) []

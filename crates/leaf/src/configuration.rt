@@ -14,7 +14,7 @@ use glass::Provenance;
 use otp::Entry;
 
 // Bytes of a table at most: what a question holds after the fields and the length.
-const TABLE: usize = question::NUMBERS - 54;
+const TABLE: usize = question::NUMBERS - 55;
 
 fn set(table: &mut [u8; TABLE], at: usize, byte: u8) {
     if at < TABLE {
@@ -167,14 +167,15 @@ fn config(numbers: &[u64]) -> Ssd1677Config {
         external_sensor,
         vci_millivolts: (take::number(numbers, 42) % 4294967296) as u32,
         user_id,
+        frequency: (take::number(numbers, 53) % 4294967296) as u32,
     }
 }
 
-// The bytes of a table from number 54 on.
+// The bytes of a table from number 55 on.
 fn table_of(table: &mut [u8; TABLE], numbers: &[u64]) {
     let mut i: usize = 0;
     while i < TABLE {
-        let byte = take::low(take::after(numbers, 54, i));
+        let byte = take::low(take::after(numbers, 55, i));
         table[i] = byte;
         i += 1;
     }
@@ -200,7 +201,7 @@ fn validate(text: &mut [u8; text::ROOM], at: usize, numbers: &[u64]) -> usize {
     let mut table = [0u8; TABLE];
     table_of(&mut table, numbers);
     let config = config(numbers);
-    let length = take::word(numbers, 53) as usize;
+    let length = take::word(numbers, 54) as usize;
     match validated(&table, length, config) {
         ConfigError::Accepted => refusal(text, at, 0, 0),
         ConfigError::EmptyPanel => refusal(text, at, 1, 0),
@@ -208,6 +209,7 @@ fn validate(text: &mut [u8; text::ROOM], at: usize, numbers: &[u64]) -> usize {
         ConfigError::OddRowsWithGd => refusal(text, at, 3, 0),
         ConfigError::ZeroSwing => refusal(text, at, 4, 0),
         ConfigError::ZeroFramePeriod(code) => refusal(text, at, 5, code),
+        ConfigError::ZeroFrequency => refusal(text, at, 14, 0),
         ConfigError::BadTable => refusal(text, at, 12, 0),
         ConfigError::OtpVoltage(entry) => refusal(text, at, 6, entry),
     }

@@ -51,12 +51,12 @@ rows number value =
     row 8 (within value 1 (Repeat number)) ∷
     row 9 (within value 1 (within number 65536 (Ambient number))) ∷
     row 10 (within number 1 (within value 10000 (Case value))) ∷
-    row 11 (within value 53 (within number (2 ^ bitsOf value) (Field value number))) ∷
+    row 11 (within value 54 (within number (2 ^ bitsOf value) (Field value number))) ∷
     row 12 (within value 10000 (within number 256 (Otp value number))) ∷
     row 13 (within number 1 (within value 1 Start)) ∷
     row 14 (within number 1 (within value 1 TakeDiagnostics)) ∷
     row 15 (within value 8 (within number (longestOf value + 1) (Lent value number))) ∷
-    row 16 (within value 31 (within number (2 ^ stateBitsOf value) (State value number))) ∷
+    row 16 (within value 32 (within number (2 ^ stateBitsOf value) (State value number))) ∷
     row 17 (within number 1 (within value 1 Picture)) ∷
     []
 

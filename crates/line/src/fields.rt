@@ -4,7 +4,7 @@ ghost use Prim.Native.Nat.{_+_, _^_, _<_};
 ghost use Rattle.line.specs.Fields.{bitsOf, stateBitsOf, longestOf};
 
 // The largest number of each field of the configuration.
-const LARGEST: [u64; 53] = [
+const LARGEST: [u64; 54] = [
     65535,
     65535,
     65535,
@@ -58,10 +58,11 @@ const LARGEST: [u64; 53] = [
     255,
     255,
     255,
+    4294967295,
 ];
 
 pub fn largest(field: usize) -> u64
-    requires { ⌜ field < 53 ⌝ }
+    requires { ⌜ field < 54 ⌝ }
     ensures { λ r. ⌜ r + 1 ≡ 2 ^ bitsOf field ⌝ }
 {
     LARGEST[field]
@@ -77,7 +78,10 @@ pub fn largest_of_state(field: usize) -> u64
     if field < 14 {
         return 255;
     }
-    18446744073709551615
+    if field < 31 {
+        return 18446744073709551615;
+    }
+    4294967295
 }
 
 // The longest that a buffer is lent: planes and log by a byte too long, so that this can be refused too.

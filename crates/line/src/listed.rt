@@ -65,9 +65,9 @@ fn case(value: u64) -> Line
 }
 
 fn field(number: u64, value: u64) -> Line
-    ensures { λ r. ⌜ r ≡ within value 53 (within number (2 ^ bitsOf value) (Line.Field value number)) ⌝ }
+    ensures { λ r. ⌜ r ≡ within value 54 (within number (2 ^ bitsOf value) (Line.Field value number)) ⌝ }
 {
-    if value < 53 {
+    if value < 54 {
         let place = value as usize;
         let most = fields::largest(place);
         if number <= most {
@@ -105,9 +105,9 @@ fn lent(length: u64, buffer: u64) -> Line
 }
 
 fn state(number: u64, value: u64) -> Line
-    ensures { λ r. ⌜ r ≡ within value 31 (within number (2 ^ stateBitsOf value) (Line.State value number)) ⌝ }
+    ensures { λ r. ⌜ r ≡ within value 32 (within number (2 ^ stateBitsOf value) (Line.State value number)) ⌝ }
 {
-    if value < 31 {
+    if value < 32 {
         let place = value as usize;
         let most = fields::largest_of_state(place);
         if number <= most {

@@ -21,12 +21,12 @@ pub quiet-or-not : (running : Bool) (ends : ℕ) (until : Deadline) (moment : �
     → (not (running && leb ends moment) && not come) ≡ quietAt running ends until moment
 quiet-or-not running ends until moment come tells = rw tells
 
-module _ (bus : Bus) (moment ns : ℕ) where
-  pub rises : (r : Bus) (until : ℕ) → 0 < ns → until ≡ afterNs moment ns → r ≡ withUntil bus (At until) → r ≡ busyFor bus moment ns
+module _ (bus : Bus) (frequency moment ns : ℕ) where
+  pub rises : (r : Bus) (until : ℕ) → 0 < ns → until ≡ afterNs frequency moment ns → r ≡ withUntil bus (At until) → r ≡ busyFor bus frequency moment ns
   unfolding busyFor
   rises r until h e f = rw (lt-ltb 0 ns h, ← e) f
 
-  pub rises-not : ns ≤ 0 → bus ≡ busyFor bus moment ns
+  pub rises-not : ns ≤ 0 → bus ≡ busyFor bus frequency moment ns
   unfolding busyFor
   rises-not h = rw (le-ltb 0 ns h)
 

@@ -1,4 +1,5 @@
-// Moments, and when BUSY rises and falls (mod.rs, `after`, `ns_between`, `busy_for`, `advance`).
+// Moments, and when BUSY rises and falls (mod.rs, `after`, `ns_between`, `busy_for`, `advance`). A moment is a number of cycles of the
+// configuration's time base, and a span a number of nanoseconds.
 ghost use mathlib.Core.Path.{_≡_};
 ghost use Rattle.moment.specs.Moments.{afterNs, nsBetween, hasCome, lowered, quietAt, busyFor};
 use device::Bus;
@@ -6,17 +7,17 @@ use device::Deadline;
 use device::part;
 
 // `ns` nanoseconds after a moment.
-pub fn after(moment: u64, ns: u64) -> u64
-    ensures { λ r. ⌜ r ≡ afterNs moment ns ⌝ }
+pub fn after(frequency: u32, moment: u64, ns: u64) -> u64
+    ensures { λ r. ⌜ r ≡ afterNs frequency moment ns ⌝ }
 {
-    numbers::saturating_add_u64(moment, ns)
+    numbers::saturating_add_u64(moment, frequency::nanos_to_cycles(frequency, ns))
 }
 
 // Nanoseconds from one moment to another, 0 when that is earlier.
-pub fn ns_between(from: u64, to: u64) -> u64
-    ensures { λ r. ⌜ r ≡ nsBetween from to ⌝ }
+pub fn ns_between(frequency: u32, from: u64, to: u64) -> u64
+    ensures { λ r. ⌜ r ≡ nsBetween frequency from to ⌝ }
 {
-    numbers::saturating_sub_u64(to, from)
+    frequency::cycles_to_nanos(frequency, numbers::saturating_sub_u64(to, from))
 }
 
 // Whether the end of BUSY has come; there may be none.
@@ -50,11 +51,11 @@ pub fn is_quiet(running: bool, ends: u64, busy_until: Deadline, moment: u64) -> 
 }
 
 // BUSY high for `ns` nanoseconds from a moment on; nothing for 0.
-pub fn busy_for(bus: Bus, moment: u64, ns: u64) -> Bus
-    ensures { λ r. ⌜ r ≡ busyFor bus moment ns ⌝ }
+pub fn busy_for(bus: Bus, frequency: u32, moment: u64, ns: u64) -> Bus
+    ensures { λ r. ⌜ r ≡ busyFor bus frequency moment ns ⌝ }
 {
     if 0 < ns {
-        let until = after(moment, ns);
+        let until = after(frequency, moment, ns);
         return part::set_until(bus, Deadline::At(until));
     }
     bus

@@ -74,6 +74,6 @@ unlistedEntry otp = lowest (unlistedVoltage otp) (entryCount otp)
 abbrev pub voltagesTest : List ℕ → Test
 voltagesTest otp = record { number = 6; value = unlistedEntry otp; refuses = ltb (unlistedEntry otp) (entryCount otp) }
 
--- at start: 1, 2, 3, 4, 5, 12, 6
+-- at start: 1, 2, 3, 4, 5, 14, 12, 6
 abbrev pub startTests : Ssd1677Config → List ℕ → List Test
 startTests config otp = configTests config ++ tableTest otp ∷ voltagesTest otp ∷ []

@@ -12,7 +12,7 @@ pub const UNDRIVEN: u8 = 255;
 pub struct Display {
     // After an end, a cut or a drop this falls and the rest stays.
     pub running: bool,
-    // When driving starts, and when it ends.
+    // When driving starts, and when it ends, in cycles of the time base.
     pub started: u64,
     pub ends: u64,
     pub kind: RefreshKind,

@@ -1,5 +1,5 @@
 -- What an accepted start has found, and what it leaves. Assumes nothing.
-use Prim.Native.Nat.{ℕ, _≤_}
+use Prim.Native.Nat.{ℕ, _≤_, _<_}
 use mathlib.Core.Path.{_≡_, sym, ap, _∙_}
 use mathlib.Core.Bool.{true}
 use mathlib.Core.List.{List, [], _∷_}
@@ -11,8 +11,8 @@ use Rattle.otp.specs.Table.{startTests}
 use Rattle.gates_laws.specs.OneToOne.{Scanned}
 use Rattle.guard_lengths.specs.declared.Lengths.{Lengths}
 use Rattle.guard_lengths.specs.Lengths.{lengthsFit}
-use Rattle.guard_laws.proofs.Accepted.{none-refuses, FinePanel, fine-panel, FineLengths, fine-lengths}
-use Rattle.guard_laws.proofs.Started.{both, started-panel, started-swing}
+use Rattle.guard_laws.proofs.Accepted.{none-refuses, FinePanel, fine-panel, FineLengths, fine-lengths, some-ticks}
+use Rattle.guard_laws.proofs.Started.{both, started-panel, started-swing, started-frequency}
 use Rattle.power_on.specs.Start.{Buffers, lengthsIn, bufferTest, allTests, poweredUp, started}
 
 -- ---- every test is passed
@@ -25,6 +25,9 @@ module _ (c : Ssd1677Config) (otp : List ℕ) (l : Lengths) (passes : isAccepted
 
   pub full-swing : 1 ≤ c .optics .«full_swing»
   full-swing = started-swing c otp parameters
+
+  pub some-cycles : 0 < c .frequency
+  some-cycles = some-ticks (c .frequency) (started-frequency c otp parameters)
 
   pub scanned : Scanned (c .panel .«native_scan») (c .panel .height)
   scanned =

@@ -1,4 +1,4 @@
--- The start (mod.rs, `new`): refused with 1, 2, 3, 4, 5, 12, 6, 11 in this order, or the chip at power-on.
+-- The start (mod.rs, `new`): refused with 1, 2, 3, 4, 5, 14, 12, 6, 11 in this order, or the chip at power-on.
 use Prim.Native.Nat.{ℕ}
 use mathlib.Core.Bool.{Bool, true, false, not}
 use mathlib.Core.List.{List, [], _∷_, _++_}
@@ -51,7 +51,7 @@ lengthsIn b =
 abbrev pub bufferTest : PanelGeometry → Lengths → Test
 bufferTest p l = record { number = 11; value = 0; refuses = not (lengthsFit p l) }
 
--- 1 to 5, 12, 6, 11 (SCOPE, Refusals)
+-- 1 to 5, 14, 12, 6, 11 (SCOPE, Refusals)
 abbrev pub allTests : Ssd1677Config → List ℕ → Lengths → List Test
 allTests c otp l = startTests c otp ++ bufferTest (c .panel) l ∷ []
 
@@ -157,6 +157,6 @@ start a p = record { answer = a; left = p }
 abbrev pub startBy : Ssd1677Config → Buffers → Answer → Start
 startBy c b a = start a (pick (isAccepted a) (poweredUp c b) (powered (unstarted c) b))
 
--- new: the first test that refuses decides (SCOPE, Refusals: 1 to 5, 12, 6, 11)
+-- new: the first test that refuses decides (SCOPE, Refusals: 1 to 5, 14, 12, 6, 11)
 unfoldable pub started : Ssd1677Config → List ℕ → Buffers → Start
 started c otp b = startBy c b (firstOf (allTests c otp (lengthsIn b)))

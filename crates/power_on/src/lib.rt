@@ -22,7 +22,7 @@ use panel::Panel;
 
 // Why a start was refused.
 pub enum StartError {
-    // 1 to 6 and 12, or `Accepted` for none.
+    // 1 to 6, 12 and 14, or `Accepted` for none.
     Parameters(ConfigError),
     // 11: a buffer's length.
     Buffer,
@@ -68,6 +68,10 @@ fn number_of_parameters(error: ConfigError) -> StartRefusal
         ConfigError::ZeroFramePeriod(code) => StartRefusal {
             number: 5,
             value: code,
+        },
+        ConfigError::ZeroFrequency => StartRefusal {
+            number: 14,
+            value: 0,
         },
         ConfigError::BadTable => StartRefusal {
             number: 12,

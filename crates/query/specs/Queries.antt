@@ -48,6 +48,7 @@ withAmbient c register =
       «external_sensor» = c .«external_sensor»;
       «vci_millivolts» = c .«vci_millivolts»;
       «user_id» = c .«user_id»;
+      frequency = c .frequency;
     }
 
 -- set_ambient

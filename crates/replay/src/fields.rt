@@ -1,4 +1,5 @@
 // The configuration of docs/replay-format.md's fields.
+use crate::run;
 use config::ExternalSensor;
 use config::GateScan;
 use config::PanelGeometry;
@@ -6,6 +7,18 @@ use config::Ssd1677Config;
 use config::Ssd1677Timing;
 use glass::Optics;
 use glass::Provenance;
+
+// The field of the frequency, and what it is before a line sets it: a cycle a nanosecond, as before there was such a field (#101).
+const FREQUENCY: usize = 53;
+
+const GIGAHERTZ: u64 = 1_000_000_000;
+
+// The fields of a new case.
+pub fn new() -> [u64; run::FIELDS] {
+    let mut fields = [0u64; run::FIELDS];
+    fields[FREQUENCY] = GIGAHERTZ;
+    fields
+}
 
 fn number(fields: &[u64], i: usize) -> u64 {
     if i < fields.len() { fields[i] } else { 0 }
@@ -21,6 +34,10 @@ fn byte(fields: &[u64], i: usize) -> u8 {
 
 fn word(fields: &[u64], i: usize) -> u16 {
     (number(fields, i) % 65536) as u16
+}
+
+fn double_word(fields: &[u64], i: usize) -> u32 {
+    (number(fields, i) % 4294967296) as u32
 }
 
 fn provenance(fields: &[u64], i: usize) -> Provenance {
@@ -116,7 +133,8 @@ pub fn config(fields: &[u64]) -> Ssd1677Config {
         busy_active_high: truth(fields, 38),
         ambient: word(fields, 39),
         external_sensor,
-        vci_millivolts: (number(fields, 42) % 4294967296) as u32,
+        vci_millivolts: double_word(fields, 42),
         user_id,
+        frequency: double_word(fields, FREQUENCY),
     }
 }

@@ -61,6 +61,12 @@ fn with_period(config: Ssd1677Config, field: usize, n: u64) -> Ssd1677Config {
     next
 }
 
+fn with_frequency(config: Ssd1677Config, n: u64) -> Ssd1677Config {
+    let mut next = config;
+    next.frequency = (n % 4294967296) as u32;
+    next
+}
+
 fn registers(regs: Registers, field: usize, n: u64) -> Registers {
     let mut next = regs;
     let address = word(n);
@@ -112,6 +118,7 @@ pub fn with(state: Ssd1677, field: usize, n: u64) -> Ssd1677 {
             part::set_glass(state, panel, state.display)
         }
         3..=12 => part::set_regs(state, registers(state.regs, field, n)),
+        31 => part::set_config(state, with_frequency(state.config, n)),
         _ => part::set_config(state, with_period(state.config, field, n)),
     }
 }

@@ -179,7 +179,7 @@ fn main() {
     let mut log = [0u8; run::LOG];
     let mut otp = [0u8; run::OTP];
     let mut table = [0u8; run::OTP];
-    let mut fields = [0u64; run::FIELDS];
+    let mut fields = fields::new();
     let mut text = [0u8; text::ROOM];
     all(
         &mut states,

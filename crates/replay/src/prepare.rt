@@ -1,4 +1,5 @@
 // The lines that need no device.
+use crate::fields;
 use crate::run;
 use crate::run::Progress;
 use crate::say;
@@ -42,15 +43,7 @@ fn clear_otp(otp: &mut [u8; run::OTP]) {
     }
 }
 
-fn clear_fields(fields: &mut [u64; run::FIELDS]) {
-    let mut i: usize = 0;
-    while i < run::FIELDS {
-        fields[i] = 0;
-        i += 1;
-    }
-}
-
-// A new case: configuration all 0, OTP empty, buffers as long as panels ask, nothing started.
+// A new case: configuration all 0 but for the frequency, OTP empty, buffers as long as panels ask, nothing started.
 fn case(
     progress: Progress,
     otp: &mut [u8; run::OTP],
@@ -59,7 +52,7 @@ fn case(
     value: u16,
 ) -> Progress {
     clear_otp(otp);
-    clear_fields(fields);
+    *fields = fields::new();
     let mut next = progress;
     next.otp = 0;
     next.lent = [run::RIGHT; run::BUFFERS];

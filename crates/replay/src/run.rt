@@ -15,7 +15,7 @@ pub const LOG: usize = 16385;
 // Places that a line can name.
 pub const OTP: usize = 10000;
 
-pub const FIELDS: usize = 53;
+pub const FIELDS: usize = 54;
 
 // Buffers that a line can name: the seven of the device and the table.
 pub const BUFFERS: usize = 8;

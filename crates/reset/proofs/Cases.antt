@@ -35,7 +35,7 @@ unfolding restored
 restores d r g e f = rw (f, e)
 
 pub shortens : (luts : List ℕ) (g : WithGlass) (into : ℕ) (after : Glass) (off : Display) (r : Ssd1677)
-    → into ≡ nsBetween (g .device .display .started) (g .device .now)
+    → into ≡ nsBetween (g .device .config .frequency) (g .device .display .started) (g .device .now)
     → after ≡ finished (endingOf (g .device) (g .device .now) (Cut into)) luts (glassOf g)
     → off ≡ stopped (g .device .display) → r ≡ part.withPanelAndDisplay (g .device) (after .panel) off
     → withGlass r (after .states) (after .pixels) ≡ displayCut luts g
@@ -60,7 +60,7 @@ module _ (luts : List ℕ) (w : WithGlassLog) where
   asserts k b d r e₁ e₂ e₃ e₄ = rw (e₄, e₃, e₂, e₁)
 
 pub releases : (d r : Ssd1677) (b : Bus)
-    → b ≡ busyFor (record { power = Running; current = Idle; «busy_until» = d .bus .«busy_until» }) (d .now) (d .config .timing .«hardware_reset»)
+    → b ≡ busyFor (record { power = Running; current = Idle; «busy_until» = d .bus .«busy_until» }) (d .config .frequency) (d .now) (d .config .timing .«hardware_reset»)
     → r ≡ withBus d b → r ≡ released d
 unfolding released
 releases d r b e f = rw (f, e)

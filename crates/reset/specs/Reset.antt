@@ -28,11 +28,11 @@ restored d = withPowers d (resetOf (d .config .«user_id»)) false false (record
 abbrev pub isDriving : Ssd1677 → Bool
 isDriving d = d .display .running && leb (d .display .started) (d .now)
 
--- the display is finished up to the cut, which is the clock less the start of driving, and dated the clock
+-- the display is finished up to the cut, the nanoseconds from the start of driving to the clock, and dated the clock
 unfoldable pub displayCut : List ℕ → WithGlass → WithGlass
 displayCut luts g =
     let d = g .device in
-    glassPublished g (finished (endingOf d (d .now) (Cut (nsBetween (d .display .started) (d .now)))) luts (glassOf g))
+    glassPublished g (finished (endingOf d (d .now) (Cut (nsBetween (d .config .frequency) (d .display .started) (d .now)))) luts (glassOf g))
 
 -- the display is stopped, and the glass stays as it is
 abbrev pub displayDropped : Ssd1677 → Ssd1677
@@ -53,7 +53,8 @@ asserted luts w = on deviceInGlassLog inReset (on deviceInGlassLog restored (cut
 -- RES# rises: the chip runs, no command has come yet, and BUSY is high for the time of a hardware reset
 unfoldable pub released : Ssd1677 → Ssd1677
 released d =
-    withBus d (busyFor (record { power = Running; current = Idle; «busy_until» = d .bus .«busy_until» }) (d .now) (d .config .timing .«hardware_reset»))
+    withBus d
+    (busyFor (record { power = Running; current = Idle; «busy_until» = d .bus .«busy_until» }) (d .config .frequency) (d .now) (d .config .timing .«hardware_reset»))
 
 -- the line put low, or high, by the supply and reset state (mod.rs, `set_reset`)
 unfoldable pub byLine : List ℕ → Bool → WithGlassLog → Power → WithGlassLog

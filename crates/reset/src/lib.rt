@@ -39,7 +39,7 @@ fn finish_cut(state: Ssd1677, states: &mut [i64], luts: &[u8], pixels: &mut [u8]
     let timing = config.timing;
     let periods = timing.frame_period;
     let panel = state.panel;
-    let into = moment::ns_between(display.started, state.now);
+    let into = moment::ns_between(config.frequency, display.started, state.now);
     let finished = finish::finish(
         panel,
         display,
@@ -118,7 +118,7 @@ fn release_reset(state: Ssd1677) -> Ssd1677
         current: Current::Idle,
         busy_until,
     };
-    let bus = moment::busy_for(running, state.now, timing.hardware_reset);
+    let bus = moment::busy_for(running, config.frequency, state.now, timing.hardware_reset);
     part::set_bus(state, bus)
 }
 

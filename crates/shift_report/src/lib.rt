@@ -64,6 +64,7 @@ fn number_of(error: ConfigError) -> u64
         ConfigError::ZeroFramePeriod(_) => 5,
         ConfigError::OtpVoltage(_) => 6,
         ConfigError::BadTable => 12,
+        ConfigError::ZeroFrequency => 14,
     }
 }
 

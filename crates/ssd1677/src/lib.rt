@@ -1,5 +1,5 @@
 // An SSD1677 as an interpreter of command and data bytes with the glass it drives (mod.rs): a state goes in by value and comes out by
-// value, the buffers are lent. Time is the host's, an instant in nanoseconds with every call; the chip never reads a clock. What the
+// value, the buffers are lent. Time is the host's, an instant in cycles of the configuration's time base with every call; the chip never reads a clock. What the
 // host must hand over is tested first (SCOPE, Refusals): a refused call hands back the state as given and alters no
 // byte of any buffer.
 pub use command::is_read_command;

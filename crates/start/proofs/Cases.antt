@@ -16,7 +16,7 @@ use Rattle.chip.specs.Report.{logged}
 use Rattle.reset.specs.Reset.{restored}
 use Rattle.start.specs.Start.{softReset, isPowered, unpowered, vcomSensed, pointed}
 
-pub resets : (d a r : Ssd1677) (b : Bus) → a ≡ restored d → b ≡ busyFor (a .bus) (a .now) (a .config .timing .«soft_reset»)
+pub resets : (d a r : Ssd1677) (b : Bus) → a ≡ restored d → b ≡ busyFor (a .bus) (a .config .frequency) (a .now) (a .config .timing .«soft_reset»)
     → r ≡ withBus a b → r ≡ softReset d
 unfolding softReset
 resets d a r b p q s = rw (s, q, p)
@@ -36,7 +36,7 @@ module _ (stage : Stage) (k : WithLog) where
 
 module _ (k : WithLog) (b : Bool) where
   pub senses : (low : ℕ) (bus : Bus) (r : Ssd1677) → low ≡ k .device .regs .«vcom_sense» % 16 → b ≡ isPowered (k .device) → b ≡ true
-      → bus ≡ busyFor (k .device .bus) (k .device .now) ((low + 1) * 1000000000) → r ≡ withBus (k .device) bus → withLog r (k .log) ≡ vcomSensed k
+      → bus ≡ busyFor (k .device .bus) (k .device .config .frequency) (k .device .now) ((low + 1) * 1000000000) → r ≡ withBus (k .device) bus → withLog r (k .log) ≡ vcomSensed k
   unfolding vcomSensed
   senses low bus r v e h f g = rw (← e, h, g, f, v)
 

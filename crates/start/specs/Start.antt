@@ -16,7 +16,7 @@ use Rattle.reset.specs.Reset.{restored}
 
 -- BUSY high for a span from the clock on
 abbrev pub withBusyFor : Ssd1677 → ℕ → Ssd1677
-withBusyFor d ns = withBus d (busyFor (d .bus) (d .now) ns)
+withBusyFor d ns = withBus d (busyFor (d .bus) (d .config .frequency) (d .now) ns)
 
 -- 0x12: the registers restored, and BUSY high for the time of a SW reset
 unfoldable pub softReset : Ssd1677 → Ssd1677

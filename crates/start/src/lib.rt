@@ -19,7 +19,12 @@ pub fn soft_reset(state: Ssd1677) -> Ssd1677
     let restored = reset::restore_registers(state);
     let config = restored.config;
     let timing = config.timing;
-    let bus = moment::busy_for(restored.bus, restored.now, timing.soft_reset);
+    let bus = moment::busy_for(
+        restored.bus,
+        config.frequency,
+        restored.now,
+        timing.soft_reset,
+    );
     part::set_bus(restored, bus)
 }
 
@@ -50,10 +55,11 @@ pub fn sense_vcom(state: Ssd1677, log: &mut [u8]) -> Ssd1677
     ensures { λ r. ⌜ withLog r (now (log .exit)) ≡ vcomSensed (withLog state (now (log .entry))) ⌝ }
 {
     if powered(state) {
+        let config = state.config;
         let regs = state.regs;
         let low = low_nibble(regs.vcom_sense);
         let seconds = low as u64 + 1;
-        let bus = moment::busy_for(state.bus, state.now, seconds * SECOND);
+        let bus = moment::busy_for(state.bus, config.frequency, state.now, seconds * SECOND);
         return part::set_bus(state, bus);
     }
     report_unpowered(state, log, Stage::VcomSense)

@@ -30,7 +30,7 @@ use Rattle.data_laws.proofs.Kept.{written-length}
 use Rattle.guard_lengths.specs.declared.Lengths.{Lengths}
 use Rattle.guard_lengths.specs.Lengths.{lengthsFit, planesLogLent}
 use Rattle.guard_kinds.specs.Kinds.{currentFine}
-use Rattle.guard_state.specs.State.{panelFine, swingFine, periodsFine, registersFine, countFine, stateFine}
+use Rattle.guard_state.specs.State.{panelFine, swingFine, periodsFine, registersFine, countFine, frequencyFine, stateFine}
 use Rattle.guard_laws.proofs.Joined.{each}
 use Rattle.guard_laws.proofs.Accepted.{fine-registers, accepted-state, accepted-lengths}
 use Rattle.guard_laws.proofs.Kept.{registers-pass, state-passes}
@@ -63,6 +63,7 @@ module _ (d : Ssd1677) (a : Active) (is : d .bus .current ≡ current.Active a) 
       ∷ registersFine (d .regs)
       ∷ countFine (d .journal .count)
       ∷ currentFine (d .bus .current)
+      ∷ frequencyFine (d .config .frequency)
       ∷ [])
       k true
       ≡ true
@@ -70,7 +71,7 @@ module _ (d : Ssd1677) (a : Active) (is : d .bus .current ≡ current.Active a) 
   passed =
       each (panelFine (d .config .panel))
       (swingFine (d .panel .swing) ∷ periodsFine (d .config .timing .«frame_period») ∷ registersFine (d .regs) ∷ countFine (d .journal .count)
-      ∷ currentFine (d .bus .current) ∷ [])
+      ∷ currentFine (d .bus .current) ∷ frequencyFine (d .config .frequency) ∷ [])
       fine
 
   registers : Bounded (d .regs)
@@ -97,7 +98,7 @@ module _ (d : Ssd1677) (a : Active) (is : d .bus .current ≡ current.Active a) 
         counter-ten = t;
         temperature-twelve = registers .temperature-twelve;
       }))
-      (passed 4) (still-current (s .received))
+      (passed 4) (still-current (s .received)) (passed 6)
 
 accepted : (d : Ssd1677) (l : Lengths) → stateFine d ≡ true → lengthsFit (d .config .panel) l ≡ true → guarded d l ≡ Accepted
 unfolding guarded

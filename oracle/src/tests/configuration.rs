@@ -1,12 +1,16 @@
 //! The configuration fields of docs/replay-format.md, the lent OTP table, and a start with them.
 
+use emu_core::Frequency;
+
 use crate::lines::ONE_GIGAHERTZ;
 use crate::ssd1677::{
     ConfigError, DisplayMode, GateScan, LUT_BYTES, Optics, OtpWaveform, PanelGeometry, Provenance,
     Ssd1677, Ssd1677Config, Ssd1677Timing, Temperature,
 };
 
-pub(super) const FIELDS: usize = 53;
+pub(super) const FIELDS: usize = 54;
+/// The field of the time base, in cycles a second (#101).
+pub(super) const FREQUENCY: usize = 53;
 /// Mode, provenance, two bounds of two bytes each, then the setting.
 pub(super) const ENTRY_BYTES: usize = 6 + LUT_BYTES;
 /// The entries that the port's lent table may hold.
@@ -17,7 +21,7 @@ pub(super) fn largest(field: usize) -> u64 {
     match field {
         3..=7 | 9 | 11 | 38 | 40 => 1,
         0..=2 | 39 | 41 => u64::from(u16::MAX),
-        42 => u64::from(u32::MAX),
+        42 | FREQUENCY => u64::from(u32::MAX),
         10 | 43..=52 => u64::from(u8::MAX),
         _ => u64::MAX,
     }
@@ -48,10 +52,12 @@ pub(super) struct Configuration {
 }
 
 impl Configuration {
-    /// All 0, the OTP empty.
+    /// All 0 but for the time base, where a cycle is a nanosecond; the OTP empty.
     pub(super) fn new() -> Configuration {
+        let mut fields = [0; FIELDS];
+        fields[FREQUENCY] = ONE_GIGAHERTZ.0.into();
         Configuration {
-            fields: [0; FIELDS],
+            fields,
             otp: Vec::new(),
         }
     }
@@ -70,6 +76,10 @@ impl Configuration {
 
     fn byte(&self, field: usize) -> u8 {
         u8::try_from(self.fields[field]).expect("an 8-bit field")
+    }
+
+    fn double_word(&self, field: usize) -> u32 {
+        u32::try_from(self.fields[field]).expect("a 32-bit field")
     }
 
     fn truth(&self, field: usize) -> bool {
@@ -135,16 +145,24 @@ impl Configuration {
             external_sensor: self
                 .truth(40)
                 .then(|| Temperature::from_register(self.word(41))),
-            vci_millivolts: u32::try_from(self.fields[42]).expect("a 32-bit field"),
+            vci_millivolts: self.double_word(42),
             user_id: std::array::from_fn(|place| self.byte(43 + place)),
         }
     }
 
-    /// The reference's configuration, or what the port refuses it with: 1 to 5, 12, 6 in this
-    /// order. The reference has no 12; it tests 1 to 6, so without a waveform it tests 1 to 5.
+    pub(super) fn time_base(&self) -> Frequency {
+        Frequency(self.double_word(FREQUENCY))
+    }
+
+    /// The reference's configuration, or what the port refuses it with: 1 to 5, 14, 12, 6 in this
+    /// order. The reference has no 14 and no 12; it tests 1 to 6, so without a waveform it tests
+    /// 1 to 5.
     pub(super) fn validated(&self) -> Result<Ssd1677Config, Refusal> {
         let without_otp = self.reference(Vec::new());
         without_otp.validate()?;
+        if self.time_base() == Frequency(0) {
+            return Err(Refusal(14, 0));
+        }
         let config = self.reference(waveforms(&self.otp).ok_or(Refusal(12, 0))?);
         config.validate()?;
         Ok(config)
@@ -152,7 +170,7 @@ impl Configuration {
 
     pub(super) fn start(&self) -> Result<Ssd1677, Refusal> {
         let config = self.validated()?;
-        Ok(Ssd1677::new(config, ONE_GIGAHERTZ)?)
+        Ok(Ssd1677::new(config, self.time_base())?)
     }
 }
 

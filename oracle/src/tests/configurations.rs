@@ -1,6 +1,6 @@
 //! Configurations for the generators: panels, timings and OTP tables.
 
-use super::configuration::{Configuration, ENTRY_BYTES, MAX_ENTRIES, largest};
+use super::configuration::{Configuration, ENTRY_BYTES, FREQUENCY, MAX_ENTRIES, largest};
 use super::random::Random;
 use super::settings::{self, PERIOD, SWING, Setting};
 use crate::ssd1677::reference::gdeq0426t82_otp;
@@ -129,7 +129,7 @@ fn vary(configuration: &mut Configuration, random: &mut Random) {
         3300,
         u64::from(u32::MAX),
     ]);
-    for id in &mut fields[43..53] {
+    for id in &mut fields[43..FREQUENCY] {
         *id = random.byte().into();
     }
     if random.one_in(4) {
@@ -203,11 +203,11 @@ fn spoil(configuration: &mut Configuration, random: &mut Random) {
     }
 }
 
-/// Numbers of any size in every field, for the conditions of a start alone.
+/// Numbers of any size in every field but the frequency, for the conditions of a start alone.
 pub(super) fn any(random: &mut Random) -> Configuration {
     let mut configuration = small(random);
     for _ in 0..random.between(1, 8) {
-        let field = random.below(53) as usize;
+        let field = random.below(FREQUENCY as u64) as usize;
         configuration.fields[field] = random.any_size() & largest(field);
     }
     configuration

@@ -9,6 +9,7 @@ mod memory;
 mod script;
 mod seldom;
 mod starts;
+mod ticks;
 
 use std::io::{self, Write};
 
@@ -42,10 +43,11 @@ const FAMILIES: [Family; 19] = [
 ];
 
 /// Those that are long, or look at what the others come to seldom; written only by name.
-const BY_NAME: [Family; 3] = [
+const BY_NAME: [Family; 4] = [
     ("pairs", exhaustive::pairs),
     ("values", exhaustive::values),
     ("seldom", seldom::run),
+    ("ticks", ticks::run),
 ];
 
 /// Writes `count` sequences, the families in turn, or those of one family alone. Each begins with a

@@ -84,6 +84,7 @@ pub(super) fn largest_of_state(field: u16) -> Option<u64> {
         0..=11 => Some(u64::from(u16::MAX)),
         12 | 13 => Some(u64::from(u8::MAX)),
         14..=30 => Some(u64::MAX),
+        31 => Some(u64::from(u32::MAX)),
         _ => None,
     }
 }

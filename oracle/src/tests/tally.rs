@@ -110,12 +110,22 @@ fn cut(tally: &mut Tally, bench: &Bench, before: &Before) {
     let at = image.at.get() - image.started.get();
     let periods = &bench.device.config.timing.frame_period;
     // The edge at 0 ends no frame.
-    let edges = settings::frame_ends(&before.setting, periods, 1 << 17).split_off(1);
+    let edges: Vec<u64> = settings::frame_ends(&before.setting, periods, 1 << 17)
+        .into_iter()
+        .skip(1)
+        .map(|edge| bench.device.time_base.nanos_to_cycles(edge.into()).get())
+        .collect();
     let ends_at = |moment: Option<u64>| moment.is_some_and(|m| edges.binary_search(&m).is_ok());
     tally.one("cut at the start of driving", at == 0);
     tally.one("cut at a frame's edge", ends_at(Some(at)));
-    tally.one("cut 1 ns before a frame's edge", ends_at(at.checked_add(1)));
-    tally.one("cut 1 ns after a frame's edge", ends_at(at.checked_sub(1)));
+    tally.one(
+        "cut 1 cycle before a frame's edge",
+        ends_at(at.checked_add(1)),
+    );
+    tally.one(
+        "cut 1 cycle after a frame's edge",
+        ends_at(at.checked_sub(1)),
+    );
 }
 
 fn scan(order: GateScan) -> String {

@@ -17,7 +17,7 @@ kind-of-requires : tie.Need-kind-of-requires
 kind-of-requires c κs = search needs
 
 returns : tie.Need-returns
-returns c = displays _ _ _ _ _ _ _ _ _ _ (c .before .before .before .after .ensures) (c .before .before .saturating-add-u64 .ensures) (c .before .after2 .ensures) (c .kind-of .ensures)
+returns c = displays _ _ _ _ _ _ _ _ _ _ _ (c .before .before .before .after .ensures) (c .before .before .saturating-add-u64 .ensures) (c .before .after2 .ensures) (c .kind-of .ensures)
 
 pub display-of-spec : {M : Type 1} → statement M
 display-of-spec =

@@ -28,6 +28,9 @@ enum-told-7 c = search needs
 enum-told-8 : tie.Need-enum-told-8
 enum-told-8 c = search needs
 
+enum-told-9 : tie.Need-enum-told-9
+enum-told-9 c = search needs
+
 returns : tie.Need-returns
 unfolding answerOf
 returns c = rw (c .enum-told .given .1)
@@ -60,7 +63,11 @@ returns-8 : tie.Need-returns-8
 unfolding answerOf
 returns-8 c = rw (c .enum-told8 .given .1)
 
+returns-9 : tie.Need-returns-9
+unfolding answerOf
+returns-9 c = rw (c .enum-told9 .given .1)
+
 pub is-accepted-spec : {M : Type 1} → statement M
 is-accepted-spec =
     tie.close
-    (tie.spec enum-told enum-told-2 enum-told-3 enum-told-4 enum-told-5 enum-told-6 enum-told-7 enum-told-8 returns returns-2 returns-3 returns-4 returns-5 returns-6 returns-7 returns-8)
+    (tie.spec enum-told enum-told-2 enum-told-3 enum-told-4 enum-told-5 enum-told-6 enum-told-7 enum-told-8 enum-told-9 returns returns-2 returns-3 returns-4 returns-5 returns-6 returns-7 returns-8 returns-9)

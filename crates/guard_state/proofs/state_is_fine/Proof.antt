@@ -21,7 +21,7 @@ current-is-fine-requires c κs = search needs
 
 returns : tie.Need-returns
 returns c =
-    let s = c .before in
+    let s = c .before .before in
     let start = s .before .before .before .before .before .before .before .before .before .before in
     whole-state (start .args .state) _ _ _ _ _ (s .before .before .before .before .panel-is-fine .ensures)
     (s .before .before .before .swing-is-fine .ensures) (s .before .before .periods-are-fine .ensures)

@@ -25,6 +25,9 @@ enum-known-error c = search needs
 enum-told-6 : tie.Need-enum-told-6
 enum-told-6 c = search needs
 
+enum-told-7 : tie.Need-enum-told-7
+enum-told-7 c = search needs
+
 enum-known-error-2 : tie.Need-enum-known-error-2
 enum-known-error-2 c = search needs
 
@@ -58,7 +61,11 @@ returns-7 c = rw (c .enum-told6 .given .1)
 
 returns-8 : tie.Need-returns-8
 unfolding answerOf
-returns-8 c = rw (c .before .error2 .given .1)
+returns-8 c = rw (c .enum-told7 .given .1)
+
+returns-9 : tie.Need-returns-9
+unfolding answerOf
+returns-9 c = rw (c .before .error2 .given .1)
 
 pub number-of-parameters-spec : {M : Type 1} → statement M
 number-of-parameters-spec =
@@ -71,6 +78,7 @@ number-of-parameters-spec =
     enum-told-5
     enum-known-error
     enum-told-6
+    enum-told-7
     enum-known-error-2
     returns
     returns-2
@@ -79,4 +87,5 @@ number-of-parameters-spec =
     returns-5
     returns-6
     returns-7
-    returns-8)
+    returns-8
+    returns-9)

@@ -27,7 +27,7 @@ set-bus-requires : tie.Need-set-bus-requires
 set-bus-requires c κs = search needs
 
 returns : tie.Need-returns
-returns c = senses _ _ _ _ _ (c .before .before .low-nibble .ensures) (c .before .before .before .before .before .powered .ensures) (c .before .before .before .before .if1 .taken) (c .before .busy-for .ensures) (c .set-bus .ensures)
+returns c = senses _ _ _ _ _ (c .before .before .low-nibble .ensures) (c .before .before .before .before .before .before .powered .ensures) (c .before .before .before .before .before .if1 .taken) (c .before .busy-for .ensures) (c .set-bus .ensures)
 
 report-unpowered-requires : tie.Need-report-unpowered-requires
 report-unpowered-requires c κs = search needs

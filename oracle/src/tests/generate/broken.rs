@@ -28,7 +28,7 @@ fn numbers() -> Vec<String> {
             lines.push(line(number, 11, field as u32));
         }
     }
-    for value in 0..=31 {
+    for value in 0..=32 {
         let buffer = longest(value).map_or(0, |most| u128::from(most) + 1);
         let field = largest_of_state(value).map_or(0, |most| u128::from(most) + 1);
         lines.push(line(buffer, 15, value.into()));

@@ -74,7 +74,7 @@ pub(super) fn reset_timing(script: &mut Script) {
     }
 }
 
-fn busy_until(script: &Script) -> Option<u64> {
+pub(super) fn busy_until(script: &Script) -> Option<u64> {
     Some(script.device.as_ref()?.busy_until?.get())
 }
 

@@ -6,7 +6,7 @@ use std::fmt::Write;
 use emu_core::Cycles;
 
 use crate::ssd1677::tests::coldest;
-use crate::ssd1677::tests::configuration::Configuration;
+use crate::ssd1677::tests::configuration::{Configuration, FREQUENCY};
 use crate::ssd1677::tests::line::Line;
 use crate::ssd1677::tests::random::Random;
 use crate::ssd1677::{Power, Ssd1677, Temperature};
@@ -20,6 +20,8 @@ pub(super) struct Script {
     pub(super) place: u64,
     /// The time of the next event.
     pub(super) now: u64,
+    /// The frequency that every start has, whatever its configuration says; `None` leaves it.
+    pub(super) frequency: Option<u64>,
     pub(super) device: Option<Ssd1677>,
     /// Whether a waveform was asked for at −2048.
     pub(super) asked_coldest: bool,
@@ -34,6 +36,7 @@ impl Script {
             random,
             place,
             now: 0,
+            frequency: None,
             device: None,
             asked_coldest: false,
             text: String::new(),
@@ -66,16 +69,24 @@ impl Script {
         let _ = write!(self.text, "{line}");
     }
 
-    /// Writes `configuration` over one that is all 0, and starts.
+    /// `configuration` under the script's frequency.
+    fn timed(&self, configuration: &Configuration) -> Configuration {
+        let mut timed = configuration.clone();
+        timed.fields[FREQUENCY] = self.frequency.unwrap_or(timed.fields[FREQUENCY]);
+        timed
+    }
+
+    /// Writes `configuration` over a new case's, and starts.
     pub(super) fn start(&mut self, configuration: &Configuration) {
         self.configure(configuration);
         self.start_again(configuration);
     }
 
-    /// The lines of `configuration`: what is 0 needs none, but for the table's last byte.
+    /// The lines of `configuration`: what a new case has already needs none, but for the table's last byte.
     pub(super) fn configure(&mut self, configuration: &Configuration) {
-        for (field, &number) in configuration.fields.iter().enumerate() {
-            if number != 0 {
+        let timed = self.timed(configuration);
+        for (field, number) in timed.fields.into_iter().enumerate() {
+            if number != Configuration::new().fields[field] {
                 self.line(number, 11, field as u64);
             }
         }
@@ -90,7 +101,7 @@ impl Script {
     /// Starts with the configuration that the lines so far have given.
     pub(super) fn start_again(&mut self, configuration: &Configuration) {
         self.line(0, 13, 0);
-        self.device = configuration.start().ok();
+        self.device = self.timed(configuration).start().ok();
     }
 
     pub(super) fn command(&mut self, command: u8) {

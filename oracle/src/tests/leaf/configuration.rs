@@ -4,7 +4,7 @@ use super::{Arguments, Leaf, option};
 use crate::ssd1677::config::find_waveform;
 use crate::ssd1677::reference::gdeq0426t82_otp;
 use crate::ssd1677::tests::configuration::{
-    Configuration, FIELDS, Refusal, entry, largest, waveforms,
+    Configuration, FIELDS, FREQUENCY, Refusal, entry, largest, waveforms,
 };
 use crate::ssd1677::tests::configurations;
 use crate::ssd1677::tests::random::Random;
@@ -66,7 +66,7 @@ fn reference_byte(arguments: &mut Arguments) -> Option<Vec<i128>> {
     Some(option(table.get(usize::from(place)).copied()))
 }
 
-/// The 53 fields, the table's length and its bytes.
+/// The 54 fields, the table's length and its bytes.
 fn validate(arguments: &mut Arguments) -> Option<Vec<i128>> {
     let mut configuration = Configuration::new();
     for field in 0..FIELDS {
@@ -85,11 +85,14 @@ fn validate(arguments: &mut Arguments) -> Option<Vec<i128>> {
 }
 
 fn validate_question(_: u64, random: &mut Random) -> Vec<i128> {
-    let configuration = if random.one_in(4) {
+    let mut configuration = if random.one_in(4) {
         configurations::any(random)
     } else {
         configurations::refused(random)
     };
+    // Drawn last, so that the rest of a question is what it was before there was a frequency.
+    let frequency = random.pick(&[1_000_000_000, 1_000_000_000, 1, 32_768, u32::MAX.into(), 0]);
+    configuration.fields[FREQUENCY] = frequency;
     let mut numbers = configuration.fields.map(i128::from).to_vec();
     numbers.push(configuration.otp.len() as i128);
     numbers.extend(configuration.otp.into_iter().map(i128::from));

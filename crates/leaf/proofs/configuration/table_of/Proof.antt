@@ -8,7 +8,7 @@ abbrev Inv-loop : tie.InvT-loop
 Inv-loop table₀ numbers i₀ table i = Unit {0}
 
 abbrev μ-loop : tie.MeasureT-loop
-μ-loop table₀ numbers i₀ table i = 8138 - i
+μ-loop table₀ numbers i₀ table i = 8137 - i
 
 loop-holds : tie.Need-loop-holds Inv-loop μ-loop
 loop-holds c = search needs

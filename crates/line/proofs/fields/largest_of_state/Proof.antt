@@ -19,8 +19,14 @@ returns-2 c =
 returns-3 : tie.Need-returns-3
 unfolding stateBitsOf
 returns-3 c =
-    let f = c .before .before .args .field in
-    rw (le-ltb f 12 (omega arith)) (rw (le-ltb f 14 (omega arith)) refl)
+    let f = c .before .before .before .args .field in
+    rw (le-ltb f 12 (omega arith)) (rw (le-ltb f 14 (omega arith)) (rw (lt-ltb f 31 (omega arith)) refl))
+
+returns-4 : tie.Need-returns-4
+unfolding stateBitsOf
+returns-4 c =
+    let f = c .before .before .before .args .field in
+    rw (le-ltb f 12 (omega arith)) (rw (le-ltb f 14 (omega arith)) (rw (le-ltb f 31 (omega arith)) refl))
 
 pub largest-of-state-spec : {M : Type 1} → statement M
-largest-of-state-spec = tie.close (tie.spec returns returns-2 returns-3)
+largest-of-state-spec = tie.close (tie.spec returns returns-2 returns-3 returns-4)

@@ -1,0 +1,2 @@
+-- The law of one cut.
+pub mod Cut

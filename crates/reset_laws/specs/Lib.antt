@@ -1,0 +1,2 @@
+-- The root of reset_laws' specs.
+pub mod Cut
