@@ -1,0 +1,56 @@
+-- `counts::clear` meets its contract: after g turns the first g counts are 0. Assumes nothing.
+use mathlib.Core.Path.{_≡_, refl, ap, _∙_}
+use Prim.Native.Nat.{ℕ, _-_}
+use native.Mathlib.Omega.{arith}
+use lib.ListN.{length}
+use Rattle.numbers.specs.Lists.{tab}
+use Rattle.numbers.proofs.Painted.{Painted, painted-none, painted-more, painted-all}
+use Rattle.counts.specs.Counts.{occurs, countsOf}
+use Rattle.counts.proofs.clear.Statement.{statement}
+use Rattle.counts.proofs.clear.Tie as tie
+
+abbrev Inv-loop : tie.InvT-loop
+Inv-loop counts₀ g₀ g-end counts g = Painted g (λ _. 0) counts₀ counts × (g-end ≡ length counts₀)
+
+abbrev μ-loop : tie.MeasureT-loop
+μ-loop counts₀ g₀ g-end counts g = g-end - g
+
+loop-holds : tie.Need-loop-holds Inv-loop μ-loop
+loop-holds c = (painted-none _ _, refl)
+
+mul-counts : tie.Need-mul-counts Inv-loop μ-loop
+mul-counts c = omega arith
+
+slice-write-counts : tie.Need-slice-write-counts Inv-loop μ-loop
+slice-write-counts c = omega arith
+
+add-g : tie.Need-add-g Inv-loop μ-loop
+add-g c = omega arith
+
+loop-less : tie.Need-loop-less Inv-loop μ-loop
+loop-less c = omega arith
+
+loop-again : tie.Need-loop-again Inv-loop μ-loop
+loop-again c = (painted-more (c .before .loop .inv .0) (omega arith) refl, c .before .loop .inv .1)
+
+same-length : tie.Need-same-length Inv-loop μ-loop
+same-length c = c .before .loop .inv .0 .long
+
+returns : tie.Need-returns Inv-loop μ-loop
+unfolding occurs countsOf
+returns c = painted-all (c .before .loop .inv .0) (omega arith) ∙ ap (λ (n : ℕ). tab n (λ _. 0)) (c .before .before .pre)
+
+pub clear-spec : {M : Type 1} → statement M
+clear-spec =
+    tie.close
+    (tie.spec
+    Inv-loop
+    μ-loop
+    loop-holds
+    mul-counts
+    slice-write-counts
+    add-g
+    loop-less
+    loop-again
+    same-length
+    returns)
