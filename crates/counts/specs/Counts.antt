@@ -14,6 +14,11 @@ occurs g (x ∷ xs) = pick (eqb x g) 1 0 + occurs g xs
 unfoldable pub countsOf : List ℕ → List ℕ
 countsOf xs = tab 256 (λ g. occurs g xs)
 
+-- the sum of a list
+unfoldable pub sum : List ℕ → ℕ
+sum [] = 0
+sum (x ∷ xs) = x + sum xs
+
 -- a grey picture with its counts (SCOPE, Grey counts; #108)
 pub record Picture : Type 0 where
   pub pixels : List ℕ

@@ -7,13 +7,16 @@ ghost use Rattle.numbers.specs.Lists.{tab};
 ghost use Rattle.counts.specs.Counts.{countsOf};
 ghost use Rattle.counts.specs.Tables.{oneMore, Room, joined, Joinable};
 
+// The greys from 0 to 255.
+const GREYS: usize = 256;
+
 // One pixel more of a grey.
 fn add(table: &mut [u32], grey: u8)
     requires { ⌜ Room (now table) grey ⌝ }
     ensures { λ _. ⌜ now (table .exit) ≡ oneMore (now (table .entry)) grey ⌝ }
 {
-    let at = grey as usize;
-    table[at] = table[at] + 1;
+    let place = grey as usize;
+    table[place] = table[place] + 1;
 }
 
 // The sum of four tables.
@@ -22,7 +25,7 @@ fn join(counts: &mut [u32], a: &[u32], b: &[u32], c: &[u32], d: &[u32])
     requires { ⌜ Joinable (now a) (now b) (now c) (now d) ⌝ }
     ensures { λ _. ⌜ now (counts .exit) ≡ joined (now (a .entry)) (now (b .entry)) (now (c .entry)) (now (d .entry)) ⌝ }
 {
-    for g in 0..counts.len() {
+    for g in 0..GREYS {
         counts[g] = a[g] + b[g] + c[g] + d[g];
     }
 }
@@ -34,10 +37,10 @@ pub fn count(pixels: &[u8], counts: &mut [u32])
     requires { ⌜ length (now counts) ≡ 256 ⌝ }
     ensures { λ _. ⌜ now (counts .exit) ≡ countsOf (now (pixels .entry)) ⌝ }
 {
-    let mut a = [0u32; 256];
-    let mut b = [0u32; 256];
-    let mut c = [0u32; 256];
-    let mut d = [0u32; 256];
+    let mut a = [0u32; GREYS];
+    let mut b = [0u32; GREYS];
+    let mut c = [0u32; GREYS];
+    let mut d = [0u32; GREYS];
     let mut i: usize = 0;
     while 4 <= pixels.len() - i {
         add(&mut a, pixels[i]);
@@ -58,8 +61,8 @@ fn clear(counts: &mut [u32])
     requires { ⌜ length (now counts) ≡ 256 ⌝ }
     ensures { λ _. ⌜ now (counts .exit) ≡ countsOf [] ⌝ }
 {
-    for g in 0..counts.len() {
-        counts[g] = 0;
+    for at in 0..GREYS {
+        counts[at] = 0;
     }
 }
 

@@ -10,13 +10,13 @@ use Rattle.counts.proofs.join.Statement.{statement}
 use Rattle.counts.proofs.join.Tie as tie
 
 abbrev Inv-loop : tie.InvT-loop
-Inv-loop counts₀ a b c d g₀ g-end counts g = Painted g (sumAt a b c d) counts₀ counts × (g-end ≡ length counts₀)
+Inv-loop counts₀ a b c d g₀ counts g = Painted g (sumAt a b c d) counts₀ counts
 
 abbrev μ-loop : tie.MeasureT-loop
-μ-loop counts₀ a b c d g₀ g-end counts g = g-end - g
+μ-loop counts₀ a b c d g₀ counts g = 256 - g
 
 loop-holds : tie.Need-loop-holds Inv-loop μ-loop
-loop-holds c = (painted-none _ _, refl)
+loop-holds c = painted-none _ _
 
 mul-counts : tie.Need-mul-counts Inv-loop μ-loop
 mul-counts c = omega arith
@@ -64,16 +64,16 @@ loop-less : tie.Need-loop-less Inv-loop μ-loop
 loop-less c = omega arith
 
 loop-again : tie.Need-loop-again Inv-loop μ-loop
-loop-again c = (painted-more (c .before .before .before .before .before .loop .inv .0) (omega arith) refl, c .before .before .before .before .before .loop .inv .1)
+loop-again c = painted-more (c .before .before .before .before .before .loop .inv) (omega arith) refl
 
 same-length : tie.Need-same-length Inv-loop μ-loop
-same-length c = c .before .loop .inv .0 .long
+same-length c = c .before .loop .inv .long
 
 returns : tie.Need-returns Inv-loop μ-loop
 unfolding joined
 returns c =
     let s = c .before .before in
-    painted-all (c .before .loop .inv .0) (omega arith)
+    painted-all (c .before .loop .inv) (omega arith)
     ∙ ap (λ (n : ℕ). tab n (sumAt (s .args .a .now) (s .args .b .now) (s .args .c .now) (s .args .d .now))) (s .pre .0)
 
 pub join-spec : {M : Type 1} → statement M
