@@ -28,7 +28,7 @@ occurs-le g [] = omega arith
 occurs-le g (x ∷ xs) = omega (arith, hit-le (eqb x g), occurs-le g xs)
 
 -- two parts, one after the other
-pub occurs-append : (g : ℕ) (xs ys : List ℕ) → occurs g (xs ++ ys) ≡ occurs g xs + occurs g ys
+occurs-append : (g : ℕ) (xs ys : List ℕ) → occurs g (xs ++ ys) ≡ occurs g xs + occurs g ys
 unfolding occurs
 occurs-append g [] ys = omega arith
 occurs-append g (x ∷ xs) ys = omega (arith, occurs-append g xs ys)
@@ -37,13 +37,9 @@ occurs-one : (g x : ℕ) → occurs g (x ∷ []) ≡ hit x g
 unfolding occurs
 occurs-one g x = omega arith
 
--- of no pixel
-none : (g : ℕ) → occurs g [] ≡ 0
-unfolding occurs
-none g = refl
-
 -- one pixel more
-pub occurs-more : (g : ℕ) (xs : List ℕ) (i j : ℕ) → i < length xs → j ≡ i + 1 → occurs g (take j xs) ≡ occurs g (take i xs) + hit (getD xs i 0) g
+pub occurs-more : (g : ℕ) (xs : List ℕ) (i j : ℕ) → i < length xs → j ≡ i + 1
+    → occurs g (take j xs) ≡ occurs g (take i xs) + hit (getD xs i 0) g
 occurs-more g xs i j l e =
     ap (λ (n : ℕ). occurs g (take n xs)) (e ∙ add-one i)
     ∙ ap (occurs g) (take-suc xs i 0 l)
@@ -51,7 +47,7 @@ occurs-more g xs i j l e =
     ∙ ap (λ (n : ℕ). occurs g (take i xs) + n) (occurs-one g (getD xs i 0))
 
 -- as many pixels of one grey
-pub occurs-same : (n x g : ℕ) → occurs g (tab n (λ _. x)) ≡ pick (eqb x g) n 0
+occurs-same : (n x g : ℕ) → occurs g (tab n (λ _. x)) ≡ pick (eqb x g) n 0
 unfolding occurs tab
 occurs-same n x g = by (eqb x g) refl n
   where
@@ -69,18 +65,22 @@ pub count-at : (xs : List ℕ) (g : ℕ) → g < 256 → getD (countsOf xs) g 0 
 unfolding countsOf
 count-at xs g l = getD-tab 256 (λ g. occurs g xs) g 0 l
 
+-- a list after a store
+pub set-at : (t : List ℕ) (x v g : ℕ) → x < length t → getD (set t x v) g 0 ≡ pick (eqb x g) v (getD t g 0)
+set-at t x v g l = by (eqb x g) refl
+  where
+    by : (b : Bool) → eqb x g ≡ b → getD (set t x v) g 0 ≡ pick b v (getD t g 0)
+    by true e = ap (λ (k : ℕ). getD (set t x v) k 0) (sym (eqb-true x g e)) ∙ getD-set-same t x v 0 l
+    by false e = getD-set-other t x g v 0 (λ s. eqb-false x g e (sym s))
+
 -- as many pixels of one grey: their number at the grey's place, and nothing elsewhere
 pub counts-same : (n x : ℕ) → x < 256 → set (countsOf []) x n ≡ countsOf (tab n (λ _. x))
+unfolding occurs
 counts-same n x l =
     ext-getD 0 (set (countsOf []) x n) (countsOf (tab n (λ _. x)))
     (length-set (countsOf []) x n ∙ counts-length [] ∙ sym (counts-length (tab n (λ _. x))))
-    (λ g m. let h : g < 256 = omega (arith, length-set (countsOf []) x n, counts-length []) in at g h ∙ sym (count-at (tab n (λ _. x)) g h ∙ occurs-same n x g))
-  where
-    by : (g : ℕ) → g < 256 → (b : Bool) → eqb x g ≡ b → getD (set (countsOf []) x n) g 0 ≡ pick b n 0
-    by g h true e =
-        ap (λ (k : ℕ). getD (set (countsOf []) x n) k 0) (sym (eqb-true x g e))
-        ∙ getD-set-same (countsOf []) x n 0 (omega (arith, counts-length []))
-    by g h false e = getD-set-other (countsOf []) x g n 0 (λ s. eqb-false x g e (sym s)) ∙ count-at [] g h ∙ none g
-
-    at : (g : ℕ) → g < 256 → getD (set (countsOf []) x n) g 0 ≡ pick (eqb x g) n 0
-    at g h = by g h (eqb x g) refl
+    (λ g m.
+    let h : g < 256 = omega (arith, length-set (countsOf []) x n, counts-length []) in
+    set-at (countsOf []) x n g (omega (arith, counts-length []))
+    ∙ ap (pick (eqb x g) n) (count-at [] g h)
+    ∙ sym (count-at (tab n (λ _. x)) g h ∙ occurs-same n x g))

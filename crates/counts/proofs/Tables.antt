@@ -1,32 +1,27 @@
 -- What the loops of `count` know: together, four tables count the pixels passed. Assumes nothing.
-use mathlib.Core.Path.{_≡_, refl, sym, ap, _∙_}
+use mathlib.Core.Path.{_≡_, refl, ap, _∙_}
 use mathlib.Core.Bool.{Bool, true, false}
 use mathlib.Core.List.{List, []}
 use Prim.Native.Nat.{ℕ, _+_, _≤_, _<_, _^_}
 use native.Mathlib.Omega.{arith}
 use lib.Dec.{eqb}
-use lib.ListN.{length, set, take, getD, length-set, length-take}
-use lib.Seq.{getD-set-same, getD-set-other, length-take-le, take-all}
-use borrow.Author.Tests.{eqb-true, eqb-false}
+use lib.ListN.{length, take, getD, length-set}
+use lib.Seq.{length-take-le, take-all}
+use borrow.Author.Tests.{eqb-true}
 use Rattle.numbers.specs.Choice.{pick}
-use Rattle.numbers.specs.Lists.{tab}
 use Rattle.numbers.proofs.Painted.{tab-ext}
 use Rattle.counts.specs.Counts.{occurs, countsOf}
 use Rattle.counts.specs.Tables.{oneMore, Room, sumAt, joined, Joinable}
-use Rattle.counts.proofs.Occurs.{hit, occurs-le, occurs-more, counts-length, count-at}
+use Rattle.counts.proofs.Occurs.{hit, occurs-le, occurs-more, counts-length, count-at, set-at}
 
 -- one more at the grey's place, and nothing elsewhere
 more-at : (t : List ℕ) (x g : ℕ) {t′ : List ℕ} → t′ ≡ oneMore t x → x < length t → getD t′ g 0 ≡ getD t g 0 + hit x g
 unfolding oneMore
-more-at t x g e l = ap (λ (u : List ℕ). getD u g 0) e ∙ by (eqb x g) refl
+more-at t x g e l = ap (λ (u : List ℕ). getD u g 0) e ∙ set-at t x (getD t x 0 + 1) g l ∙ by (eqb x g) refl
   where
-    by : (b : Bool) → eqb x g ≡ b → getD (set t x (getD t x 0 + 1)) g 0 ≡ getD t g 0 + pick b 1 0
-    by true s =
-        let same : x ≡ g = eqb-true x g s in
-        ap (λ (k : ℕ). getD (set t x (getD t x 0 + 1)) k 0) (sym same)
-        ∙ getD-set-same t x (getD t x 0 + 1) 0 l
-        ∙ ap (λ (k : ℕ). getD t k 0 + 1) same
-    by false s = getD-set-other t x g (getD t x 0 + 1) 0 (λ e. eqb-false x g s (sym e)) ∙ omega arith
+    by : (b : Bool) → eqb x g ≡ b → pick b (getD t x 0 + 1) (getD t g 0) ≡ getD t g 0 + pick b 1 0
+    by true s = ap (λ (k : ℕ). getD t k 0 + 1) (eqb-true x g s)
+    by false s = omega arith
 
 more-length : (t : List ℕ) (x : ℕ) {t′ : List ℕ} → t′ ≡ oneMore t x → length t′ ≡ length t
 unfolding oneMore

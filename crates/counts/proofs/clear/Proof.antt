@@ -1,8 +1,7 @@
 -- `counts::clear` meets its contract: after `at` turns the first `at` counts are 0. Assumes nothing.
-use mathlib.Core.Path.{_≡_, refl, ap, _∙_}
+use mathlib.Core.Path.{refl, ap, _∙_}
 use Prim.Native.Nat.{ℕ, _-_}
 use native.Mathlib.Omega.{arith}
-use lib.ListN.{length}
 use Rattle.numbers.specs.Lists.{tab}
 use Rattle.numbers.proofs.Painted.{Painted, painted-none, painted-more, painted-all}
 use Rattle.counts.specs.Counts.{occurs, countsOf}

@@ -1,8 +1,8 @@
--- `counts::count` meets its contract. Assumes nothing.
-use mathlib.Core.Path.{_≡_, refl, ap, _∙_}
-use Prim.Native.Nat.{ℕ, _-_, _+_, _<_}
+-- `counts::count` meets its contract: before either loop's turn, the four tables together count the pixels passed. Assumes nothing.
+use mathlib.Core.Path.{_∙_}
+use Prim.Native.Nat.{_-_}
 use native.Mathlib.Omega.{arith}
-use lib.ListN.{length, getD}
+use lib.ListN.{length}
 use borrow.Author.Needs.{needs}
 use Rattle.numbers.specs.Lists.{tab}
 use Rattle.counts.specs.Counts.{occurs, countsOf}
@@ -37,8 +37,8 @@ shared-slice-read-add c = omega arith
 
 add-requires : tie.Need-add-requires Inv-loop μ-loop Inv-loop2 μ-loop2
 add-requires c κs =
-    let l = c .before .before .before .loop in
-    a-room (l .inv) (c .before .before .before .before .before .before .pre .0) _ (omega (arith, c .shared-slice-known2 .given (l .i))) (omega arith)
+    let l = c .before .before .before in
+    a-room (l .loop .inv) (l .before .before .before .pre .0) _ (c .shared-slice-known2 .given _ .fits) (omega arith)
 
 slice-aggregate-add-2 : tie.Need-slice-aggregate-add-2 Inv-loop μ-loop Inv-loop2 μ-loop2
 slice-aggregate-add-2 c = search needs
@@ -51,8 +51,8 @@ shared-slice-read-add-2 c = omega arith
 
 add-requires-2 : tie.Need-add-requires-2 Inv-loop μ-loop Inv-loop2 μ-loop2
 add-requires-2 c κs =
-    let l = c .before .before .before .before .before .before .before .loop in
-    b-room (l .inv) (c .before .before .before .before .before .before .before .before .before .before .pre .0) _ (omega (arith, c .shared-slice-known3 .given (l .i + 1))) (omega arith)
+    let l = c .before .before .before .before .before .before .before in
+    b-room (l .loop .inv) (l .before .before .before .pre .0) _ (c .shared-slice-known3 .given _ .fits) (omega arith)
 
 slice-aggregate-add-3 : tie.Need-slice-aggregate-add-3 Inv-loop μ-loop Inv-loop2 μ-loop2
 slice-aggregate-add-3 c = search needs
@@ -65,8 +65,8 @@ shared-slice-read-add-3 c = omega arith
 
 add-requires-3 : tie.Need-add-requires-3 Inv-loop μ-loop Inv-loop2 μ-loop2
 add-requires-3 c κs =
-    let l = c .before .before .before .before .before .before .before .before .before .before .before .loop in
-    c-room (l .inv) (c .before .before .before .before .before .before .before .before .before .before .before .before .before .before .pre .0) _ (omega (arith, c .shared-slice-known4 .given (l .i + 2))) (omega arith)
+    let l = c .before .before .before .before .before .before .before .before .before .before .before in
+    c-room (l .loop .inv) (l .before .before .before .pre .0) _ (c .shared-slice-known4 .given _ .fits) (omega arith)
 
 slice-aggregate-add-4 : tie.Need-slice-aggregate-add-4 Inv-loop μ-loop Inv-loop2 μ-loop2
 slice-aggregate-add-4 c = search needs
@@ -79,8 +79,8 @@ shared-slice-read-add-4 c = omega arith
 
 add-requires-4 : tie.Need-add-requires-4 Inv-loop μ-loop Inv-loop2 μ-loop2
 add-requires-4 c κs =
-    let l = c .before .before .before .before .before .before .before .before .before .before .before .before .before .before .before .loop in
-    d-room (l .inv) (c .before .before .before .before .before .before .before .before .before .before .before .before .before .before .before .before .before .before .pre .0) _ (omega (arith, c .shared-slice-known5 .given (l .i + 3))) (omega arith)
+    let l = c .before .before .before .before .before .before .before .before .before .before .before .before .before .before .before in
+    d-room (l .loop .inv) (l .before .before .before .pre .0) _ (c .shared-slice-known5 .given _ .fits) (omega arith)
 
 add-i : tie.Need-add-i Inv-loop μ-loop Inv-loop2 μ-loop2
 add-i c = omega arith
@@ -90,12 +90,11 @@ loop-less c = omega arith
 
 loop-again : tie.Need-loop-again Inv-loop μ-loop Inv-loop2 μ-loop2
 loop-again c =
-    let l = c .before .before .before .before .before .before .before .before .before .before .before .before .before .before .before .before .before .loop in
-    let byte = c .before .before .before .before .before .before .before .before .before .before .before .before .before .before .before .before .before .before .before .shared-slice-known .given in
+    let l = c .before .before .before .before .before .before .before .before .before .before .before .before .before .before .before .before .before in
     counted-four
-    (l .inv)
+    (l .loop .inv)
     (omega arith)
-    (λ k. omega (arith, byte k))
+    (λ k. l .before .before .shared-slice-known .given k .fits)
     (c .before .before .before .before .before .before .before .before .before .before .before .before .before .add .ensures)
     (c .before .before .before .before .before .before .before .before .before .add2 .ensures)
     (c .before .before .before .before .before .add3 .ensures)
@@ -112,8 +111,8 @@ shared-slice-read-add-5 c = omega arith
 
 add-requires-5 : tie.Need-add-requires-5 Inv-loop μ-loop Inv-loop2 μ-loop2
 add-requires-5 c κs =
-    let l = c .before .before .before .loop2 in
-    a-room (l .inv) (c .before .before .before .before .before .before .before .before .pre .0) _ (omega (arith, c .shared-slice-known6 .given (l .i))) (omega arith)
+    let l = c .before .before .before in
+    a-room (l .loop2 .inv) (l .before .before .before .before .before .pre .0) _ (c .shared-slice-known6 .given _ .fits) (omega arith)
 
 add-i-2 : tie.Need-add-i-2 Inv-loop μ-loop Inv-loop2 μ-loop2
 add-i-2 c = omega arith
@@ -123,8 +122,8 @@ loop2-less c = omega arith
 
 loop2-again : tie.Need-loop2-again Inv-loop μ-loop Inv-loop2 μ-loop2
 loop2-again c =
-    let l = c .before .before .before .before .before .loop2 in
-    counted-one (l .inv) (omega arith) (omega (arith, c .before .before .shared-slice-known6 .given (l .i))) (c .before .add5 .ensures)
+    let l = c .before .before .before .before .before in
+    counted-one (l .loop2 .inv) (omega arith) (c .before .before .shared-slice-known6 .given _ .fits) (c .before .add5 .ensures)
 
 slice-aggregate-join : tie.Need-slice-aggregate-join Inv-loop μ-loop Inv-loop2 μ-loop2
 slice-aggregate-join c = search needs
@@ -139,13 +138,18 @@ slice-aggregate-join-4 : tie.Need-slice-aggregate-join-4 Inv-loop μ-loop Inv-lo
 slice-aggregate-join-4 c = search needs
 
 join-requires : tie.Need-join-requires Inv-loop μ-loop Inv-loop2 μ-loop2
-join-requires c κs = (c .before .before .before .before .before .before .before .before .before .before .before .pre .1, joinable (c .before .before .before .before .before .before .loop2 .inv) (c .before .before .before .before .before .before .before .before .before .before .before .pre .0))
+join-requires c κs =
+    let l = c .before .before .before .before .before .before in
+    let s = l .before .before .before .before .before in
+    (s .pre .1, joinable (l .loop2 .inv) (s .pre .0))
 
 same-length : tie.Need-same-length Inv-loop μ-loop Inv-loop2 μ-loop2
 same-length c = search needs
 
 returns : tie.Need-returns Inv-loop μ-loop Inv-loop2 μ-loop2
-returns c = c .before .before .join .ensures ∙ counted-all (c .before .before .before .before .before .before .before .before .before .loop2 .inv) (omega arith)
+returns c =
+    let l = c .before .before .before .before .before .before .before .before .before in
+    c .before .before .join .ensures ∙ counted-all (l .loop2 .inv) (omega arith)
 
 pub count-spec : {M : Type 1} → statement M
 count-spec =

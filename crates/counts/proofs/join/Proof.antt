@@ -1,8 +1,7 @@
 -- `counts::join` meets its contract: after g turns the first g counts are sums of the tables'. Assumes nothing.
-use mathlib.Core.Path.{_≡_, refl, ap, _∙_}
+use mathlib.Core.Path.{refl, ap, _∙_}
 use Prim.Native.Nat.{ℕ, _-_}
 use native.Mathlib.Omega.{arith}
-use lib.ListN.{length}
 use Rattle.numbers.specs.Lists.{tab}
 use Rattle.numbers.proofs.Painted.{Painted, painted-none, painted-more, painted-all}
 use Rattle.counts.specs.Tables.{sumAt, joined}
@@ -31,7 +30,9 @@ shared-slice-read-counts-2 : tie.Need-shared-slice-read-counts-2 Inv-loop μ-loo
 shared-slice-read-counts-2 c = omega arith
 
 add-counts : tie.Need-add-counts Inv-loop μ-loop
-add-counts c = omega (arith, c .before .before .before .before .pre .1 .below (c .before .before .before .loop .g) (omega arith))
+add-counts c =
+    let l = c .before .before .before in
+    omega (arith, l .before .pre .1 .below (l .loop .g) (omega arith))
 
 mul-counts-3 : tie.Need-mul-counts-3 Inv-loop μ-loop
 mul-counts-3 c = omega arith
@@ -40,7 +41,9 @@ shared-slice-read-counts-3 : tie.Need-shared-slice-read-counts-3 Inv-loop μ-loo
 shared-slice-read-counts-3 c = omega arith
 
 add-counts-2 : tie.Need-add-counts-2 Inv-loop μ-loop
-add-counts-2 c = omega (arith, c .before .before .before .before .before .pre .1 .below (c .before .before .before .before .loop .g) (omega arith))
+add-counts-2 c =
+    let l = c .before .before .before .before in
+    omega (arith, l .before .pre .1 .below (l .loop .g) (omega arith))
 
 mul-counts-4 : tie.Need-mul-counts-4 Inv-loop μ-loop
 mul-counts-4 c = omega arith
@@ -49,7 +52,9 @@ shared-slice-read-counts-4 : tie.Need-shared-slice-read-counts-4 Inv-loop μ-loo
 shared-slice-read-counts-4 c = omega arith
 
 add-counts-3 : tie.Need-add-counts-3 Inv-loop μ-loop
-add-counts-3 c = omega (arith, c .before .before .before .before .before .before .pre .1 .below (c .before .before .before .before .before .loop .g) (omega arith))
+add-counts-3 c =
+    let l = c .before .before .before .before .before in
+    omega (arith, l .before .pre .1 .below (l .loop .g) (omega arith))
 
 mul-counts-5 : tie.Need-mul-counts-5 Inv-loop μ-loop
 mul-counts-5 c = omega arith
