@@ -1,0 +1,3 @@
+-- The laws that the proofs of counts share.
+pub mod Occurs
+pub mod Tables

@@ -1,0 +1,3 @@
+-- The root of counts' specs.
+pub mod Counts
+pub mod Tables

@@ -1,0 +1,2 @@
+-- The laws of grey counts.
+pub mod Sum
