@@ -52,6 +52,11 @@ pub(crate) fn combined(
     requires { ⌜ combinable (now periods) lut swing ≡ true ⌝ }
     ensures { λ r. ⌜ r ≡ settled (wholeTransfer (now (setting .entry)) (now (periods .entry)) (Lut lut) swing «positive_drives_black») ⌝ }
 {
-    let decoded = setting::from_setting(setting, periods);
-    combine::transfer_whole(decoded, Drive::Lut(lut), swing, positive_drives_black)
+    combine::transfer_whole(
+        setting,
+        periods,
+        Drive::Lut(lut),
+        swing,
+        positive_drives_black,
+    )
 }

@@ -18,7 +18,7 @@ use Rattle.moment.specs.Moments.{quietAt}
 use Rattle.data.specs.Most.{isStream}
 use Rattle.burst.specs.declared.Course.{Course}
 use Rattle.burst.specs.declared.Reached.{Reached}
-use Rattle.burst.specs.Running.{step, taking, Ran, running}
+use Rattle.burst.specs.Running.{byteStep, taking, Ran, running}
 use Rattle.burst.specs.Burst.{courseOf, startOf, receivedAs, reachedBy, Into, into, putBack, bursted, ranInto, burstOf}
 
 module _ (c : Course) (kind time byte latest : ℕ) (s : Reached) (plane : List ℕ) (quiet : Bool)
@@ -27,16 +27,16 @@ module _ (c : Course) (kind time byte latest : ℕ) (s : Reached) (plane : List 
   pub takes-it : (wrote : Bool) (counter : Counter) (received : ℕ) {p : List ℕ} → (eqb kind 2 && quiet) ≡ true → wrote ≡ true
       → wrote ≡ wroteAt plane (s .counter) → p ≡ writtenAt plane (s .counter) byte
       → counter ≡ advancedOf (s .counter) (c .window) (c .entry) → received ≡ min (s .received + 1) (largest 16)
-      → step true (record { latest = latest; counter = counter; received = received }) p ≡ taking c kind time byte s plane
+      → byteStep true (record { latest = latest; counter = counter; received = received }) p ≡ taking c kind time byte s plane
   takes-it wrote counter received h w found put steps counts = rw (← later, ← tells, h, ← found, w, put, steps, counts)
 
   -- the plane does not have the counter's byte
   pub leaves-it : (wrote : Bool) {p : List ℕ} → (eqb kind 2 && quiet) ≡ true → wrote ≡ false
-      → wrote ≡ wroteAt plane (s .counter) → p ≡ plane → step false s p ≡ taking c kind time byte s plane
+      → wrote ≡ wroteAt plane (s .counter) → p ≡ plane → byteStep false s p ≡ taking c kind time byte s plane
   leaves-it wrote h w found same = rw (← later, ← tells, h, ← found, w, same)
 
   -- the event is no data byte, or something else comes about
-  pub passes-it : (eqb kind 2 && quiet) ≡ false → step false s plane ≡ taking c kind time byte s plane
+  pub passes-it : (eqb kind 2 && quiet) ≡ false → byteStep false s plane ≡ taking c kind time byte s plane
   passes-it h = rw (← later, ← tells, h)
 
 pub puts-back : (d m r : Ssd1677) (a : Active) (s : Reached) (bus : Bus) → bus ≡ withCurrent (d .bus) (current.Active (receivedAs a (s .received)))

@@ -9,18 +9,18 @@ use Rattle.numbers.specs.Choice.{pick}
 use Rattle.ram.specs.Plane.{writtenAt}
 use Rattle.burst.specs.declared.Course.{Course}
 use Rattle.burst.specs.declared.Reached.{Reached}
-use Rattle.burst.specs.Running.{takes, onward, Step, taking, Ran, ran, running}
+use Rattle.burst.specs.Running.{takes, onward, ByteStep, taking, Ran, ran, running}
 
 module _ (kinds times values : List ℕ) (c : Course) where
   abbrev goes : ℕ → ℕ → Reached → List ℕ → Ran
   goes n i s plane = running kinds times values c n i s plane
 
   -- the event at a place
-  abbrev pub takingAt : ℕ → Reached → List ℕ → Step
+  abbrev pub takingAt : ℕ → Reached → List ℕ → ByteStep
   takingAt i s plane = taking c (getD kinds i 0) (getD times i 0) (getD values i 0) s plane
 
   -- where an event leads
-  abbrev onwards : ℕ → ℕ → Reached → List ℕ → Step → Ran
+  abbrev onwards : ℕ → ℕ → Reached → List ℕ → ByteStep → Ran
   onwards n i s plane t = pick (t .done) (goes n (i + 1) (t .reached) (t .plane)) (ran i s plane)
 
   one : (n i : ℕ) (s : Reached) (plane : List ℕ) → goes (suc n) i s plane ≡ onwards n i s plane (takingAt i s plane)
@@ -45,7 +45,7 @@ module _ (kinds times values : List ℕ) (c : Course) where
 
   module _ (count i : ℕ) (s : Reached) (plane : List ℕ) (r : Ran) (inv : goes (count - i) i s plane ≡ r) where
     -- one byte more
-    pub more : (t : Step) → i < count → t ≡ takingAt i s plane → t .done ≡ true → goes (count - (i + 1)) (i + 1) (t .reached) (t .plane) ≡ r
+    pub more : (t : ByteStep) → i < count → t ≡ takingAt i s plane → t .done ≡ true → goes (count - (i + 1)) (i + 1) (t .reached) (t .plane) ≡ r
     more t h e d =
         sym (ap (λ (b : Bool). pick b (goes (count - (i + 1)) (i + 1) (t .reached) (t .plane)) (ran i s plane)) d)
         ∙ ap (onwards (count - (i + 1)) i s plane) e
@@ -53,7 +53,7 @@ module _ (kinds times values : List ℕ) (c : Course) where
         ∙ inv
 
     -- the first event that is none
-    pub ends : (t : Step) → i < count → t ≡ takingAt i s plane → t .done ≡ false → ran i s (t .plane) ≡ r
+    pub ends : (t : ByteStep) → i < count → t ≡ takingAt i s plane → t .done ≡ false → ran i s (t .plane) ≡ r
     ends t h e d =
         ap (ran i s) (stays t e d)
         ∙ sym (ap (λ (b : Bool). pick b (goes (count - (i + 1)) (i + 1) (t .reached) (t .plane)) (ran i s plane)) d)
@@ -61,8 +61,8 @@ module _ (kinds times values : List ℕ) (c : Course) where
         ∙ sym (next count i s plane h)
         ∙ inv
       where
-        stays : (t : Step) → t ≡ takingAt i s plane → t .done ≡ false → t .plane ≡ plane
-        stays t e d = ap (λ (x : Step). x .plane) e ∙ by (takes c (getD kinds i 0) (getD times i 0) s plane) (sym (ap (λ (x : Step). x .done) e) ∙ d)
+        stays : (t : ByteStep) → t ≡ takingAt i s plane → t .done ≡ false → t .plane ≡ plane
+        stays t e d = ap (λ (x : ByteStep). x .plane) e ∙ by (takes c (getD kinds i 0) (getD times i 0) s plane) (sym (ap (λ (x : ByteStep). x .done) e) ∙ d)
           where
             by : (b : Bool) → b ≡ false → pick b (writtenAt plane (s .counter) (getD values i 0)) plane ≡ plane
             by b h = rw h

@@ -26,19 +26,19 @@ onward c time s =
     }
 
 -- what an event does where it is such a byte; another does nothing here
-pub record Step : Type 0 where
+pub record ByteStep : Type 0 where
   pub done : Bool
   pub reached : Reached
   pub plane : List ℕ
 
 -- the three as one
-abbrev pub step : Bool → Reached → List ℕ → Step
-step done reached plane = record { done = done; reached = reached; plane = plane }
+abbrev pub byteStep : Bool → Reached → List ℕ → ByteStep
+byteStep done reached plane = record { done = done; reached = reached; plane = plane }
 
 -- one event
-abbrev pub taking : Course → ℕ → ℕ → ℕ → Reached → List ℕ → Step
+abbrev pub taking : Course → ℕ → ℕ → ℕ → Reached → List ℕ → ByteStep
 taking c kind time byte s plane =
-    step (takes c kind time s plane)
+    byteStep (takes c kind time s plane)
     (pick (takes c kind time s plane) (onward c time s) s)
     (pick (takes c kind time s plane) (writtenAt plane (s .counter) byte) plane)
 

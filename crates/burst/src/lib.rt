@@ -3,7 +3,7 @@
 ghost use mathlib.Core.Path.{_≡_};
 ghost use Prim.Native.Nat.{_-_, _≤_};
 ghost use lib.ListN.{length};
-ghost use Rattle.burst.specs.Running.{step, taking, ran, running};
+ghost use Rattle.burst.specs.Running.{byteStep, taking, ran, running};
 ghost use Rattle.burst.specs.Burst.{courseOf, reachedBy, into, ranInto, bursted, burstOf};
 use device::Active;
 use device::Current;
@@ -56,7 +56,7 @@ pub struct Burst {
 
 // One event, where it is a byte of RAM data and nothing more.
 fn take(plane: &mut [u8], course: Course, reached: Reached, kind: u8, time: u64, byte: u8) -> Taken
-    ensures { λ r. ⌜ step (r .done) (r .reached) (now (plane .exit)) ≡ taking course kind time byte reached (now (plane .entry)) ⌝ }
+    ensures { λ r. ⌜ byteStep (r .done) (r .reached) (now (plane .exit)) ≡ taking course kind time byte reached (now (plane .entry)) ⌝ }
 {
     let latest = numbers::max_u64(reached.latest, time);
     let busy_until = course.busy_until;

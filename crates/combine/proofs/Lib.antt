@@ -2,3 +2,4 @@
 pub mod Powers
 pub mod Unique
 pub mod Phases
+pub mod Bytes

@@ -1,11 +1,12 @@
-// What a display does to a state, a whole one with each group's transfer worked out once and combined with itself
-// (#110).
+// What the display of a setting does to a state, a whole one with each group's transfer worked out once and combined with
+// itself (#110).
+mod groups;
+
 use glass::Transfer;
 use waveform::Drive;
 use waveform::Driving;
-use waveform::Group;
+use waveform::Levels;
 use waveform::Until;
-use waveform::Waveform;
 ghost use mathlib.Core.Path.{_≡_};
 ghost use mathlib.Core.List.{foldl};
 ghost use Prim.Native.Nat.{_<_};
@@ -13,8 +14,10 @@ ghost use lib.IntN.{pos};
 ghost use lib.Signed.{_≤ℤ_};
 ghost use Rattle.numbers.specs.Choice.{pick};
 ghost use Rattle.glass.specs.Transfers.{identityT};
+ghost use Rattle.waveform.specs.Setting.{waveformOf};
 ghost use Rattle.waveform.specs.Walks.{Drivable, Walkable, phaseIn, fourIn, groupIn, wholeStep, wholeOf, transferOf};
 ghost use Rattle.combine.specs.Acts.{Repeated, Extends, Combinable};
+ghost use Rattle.combine.specs.Groups.{timedGroup};
 ghost use Rattle.combine.specs.Settled.{Alike, settled, combinedOf};
 
 // `from`, then `pass` so many times. `power` is `pass` once, twice, four times and so on, while the count is halved.
@@ -38,25 +41,38 @@ fn repeated(from: Transfer, pass: Transfer, times: u16) -> Transfer
 }
 
 // `transfer`, then a phase of a group to its end.
-fn then_phase(driving: Driving, group: Group, at: usize, transfer: Transfer) -> Transfer
-    requires { ⌜ (at < 4) × Drivable driving ⌝ }
-    ensures { λ r. ⌜ r ≡ wholeStep driving transfer (phaseIn driving group at) ⌝ }
+fn then_phase(
+    setting: &[u8; 112],
+    frame_period: &[u64; 16],
+    driving: Driving,
+    group: usize,
+    at: usize,
+    transfer: Transfer,
+) -> Transfer
+    requires { ⌜ (group < 10) × (at < 4) × Drivable driving ⌝ }
+    ensures { λ r. ⌜ r ≡ wholeStep driving transfer (phaseIn driving (timedGroup (now (setting .entry)) (now («frame_period» .entry)) group) at) ⌝ }
 {
-    let phase = walk::phases::phase_of(driving, group, at);
+    let phase = groups::phase_of(setting, frame_period, driving, group, at);
     walk::phases::push(driving, phase, phase.frames, transfer)
 }
 
 // `transfer`, then the four phases of a group, once; one of 0 frames is passed over. A loop, and below one call of it: a function
-// with one caller is inlined there, so that no group is copied for a phase and a transfer stays in registers.
-fn pass(driving: Driving, group: Group, transfer: Transfer) -> Transfer
-    requires { ⌜ Drivable driving ⌝ }
-    ensures { λ r. ⌜ r ≡ foldl (wholeStep driving) transfer (fourIn driving group) ⌝ }
+// with one caller is inlined there, so that a transfer stays in registers.
+fn pass(
+    setting: &[u8; 112],
+    frame_period: &[u64; 16],
+    driving: Driving,
+    group: usize,
+    transfer: Transfer,
+) -> Transfer
+    requires { ⌜ (group < 10) × Drivable driving ⌝ }
+    ensures { λ r. ⌜ r ≡ foldl (wholeStep driving) transfer (fourIn driving (timedGroup (now (setting .entry)) (now («frame_period» .entry)) group)) ⌝ }
 {
     let mut moved = transfer;
     let mut at: usize = 0;
     while at < 4 {
-        if group.frames[at] != 0 {
-            moved = then_phase(driving, group, at, moved);
+        if groups::frames(setting, group, at) != 0 {
+            moved = then_phase(setting, frame_period, driving, group, at, moved);
         }
         at += 1;
     }
@@ -74,17 +90,24 @@ fn start(once: bool, transfer: Transfer, swing: i64) -> Transfer
 }
 
 // `transfer`, then a group with all its repeats.
-fn group_combined(driving: Driving, group: Group, transfer: Transfer) -> Transfer
-    requires { ⌜ Combinable driving ⌝ }
-    ensures { λ r. ⌜ Extends driving (groupIn driving group) transfer r ⌝ }
+fn group_combined(
+    setting: &[u8; 112],
+    frame_period: &[u64; 16],
+    driving: Driving,
+    group: usize,
+    transfer: Transfer,
+) -> Transfer
+    requires { ⌜ (group < 10) × Combinable driving ⌝ }
+    ensures { λ r. ⌜ Extends driving (groupIn driving (timedGroup (now (setting .entry)) (now («frame_period» .entry)) group)) transfer r ⌝ }
 {
-    let once = group.repeats == 1;
+    let repeats = setting::repeats(setting, group);
+    let once = repeats == 1;
     let start = start(once, transfer, driving.swing);
-    let passed = pass(driving, group, start);
+    let passed = pass(setting, frame_period, driving, group, start);
     if once {
         return passed;
     }
-    repeated(transfer, passed, group.repeats)
+    repeated(transfer, passed, repeats)
 }
 
 // A transfer whose ends have met takes every state to one, so that what it adds no longer counts.
@@ -103,16 +126,17 @@ fn settle(transfer: Transfer) -> Transfer
 
 // What the whole display does to a state: to every number what the walk does.
 pub fn transfer_whole(
-    waveform: Waveform,
+    setting: &[u8; 112],
+    frame_period: &[u64; 16],
     drive: Drive,
     swing: i64,
     positive_drives_black: bool,
 ) -> Transfer
-    requires { ⌜ Walkable waveform drive × (pos 1 ≤ℤ swing) ⌝ }
-    ensures { λ r. ⌜ r ≡ settled (wholeOf waveform drive swing «positive_drives_black») ⌝ }
-    ensures { λ r. ⌜ Alike r (wholeOf waveform drive swing «positive_drives_black») ⌝ }
+    requires { ⌜ Walkable (waveformOf (now setting) (now «frame_period»)) drive × (pos 1 ≤ℤ swing) ⌝ }
+    ensures { λ r. ⌜ r ≡ settled (wholeOf (waveformOf (now (setting .entry)) (now («frame_period» .entry))) drive swing «positive_drives_black») ⌝ }
+    ensures { λ r. ⌜ Alike r (wholeOf (waveformOf (now (setting .entry)) (now («frame_period» .entry))) drive swing «positive_drives_black») ⌝ }
 {
-    let levels = waveform.levels;
+    let levels = Levels::from_setting(setting);
     let driving = Driving {
         levels,
         drive,
@@ -122,9 +146,8 @@ pub fn transfer_whole(
     let mut moved = Transfer::identity(swing);
     let mut k: usize = 0;
     while k < 10 {
-        let group = waveform.groups[k];
-        if !walk::phases::idle(group) {
-            moved = group_combined(driving, group, moved);
+        if !groups::idle(setting, k) {
+            moved = group_combined(setting, frame_period, driving, k, moved);
         }
         k += 1;
     }
@@ -133,18 +156,24 @@ pub fn transfer_whole(
 
 // What the display does to a state: the whole of it combined, or walked up to a cut.
 pub fn transfer(
-    waveform: Waveform,
+    setting: &[u8; 112],
+    frame_period: &[u64; 16],
     drive: Drive,
     swing: i64,
     positive_drives_black: bool,
     until: Until,
 ) -> Transfer
-    requires { ⌜ Walkable waveform drive × (pos 1 ≤ℤ swing) ⌝ }
-    ensures { λ r. ⌜ r ≡ combinedOf waveform drive swing «positive_drives_black» until ⌝ }
-    ensures { λ r. ⌜ Alike r (transferOf waveform drive swing «positive_drives_black» until) ⌝ }
+    requires { ⌜ Walkable (waveformOf (now setting) (now «frame_period»)) drive × (pos 1 ≤ℤ swing) ⌝ }
+    ensures { λ r. ⌜ r ≡ combinedOf (waveformOf (now (setting .entry)) (now («frame_period» .entry))) drive swing «positive_drives_black» until ⌝ }
+    ensures { λ r. ⌜ Alike r (transferOf (waveformOf (now (setting .entry)) (now («frame_period» .entry))) drive swing «positive_drives_black» until) ⌝ }
 {
     match until {
-        Until::Whole => transfer_whole(waveform, drive, swing, positive_drives_black),
-        Until::Cut(cut) => walk::transfer_cut(waveform, drive, swing, positive_drives_black, cut),
+        Until::Whole => {
+            transfer_whole(setting, frame_period, drive, swing, positive_drives_black)
+        }
+        Until::Cut(cut) => {
+            let decoded = setting::from_setting(setting, frame_period);
+            walk::transfer_cut(decoded, drive, swing, positive_drives_black, cut)
+        }
     }
 }

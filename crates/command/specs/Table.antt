@@ -2,7 +2,7 @@
 use Prim.Native.Nat.{ℕ}
 use mathlib.Core.Bool.{Bool, true, false}
 use mathlib.Core.List.{List, [], _∷_}
-use Rattle.numbers.specs.Rows.{Row, lookup}
+use Rattle.numbers.specs.Rows.{TableRow, lookup}
 use Rattle.device.specs.declared.Kind.{Kind}
 use Rattle.device.specs.declared.Kind.the-variants.{Write, Read, Unsupported, Reserved}
 use Rattle.device.specs.declared.Params.the-variants.{Exactly, Between, Stream}
@@ -10,11 +10,11 @@ use Rattle.command.specs.declared.Known.{Known}
 use Rattle.command.specs.declared.Known.the-variants.{Of, Unknown}
 
 -- a row: a command and its kind
-abbrev pub row : ℕ → Kind → Row Known
+abbrev pub row : ℕ → Kind → TableRow Known
 row command k = record { number = command; gives = Of k }
 
 -- Table 7-1; 0x1A and 0x21 take one byte or two (docs/DIFFERENCES.md)
-unfoldable pub rows : List (Row Known)
+unfoldable pub rows : List (TableRow Known)
 rows =
     row 0x01 (Write (Exactly 3)) ∷
     row 0x03 (Write (Exactly 1)) ∷

@@ -9,7 +9,7 @@ use Rattle.low.specs.Command.{commandWritten}
 use Rattle.high.specs.Data.{dataWritten}
 use Rattle.driven.specs.Read.{WithRead, dataRead}
 use Rattle.driven.specs.declared.ReadAnswer.{ReadAnswer}
-use Rattle.query.specs.declared.Answer.{Answer}
+use Rattle.query.specs.declared.CallAnswer.{CallAnswer}
 use Rattle.ram.specs.declared.Byte.{Byte}
 use Rattle.ram.specs.declared.Byte.the-variants.{Nothing}
 use Rattle.event.specs.declared.Event.{Event}
@@ -25,7 +25,7 @@ abbrev pub told : World → Byte → Told
 told w byte = record { left = w; byte = byte }
 
 -- an event that is no read gives no byte
-abbrev pub silent : Answer → ReadAnswer
+abbrev pub silent : CallAnswer → ReadAnswer
 silent a = record { refusal = a .refusal; state = a .state; byte = Nothing }
 
 -- what a call leaves of its own part, put back into the whole, and no byte

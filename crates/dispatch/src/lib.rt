@@ -6,12 +6,12 @@ ghost use Rattle.world.specs.World.{world};
 ghost use Rattle.dispatch.specs.Dispatch.{told, silent, dispatched};
 use device::Ssd1677;
 use event::Event;
-use query::Answer;
+use query::CallAnswer;
 use ram::Byte;
 use ssd1677::ReadAnswer;
 
 // An event that is no read gives no byte.
-fn silent(answer: Answer) -> ReadAnswer
+fn silent(answer: CallAnswer) -> ReadAnswer
     ensures { λ r. ⌜ r ≡ silent answer ⌝ }
 {
     let refusal = answer.refusal;

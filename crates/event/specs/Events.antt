@@ -3,16 +3,16 @@ use mathlib.Core.Bool.{not}
 use mathlib.Core.List.{List, [], _∷_}
 use Prim.Native.Nat.{ℕ}
 use lib.Dec.{eqb}
-use Rattle.numbers.specs.Rows.{Row, lookup}
+use Rattle.numbers.specs.Rows.{TableRow, lookup}
 use Rattle.event.specs.declared.Event.{Event}
 use Rattle.event.specs.declared.Event.the-variants.{Command, Data, Read, Reset, Advance}
 
 -- a row of the table
-abbrev pub row : ℕ → Event → Row Event
+abbrev pub row : ℕ → Event → TableRow Event
 row kind event = record { number = kind; gives = event }
 
 -- the kinds 1 to 4
-abbrev pub rows : ℕ → ℕ → List (Row Event)
+abbrev pub rows : ℕ → ℕ → List (TableRow Event)
 rows time value =
     row 1 (Command time value) ∷
     row 2 (Data time value) ∷

@@ -2,7 +2,7 @@
 use mathlib.Core.List.{List}
 use Prim.Native.Nat.{ℕ}
 use lib.ListN.{drop}
-use Rattle.otp.specs.declared.Entry.the-variants.{At}
+use Rattle.otp.specs.declared.FoundEntry.the-variants.{At}
 use Rattle.otp.specs.Waveform.{partOf}
 use Rattle.reference.specs.Reference.{referenceTable}
 

@@ -15,7 +15,6 @@ use Rattle.glass.specs.Greys.{grayZ}
 use Rattle.glass.specs.Transfers.{applyT}
 use Rattle.waveform.specs.declared.Drive.{Drive}
 use Rattle.waveform.specs.declared.Drive.the-variants.{Lut}
-use Rattle.waveform.specs.Setting.{waveformOf}
 use Rattle.panel.specs.declared.Panel.{Panel}
 use Rattle.finish.specs.declared.refresh.Refresh.{Refresh}
 use Rattle.panel.specs.Border.{borderDrive}
@@ -49,9 +48,9 @@ table-is r luts states ts alike =
 
 -- ---- the whole end
 abbrev refreshIn : Ending → ℤ → Refresh
-refreshIn e swing = refreshOf (waveformOf (e .display .setting) (e .periods)) swing (e .black) (e .until)
+refreshIn e swing = refreshOf (e .display .setting) (e .periods) swing (e .black) (e .until)
 
--- the decoded waveform's transfer is the setting's
+-- its transfers are those of the display's setting
 transfer-is : (e : Ending) (swing : ℤ) (drive : Drive) → transferIn (refreshIn e swing) drive ≡ transferBy e swing drive
 unfolding transferIn transferBy
 transfer-is e swing drive = refl

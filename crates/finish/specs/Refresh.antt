@@ -12,6 +12,7 @@ use Rattle.waveform.specs.declared.Drive.{Drive}
 use Rattle.waveform.specs.declared.Drive.the-variants.{Lut}
 use Rattle.waveform.specs.declared.Until.{Until}
 use Rattle.waveform.specs.declared.Waveform.{Waveform}
+use Rattle.waveform.specs.Setting.{waveformOf}
 use Rattle.waveform.specs.Phases.{Takes}
 use Rattle.waveform.specs.Walks.{Walkable, transferOf}
 use Rattle.combine.specs.Settled.{Alike}
@@ -21,13 +22,17 @@ use Rattle.finish.specs.declared.refresh.Refresh.{Refresh}
 abbrev pub AllWalkable : Waveform → Type 0
 AllWalkable w = (drive : Drive) → Takes drive → Walkable w drive
 
--- a display of a waveform, by the swing, the sign and how much of it counts
-abbrev pub refreshOf : Waveform → ℤ → Bool → Until → Refresh
-refreshOf w swing black until = record { waveform = w; swing = swing; «positive_drives_black» = black; until = until }
+-- a display of a setting, by the period of each frame-rate code, the swing, the sign and how much of it counts
+abbrev pub refreshOf : List ℕ → List ℕ → ℤ → Bool → Until → Refresh
+refreshOf s p swing black until = record { setting = s; «frame_period» = p; swing = swing; «positive_drives_black» = black; until = until }
+
+-- its waveform
+abbrev pub waveformIn : Refresh → Waveform
+waveformIn r = waveformOf (r .setting) (r .«frame_period»)
 
 -- the transfer of a drive
 unfoldable pub transferIn : Refresh → Drive → Transfer
-transferIn r drive = transferOf (r .waveform) drive (r .swing) (r .«positive_drives_black») (r .until)
+transferIn r drive = transferOf (waveformIn r) drive (r .swing) (r .«positive_drives_black») (r .until)
 
 -- the transfer that a table has for a LUT
 abbrev pub inTable : List Transfer → ℕ → Transfer
@@ -39,12 +44,12 @@ FourAlike r ts = (lut : ℕ) → lut < 4 → Alike (inTable ts lut) (transferIn 
 
 -- what the transfers of a display ask: a waveform that any drive may walk, and a swing from 1 on
 pub record Refreshable (r : Refresh) : Type 0 where
-  pub walkable : AllWalkable (r .waveform)
+  pub walkable : AllWalkable (waveformIn r)
   pub some : pos 1 ≤ℤ r .swing
 
 -- what refilling the pixels asks
 pub record Repaintable (r : Refresh) (luts : List ℕ) (states : List ℤ) (pixels : List ℕ) : Type 0 where
-  pub walkable : AllWalkable (r .waveform)
+  pub walkable : AllWalkable (waveformIn r)
   pub some : pos 1 ≤ℤ r .swing
   pub luts-long : length luts ≡ length states
   pub pixels-long : length pixels ≡ length states

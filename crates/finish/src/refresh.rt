@@ -7,29 +7,28 @@ use panel::Display;
 use panel::Panel;
 use waveform::Drive;
 use waveform::Until;
-use waveform::Waveform;
 ghost use mathlib.Core.Path.{_≡_};
 ghost use Prim.Native.Nat.{_<_};
 ghost use lib.IntN.{pos};
 ghost use lib.Signed.{_≤ℤ_};
 ghost use Rattle.waveform.specs.Walks.{Walkable};
-ghost use Rattle.waveform.specs.Setting.{waveformOf};
 ghost use Rattle.combine.specs.Settled.{Alike};
 ghost use Rattle.panel.specs.Border.{borderDrive};
 ghost use Rattle.panel.specs.Pixels.{stateBy, statesBy, grays};
 ghost use Rattle.panel.specs.Finish.{borderBy, withBorder};
-ghost use Rattle.finish.specs.Refresh.{FourAlike, Refreshable, Repaintable, refreshOf, transferIn, inTable};
+ghost use Rattle.finish.specs.Refresh.{FourAlike, Refreshable, Repaintable, refreshOf, waveformIn, transferIn, inTable};
 ghost use Rattle.finish.specs.Moves.{Movable, MovesOf};
 
 // What the transfers of a display are made from.
 pub struct Refresh {
-    pub waveform: Waveform,
+    pub setting: [u8; 112],
+    pub frame_period: [u64; 16],
     pub swing: i64,
     pub positive_drives_black: bool,
     pub until: Until,
 }
 
-// The display's 112 setting bytes decoded, with the frame period of each frame-rate code.
+// The display's 112 setting bytes, with the frame period of each frame-rate code.
 pub(crate) fn refresh_of(
     panel: Panel,
     display: Display,
@@ -37,12 +36,12 @@ pub(crate) fn refresh_of(
     frame_period: [u64; 16],
     until: Until,
 ) -> Refresh
-    ensures { λ r. ⌜ r ≡ refreshOf (waveformOf (display .setting) «frame_period») (panel .swing) «positive_drives_black» until ⌝ }
+    ensures { λ r. ⌜ r ≡ refreshOf (display .setting) «frame_period» (panel .swing) «positive_drives_black» until ⌝ }
 {
     let setting = display.setting;
-    let waveform = setting::from_setting(&setting, &frame_period);
     Refresh {
-        waveform,
+        setting,
+        frame_period,
         swing: panel.swing,
         positive_drives_black,
         until,
@@ -50,14 +49,16 @@ pub(crate) fn refresh_of(
 }
 
 fn transfer(refresh: Refresh, drive: Drive) -> Transfer
-    requires { ⌜ Walkable (refresh .waveform) drive × (pos 1 ≤ℤ refresh .swing) ⌝ }
+    requires { ⌜ Walkable (waveformIn refresh) drive × (pos 1 ≤ℤ refresh .swing) ⌝ }
     ensures { λ r. ⌜ Alike r (transferIn refresh drive) ⌝ }
     ensures { λ r. ⌜ pos 0 ≤ℤ r .hi ⌝ }
 {
-    let waveform = refresh.waveform;
+    let setting = refresh.setting;
+    let frame_period = refresh.frame_period;
     let until = refresh.until;
     combine::transfer(
-        waveform,
+        &setting,
+        &frame_period,
         drive,
         refresh.swing,
         refresh.positive_drives_black,

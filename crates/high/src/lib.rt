@@ -6,7 +6,7 @@ ghost use Rattle.world.specs.World.{withPlanes};
 ghost use Rattle.high.specs.Data.{dataWritten};
 use device::Ssd1677;
 use device::part;
-use query::Answer;
+use query::CallAnswer;
 
 // A byte with D/C# high, written by the MCU. A byte of RAM data, of which a frame has 48,000, is done here at once.
 pub fn write_data(
@@ -19,7 +19,7 @@ pub fn write_data(
     log: &mut [u8],
     time: u64,
     byte: u8,
-) -> Answer
+) -> CallAnswer
     ensures { λ r. ⌜ outcome (refusalNumber (r .refusal)) (withPlanes (r .state) (now (states .exit)) (now (pixels .exit)) (now («black_white» .exit)) (now (red .exit)) (now (log .exit))) ≡ dataWritten (now (luts .entry)) time byte (withPlanes state (now (states .entry)) (now (pixels .entry)) (now («black_white» .entry)) (now (red .entry)) (now (log .entry))) ⌝ }
 {
     let lengths = guard_lengths::planes_log_lent(
@@ -37,14 +37,14 @@ pub fn write_data(
             let step = data::stream(moved, black_white, red, byte);
             if step.done {
                 let state = part::set_pointed(moved, step.counter, step.bus);
-                return Answer { refusal, state };
+                return CallAnswer { refusal, state };
             }
             let state = data::write_other(moved, black_white, red, log, byte);
-            return Answer { refusal, state };
+            return CallAnswer { refusal, state };
         }
         let present = clock::advance(state, states, luts, pixels, time);
         let state = data::write(present, black_white, red, log, byte);
-        return Answer { refusal, state };
+        return CallAnswer { refusal, state };
     }
-    Answer { refusal, state }
+    CallAnswer { refusal, state }
 }

@@ -11,7 +11,7 @@ use config::Ssd1677Config;
 use config::Ssd1677Timing;
 use glass::Optics;
 use glass::Provenance;
-use otp::Entry;
+use otp::FoundEntry;
 
 // Bytes of a table at most: what a question holds after the fields and the length.
 const TABLE: usize = question::NUMBERS - 55;
@@ -54,14 +54,14 @@ fn mode(numbers: &[u64]) -> DisplayMode {
     DisplayMode::One
 }
 
-fn found_in(table: &[u8], length: usize, mode: DisplayMode, register: u16) -> Entry {
+fn found_in(table: &[u8], length: usize, mode: DisplayMode, register: u16) -> FoundEntry {
     if length <= table.len() {
         return otp::find_entry(&table[0..length], mode, register);
     }
-    Entry::Nothing
+    FoundEntry::Nothing
 }
 
-fn found(table: &[u8; TABLE], length: usize, mode: DisplayMode, register: u16) -> Entry {
+fn found(table: &[u8; TABLE], length: usize, mode: DisplayMode, register: u16) -> FoundEntry {
     found_in(table, length, mode, register)
 }
 
@@ -74,11 +74,11 @@ fn find_waveform(text: &mut [u8; text::ROOM], at: usize, numbers: &[u64]) -> usi
     entries(&mut table, count, numbers);
     let mode = mode(numbers);
     match found(&table, 118 * count, mode, take::word(numbers, 1)) {
-        Entry::At(entry) => {
+        FoundEntry::At(entry) => {
             let next = text::there(text, at);
             text::number(text, next, entry as u64)
         }
-        Entry::Nothing => text::none(text, at),
+        FoundEntry::Nothing => text::none(text, at),
     }
 }
 

@@ -125,13 +125,13 @@ fn driven(
     let periods = take::periods(numbers, 6);
     let setting = take::setting(numbers, 22);
     if lasting(periods) {
-        let waveform = setting::from_setting(&setting, &periods);
         if !combined {
+            let waveform = setting::from_setting(&setting, &periods);
             let walked = walk::transfer(waveform, drive, swing, black, until);
             return transfers::put(text, at, walked);
         }
         if 1 <= swing {
-            let transfer = combine::transfer(waveform, drive, swing, black, until);
+            let transfer = combine::transfer(&setting, &periods, drive, swing, black, until);
             return transfers::put(text, at, transfer);
         }
     }

@@ -5,7 +5,7 @@ use Prim.Native.Nat.{ℕ, _+_, _^_}
 use lib.Dec.{eqb, ltb}
 use lib.ListN.{length, take, drop, getD}
 use Rattle.numbers.specs.Choice.{pick}
-use Rattle.numbers.specs.Rows.{Row, lookup}
+use Rattle.numbers.specs.Rows.{TableRow, lookup}
 use Rattle.column.specs.Reading.{readOf}
 use Rattle.column.specs.declared.read.Column.{Column}
 use Rattle.column.specs.declared.read.Column.the-variants.{Number, Other}
@@ -35,11 +35,11 @@ unfoldable pub within : ℕ → ℕ → Line → Line
 within n limit line = pick (ltb n limit) line Bad
 
 -- a row of the table
-abbrev pub row : ℕ → Line → Row Line
+abbrev pub row : ℕ → Line → TableRow Line
 row kind line = record { number = kind; gives = line }
 
 -- the format's table, kind by kind; "0" in it is a number below 1, "byte" one below 256, a truth value one below 2
-unfoldable pub rows : ℕ → ℕ → List (Row Line)
+unfoldable pub rows : ℕ → ℕ → List (TableRow Line)
 rows number value =
     row 1 (within value 256 (Event (Command number value))) ∷
     row 2 (within value 256 (Event (Data number value))) ∷

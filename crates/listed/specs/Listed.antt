@@ -4,7 +4,7 @@ use mathlib.Core.List.{List, [], _∷_}
 use Prim.Native.Nat.{ℕ, _+_, _/_, _%_}
 use lib.Dec.{eqb, ltb, leb}
 use Rattle.numbers.specs.Choice.{pick}
-use Rattle.numbers.specs.Rows.{Row, lookup}
+use Rattle.numbers.specs.Rows.{TableRow, lookup}
 use Rattle.voltage.specs.Codes.{isVoltage, sourceVoltage, vslVoltage, vcomVoltage, gateListed}
 use Rattle.device.specs.declared.Registers.{Registers}
 
@@ -44,7 +44,7 @@ windowListed start end last index byte =
     pick (eqb (index % 2) 0) true (ltb byte 4 && leb (pick (ltb index 2) start end) last)
 
 -- the commands with values that are not listed; of 0x29 bits 7, 5 and 4 are 0 and bit 6 is 1
-abbrev pub listedRows : Registers → ℕ → ℕ → List (Row Bool)
+abbrev pub listedRows : Registers → ℕ → ℕ → List (TableRow Bool)
 listedRows r index byte =
     record { number = 0x01; gives = driverListed (r .mux) index byte } ∷
     record { number = 0x03; gives = gateListed byte } ∷

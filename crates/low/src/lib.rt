@@ -6,7 +6,7 @@ ghost use Rattle.world.specs.World.{withBuffers, lent};
 ghost use Rattle.activation.specs.Activation.{Activatable};
 ghost use Rattle.low.specs.Command.{commandTaken, commandWritten};
 use device::Ssd1677;
-use query::Answer;
+use query::CallAnswer;
 
 // The clock moves, the last command is closed, and the new one begins.
 fn take_command(
@@ -54,7 +54,7 @@ pub fn write_command(
     otp: &[u8],
     time: u64,
     command: u8,
-) -> Answer
+) -> CallAnswer
     ensures { λ r. ⌜ outcome (refusalNumber (r .refusal)) (withBuffers (r .state) (now (states .exit)) (now (luts .exit)) (now (pixels .exit)) (now (log .exit))) ≡ commandWritten (lent (now («black_white» .entry)) (now (red .entry)) (now (gates .entry)) (now (otp .entry))) time command (withBuffers state (now (states .entry)) (now (luts .entry)) (now (pixels .entry)) (now (log .entry))) ⌝ }
 {
     let lengths = guard_lengths::all_lent(
@@ -81,7 +81,7 @@ pub fn write_command(
             time,
             command,
         );
-        return Answer { refusal, state };
+        return CallAnswer { refusal, state };
     }
-    Answer { refusal, state }
+    CallAnswer { refusal, state }
 }

@@ -4,14 +4,14 @@ use Prim.Native.Nat.{ℕ}
 use mathlib.Core.Path.{_≡_, refl}
 use mathlib.Core.List.{List, [], _∷_}
 use borrow.Author.Tests.{ne-eqb}
-use Rattle.numbers.specs.Rows.{Row, lookup}
+use Rattle.numbers.specs.Rows.{TableRow, lookup}
 
 -- K, and that n is no row's number, as a `match`'s `rest` nests it
-abbrev pub Rest : {A : Type 0} → ℕ → Type 0 → List (Row A) → Type 0
+abbrev pub Rest : {A : Type 0} → ℕ → Type 0 → List (TableRow A) → Type 0
 Rest n K [] = K
 Rest n K (r ∷ rs) = Rest n (K × (n ≡ r .number → ⊥)) rs
 
-pub miss : {A : Type 0} (none : A) (n : ℕ) (rs : List (Row A)) (K : Type 0) → Rest n K rs → K × (none ≡ lookup none n rs)
+pub miss : {A : Type 0} (none : A) (n : ℕ) (rs : List (TableRow A)) (K : Type 0) → Rest n K rs → K × (none ≡ lookup none n rs)
 unfolding lookup
 miss none n [] K h = (h, refl)
 miss none n (r ∷ rs) K h =

@@ -14,8 +14,8 @@ use Rattle.config.specs.declared.DisplayMode.{DisplayMode}
 use Rattle.config.specs.Mode.{modeNumber}
 use Rattle.config.specs.Temperature.{sixteenthsOf}
 use Rattle.config.proofs.Registers.{ranged, low-bits, above-coldest}
-use Rattle.otp.specs.declared.Entry.{Entry}
-use Rattle.otp.specs.declared.Entry.the-variants.{At, Nothing}
+use Rattle.otp.specs.declared.FoundEntry.{FoundEntry}
+use Rattle.otp.specs.declared.FoundEntry.the-variants.{At, Nothing}
 use Rattle.otp.specs.Table.{entryCount, modeAt, lowerAt, upperAt, badTable}
 use Rattle.otp.specs.Search.{lastOf, Last}
 use Rattle.otp.specs.Waveform.{isColdest, covers, foundEntry}
@@ -53,7 +53,7 @@ module _ (otp : List ℕ) (mode : DisplayMode) (register : ℕ) where
   pub found-low-bits : foundEntry otp mode (register % 4096) ≡ foundEntry otp mode register
   unfolding foundEntry
   found-low-bits =
-      ap (λ (e : Entry). pick (badTable otp) Nothing e)
+      ap (λ (e : FoundEntry). pick (badTable otp) Nothing e)
       (last-same (covers otp mode (register % 4096)) (covers otp mode register) covers-low-bits (entryCount otp))
 
   -- the Rust's rule: the entry is of the mode, and lower < T ≤ upper
@@ -119,7 +119,7 @@ module _ (otp : List ℕ) (mode : DisplayMode) (register : ℕ) where
       ≡ pick (badTable otp) Nothing (lastOf coversStrictly (entryCount otp))
   unfolding foundEntry
   found-elsewhere h =
-      ap (λ (e : Entry). pick (badTable otp) Nothing e)
+      ap (λ (e : FoundEntry). pick (badTable otp) Nothing e)
       (last-same (covers otp mode register) coversStrictly (λ entry. elsewhere-same entry h) (entryCount otp))
 
   -- at −2048 it is the last of the mode that begins there; 35 comes where there is none
@@ -129,6 +129,6 @@ module _ (otp : List ℕ) (mode : DisplayMode) (register : ℕ) where
       (lastOf (λ entry. eqb (modeAt otp entry) (modeNumber mode) && isColdest (lowerAt otp entry)) (entryCount otp))
   unfolding foundEntry
   found-coldest h =
-      ap (λ (e : Entry). pick (badTable otp) Nothing e)
+      ap (λ (e : FoundEntry). pick (badTable otp) Nothing e)
       (last-same (covers otp mode register) (λ entry. eqb (modeAt otp entry) (modeNumber mode) && isColdest (lowerAt otp entry))
       (λ entry. coldest-covered entry h) (entryCount otp))

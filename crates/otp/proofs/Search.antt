@@ -7,7 +7,7 @@ use native.Mathlib.Numerals.{add-one}
 use native.Mathlib.Nat.{not-suc-le-zero, le-of-suc-le-suc, eq-or-lt-of-le}
 use native.Mathlib.Omega.{arith}
 use Rattle.numbers.specs.Choice.{pick}
-use Rattle.otp.specs.declared.Entry.the-variants.{At, Nothing}
+use Rattle.otp.specs.declared.FoundEntry.the-variants.{At, Nothing}
 use Rattle.otp.specs.Search.{anyOf, lastOf, Last}
 
 module _ (p : ℕ → Bool) where

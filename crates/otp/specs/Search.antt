@@ -3,8 +3,8 @@ use mathlib.Core.Path.{_≡_}
 use mathlib.Core.Bool.{Bool, true, false, _||_}
 use Prim.Native.Nat.{ℕ, zero, suc, _<_}
 use Rattle.numbers.specs.Choice.{pick}
-use Rattle.otp.specs.declared.Entry.{Entry}
-use Rattle.otp.specs.declared.Entry.the-variants.{At, Nothing}
+use Rattle.otp.specs.declared.FoundEntry.{FoundEntry}
+use Rattle.otp.specs.declared.FoundEntry.the-variants.{At, Nothing}
 
 -- one of the numbers below n passes p
 unfoldable pub anyOf : (ℕ → Bool) → ℕ → Bool
@@ -12,7 +12,7 @@ anyOf p zero = false
 anyOf p (suc k) = anyOf p k || p k
 
 -- the last of the numbers below n that passes p
-unfoldable pub lastOf : (ℕ → Bool) → ℕ → Entry
+unfoldable pub lastOf : (ℕ → Bool) → ℕ → FoundEntry
 lastOf p zero = Nothing
 lastOf p (suc k) = pick (p k) (At k) (lastOf p k)
 

@@ -9,8 +9,8 @@ use Rattle.numbers.specs.Choice.{pick}
 use Rattle.config.specs.declared.DisplayMode.{DisplayMode}
 use Rattle.config.specs.Mode.{modeNumber}
 use Rattle.config.specs.Temperature.{sixteenthsOf}
-use Rattle.otp.specs.declared.Entry.{Entry}
-use Rattle.otp.specs.declared.Entry.the-variants.{At, Nothing}
+use Rattle.otp.specs.declared.FoundEntry.{FoundEntry}
+use Rattle.otp.specs.declared.FoundEntry.the-variants.{At, Nothing}
 use Rattle.otp.specs.Table.{entryBytes, entryCount, modeAt, lowerAt, upperAt, badTable}
 use Rattle.otp.specs.Search.{lastOf}
 
@@ -29,10 +29,10 @@ covers otp mode register entry =
     && leZ (sixteenthsOf register) (sixteenthsOf (upperAt otp entry))
 
 -- "The last match will be selected"; none of a table that 12 refuses
-unfoldable pub foundEntry : List ℕ → DisplayMode → ℕ → Entry
+unfoldable pub foundEntry : List ℕ → DisplayMode → ℕ → FoundEntry
 foundEntry otp mode register = pick (badTable otp) Nothing (lastOf (covers otp mode register) (entryCount otp))
 
 -- the bytes of an entry
-abbrev pub partOf : List ℕ → Entry → List ℕ
+abbrev pub partOf : List ℕ → FoundEntry → List ℕ
 partOf otp (At entry) = take entryBytes (drop (entryBytes * entry) otp)
 partOf otp Nothing = []

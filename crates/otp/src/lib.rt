@@ -71,7 +71,7 @@ pub fn table_error(otp: &[u8]) -> ConfigError
 }
 
 // The number of an entry.
-pub enum Entry {
+pub enum FoundEntry {
     At(usize),
     Nothing,
 }
@@ -112,26 +112,26 @@ fn covers_register(otp: &[u8], mode: DisplayMode, register: u16, entry: usize) -
     (otp[at] == byte) & reached & (temperature <= upper)
 }
 
-fn last_covering(otp: &[u8], mode: DisplayMode, register: u16) -> Entry
+fn last_covering(otp: &[u8], mode: DisplayMode, register: u16) -> FoundEntry
     ensures { λ r. ⌜ r ≡ lastOf (covers (now (otp .entry)) mode register) (entryCount (now (otp .entry))) ⌝ }
 {
     let mut entry = otp.len() / ENTRY_BYTES;
     while 0 < entry {
         entry -= 1;
         if covers_register(otp, mode, register, entry) {
-            return Entry::At(entry);
+            return FoundEntry::At(entry);
         }
     }
-    Entry::Nothing
+    FoundEntry::Nothing
 }
 
 // The waveform the controller loads for the mode at the temperature: the last setting of that mode whose range holds it ("The last match
 // will be selected", datasheet §6.9).
-pub fn find_entry(otp: &[u8], mode: DisplayMode, register: u16) -> Entry
+pub fn find_entry(otp: &[u8], mode: DisplayMode, register: u16) -> FoundEntry
     ensures { λ r. ⌜ r ≡ foundEntry (now (otp .entry)) mode register ⌝ }
 {
     if is_bad_table(otp) {
-        return Entry::Nothing;
+        return FoundEntry::Nothing;
     }
     last_covering(otp, mode, register)
 }
@@ -140,7 +140,7 @@ pub fn find_entry(otp: &[u8], mode: DisplayMode, register: u16) -> Entry
 pub fn find_waveform(otp: &[u8], mode: DisplayMode, register: u16) -> &[u8]
     ensures { λ r. ⌜ now r ≡ partOf (now (otp .entry)) (foundEntry (now (otp .entry)) mode register) ⌝ }
 {
-    let Entry::At(entry) = find_entry(otp, mode, register) else {
+    let FoundEntry::At(entry) = find_entry(otp, mode, register) else {
         return &otp[0..0];
     };
     let at = ENTRY_BYTES * entry;

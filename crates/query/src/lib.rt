@@ -11,7 +11,7 @@ use diagnostic::Journal;
 use guard::Refusal;
 
 // The state that a call leaves, or the one that it was handed and refuses.
-pub struct Answer {
+pub struct CallAnswer {
     pub refusal: Refusal,
     pub state: Ssd1677,
 }
@@ -42,16 +42,16 @@ fn with_ambient(config: Ssd1677Config, register: u16) -> Ssd1677Config
 }
 
 // Changes what the internal sensor reads, from the next temperature load; the low twelve bits count.
-pub fn set_ambient(state: Ssd1677, register: u16) -> Answer
+pub fn set_ambient(state: Ssd1677, register: u16) -> CallAnswer
     ensures { λ r. ⌜ outcome (refusalNumber (r .refusal)) (r .state) ≡ ambientSet state register ⌝ }
 {
     let refusal = check_state(state);
     if guard::is_accepted(refusal) {
         let config = with_ambient(state.config, register);
         let state = part::set_config(state, config);
-        return Answer { refusal, state };
+        return CallAnswer { refusal, state };
     }
-    Answer { refusal, state }
+    CallAnswer { refusal, state }
 }
 
 fn none_waiting(journal: Journal) -> Journal

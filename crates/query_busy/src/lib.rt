@@ -15,7 +15,7 @@ pub struct Level {
 }
 
 // The next instant at which something changes without a call.
-pub struct Next {
+pub struct NextDeadline {
     pub refusal: Refusal,
     pub deadline: Deadline,
 }
@@ -41,14 +41,14 @@ pub fn busy_pin(state: Ssd1677, time: u64) -> Level
 }
 
 // When BUSY falls, or a display ends and its image is published.
-pub fn next_deadline(state: Ssd1677) -> Next
+pub fn next_deadline(state: Ssd1677) -> NextDeadline
     ensures { λ r. ⌜ outcome (refusalNumber (r .refusal)) (r .deadline) ≡ deadlineAsked state ⌝ }
 {
     let refusal = check_state(state);
     if guard::is_accepted(refusal) {
         let deadline = busy::deadline(state);
-        return Next { refusal, deadline };
+        return NextDeadline { refusal, deadline };
     }
     let deadline = Deadline::Never;
-    Next { refusal, deadline }
+    NextDeadline { refusal, deadline }
 }

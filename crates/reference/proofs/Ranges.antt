@@ -18,7 +18,7 @@ use Rattle.config.specs.Answer.{accepted, firstOf}
 use Rattle.config.specs.Mode.{modeNumber}
 use Rattle.config.specs.Temperature.{warmest, sixteenthsOf, registerOf}
 use Rattle.config.proofs.Registers.{ranged, above-coldest}
-use Rattle.otp.specs.declared.Entry.the-variants.{At, Nothing}
+use Rattle.otp.specs.declared.FoundEntry.the-variants.{At, Nothing}
 use Rattle.otp.specs.Table.{entryCount, modeAt, lowerAt, upperAt, badEntry, badTable, unlistedVoltage, tableTest, voltagesTest}
 use Rattle.otp.specs.Search.{anyOf, lastOf}
 use Rattle.otp.specs.Waveform.{isColdest, reaches, covers, foundEntry}

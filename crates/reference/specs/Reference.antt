@@ -11,8 +11,8 @@ use Rattle.config.specs.declared.DisplayMode.{DisplayMode}
 use Rattle.config.specs.declared.DisplayMode.the-variants.{One, Two}
 use Rattle.config.specs.Mode.{modeNumber}
 use Rattle.config.specs.Temperature.{coldest, warmest, registerOf}
-use Rattle.otp.specs.declared.Entry.{Entry}
-use Rattle.otp.specs.declared.Entry.the-variants.{At}
+use Rattle.otp.specs.declared.FoundEntry.{FoundEntry}
+use Rattle.otp.specs.declared.FoundEntry.the-variants.{At}
 
 -- a line of the table: the mode, the range, for each group the frames of phase A and those of phase B at VSS, and phase A's codes of LUT0 to LUT3
 pub record Setting : Type 0 where
@@ -117,6 +117,6 @@ unfoldable pub referenceTable : List ℕ
 referenceTable = entryOf full ++ entryOf warm ++ entryOf differential
 
 -- the table's ranges: mode 1 has setting 0 up to 50 °C and setting 1 above, and mode 2 has setting 2, −128 °C among them (#107)
-abbrev pub settingFor : DisplayMode → ℤ → Entry
+abbrev pub settingFor : DisplayMode → ℤ → FoundEntry
 settingFor One t = pick (leZ t (celsius 50)) (At 0) (At 1)
 settingFor Two t = At 2

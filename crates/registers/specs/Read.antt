@@ -5,7 +5,7 @@ use Prim.Native.Nat.{ℕ, _+_, _*_, _/_, _%_}
 use lib.Dec.{ltb}
 use lib.ListN.{getD, drop}
 use Rattle.numbers.specs.Choice.{pick}
-use Rattle.numbers.specs.Rows.{Row, lookup}
+use Rattle.numbers.specs.Rows.{TableRow, lookup}
 use Rattle.ram.specs.declared.Byte.{Byte}
 use Rattle.ram.specs.declared.Byte.the-variants.{Is, Nothing}
 use Rattle.device.specs.declared.Registers.{Registers}
@@ -37,7 +37,7 @@ abbrev pub statusByte : Status → Bool → ℕ
 statusByte s busy = pick (s .«hv_not_ready») 32 0 + pick (s .«vci_low») 16 0 + pick busy 4 0 + 1
 
 -- the read commands of the registers; 0x2E gives the ten bytes of 0x38
-abbrev pub readRows : Registers → Status → Bool → List (Row ReadBytes)
+abbrev pub readRows : Registers → Status → Bool → List (TableRow ReadBytes)
 readRows r s busy =
     record { number = 0x1B; gives = answer 2 (temperatureBytes r) } ∷
     record { number = 0x2D; gives = answer 11 (optionBytes r) } ∷

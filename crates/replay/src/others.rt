@@ -8,10 +8,10 @@ use crate::run::Run;
 use crate::say;
 use crate::start;
 use line::Line;
-use query::Answer;
+use query::CallAnswer;
 
 // The state that a call leaves; a refused one is said.
-fn settled(before: Progress, text: &mut [u8; text::ROOM], answer: Answer) -> Run {
+fn settled(before: Progress, text: &mut [u8; text::ROOM], answer: CallAnswer) -> Run {
     let refusal = answer.refusal;
     let state = answer.state;
     let progress = calls::refused(before, text, guard::number(refusal));

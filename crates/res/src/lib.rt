@@ -5,7 +5,7 @@ ghost use Rattle.query.specs.Outcome.{outcome};
 ghost use Rattle.world.specs.World.{withGlassLog};
 ghost use Rattle.res.specs.Line.{lineMoved};
 use device::Ssd1677;
-use query::Answer;
+use query::CallAnswer;
 
 // Drives RES#: `asserted` is the line low. Asserting it stops whatever runs (a display keeps what it drove so far) and restores the
 // registers; releasing it wakes a sleeping chip, which stays busy for the hardware-reset time.
@@ -17,7 +17,7 @@ pub fn set_reset(
     log: &mut [u8],
     time: u64,
     asserted: bool,
-) -> Answer
+) -> CallAnswer
     ensures { λ r. ⌜ outcome (refusalNumber (r .refusal)) (withGlassLog (r .state) (now (states .exit)) (now (pixels .exit)) (now (log .exit))) ≡ lineMoved (now (luts .entry)) time asserted (withGlassLog state (now (states .entry)) (now (pixels .entry)) (now (log .entry))) ⌝ }
 {
     let lengths = guard_lengths::glass_log_lent(states.len(), luts.len(), pixels.len(), log.len());
@@ -25,7 +25,7 @@ pub fn set_reset(
     if guard::is_accepted(refusal) {
         let present = clock::advance(state, states, luts, pixels, time);
         let state = reset::set_line(present, states, luts, pixels, log, asserted);
-        return Answer { refusal, state };
+        return CallAnswer { refusal, state };
     }
-    Answer { refusal, state }
+    CallAnswer { refusal, state }
 }

@@ -6,39 +6,48 @@ use waveform::Waveform;
 ghost use mathlib.Core.Path.{_≡_};
 ghost use Prim.Native.Nat.{_+_, _/_, _%_, _<_};
 ghost use Rattle.waveform.specs.Setting.{codesOf, frameRateOf, groupCodesOf, timed, waveformOf};
+ghost use Rattle.setting.specs.Word.{codesInWord};
 
-// The five LUTs' codes of a group. Literals and no loops, here and of the ten groups: the compiler then writes each code once,
-// in its place of the waveform that is handed back.
+// The four codes of a byte, each in a byte of its own, that of phase 0 lowest: of four copies of the byte, ten bits apart, two
+// bits count in each.
+fn spread(byte: u8) -> u64
+    ensures { λ r. ⌜ r ≡ codesInWord byte ⌝ }
+{
+    ((numbers::wide(byte) * 0x4010_0401) >> 6) & 0x0303_0303
+}
+
+// The five LUTs' codes of a group. Literals and no loops, here and of the ten groups, and the codes as the bytes of a word: the
+// compiler then writes sixteen codes at once, in their place of the waveform that is handed back.
 fn codes_of(setting: &[u8; 112], group: usize) -> [u8; 20]
     requires { ⌜ group < 10 ⌝ }
     ensures { λ r. ⌜ r ≡ codesOf (now (setting .entry)) group ⌝ }
 {
-    let lut0 = setting[group];
-    let lut1 = setting[10 + group];
-    let lut2 = setting[20 + group];
-    let lut3 = setting[30 + group];
-    let lut4 = setting[40 + group];
+    let lut0 = spread(setting[group]);
+    let lut1 = spread(setting[10 + group]);
+    let lut2 = spread(setting[20 + group]);
+    let lut3 = spread(setting[30 + group]);
+    let lut4 = spread(setting[40 + group]);
     [
-        (lut0 >> 6) & 3,
-        (lut0 >> 4) & 3,
-        (lut0 >> 2) & 3,
-        lut0 & 3,
-        (lut1 >> 6) & 3,
-        (lut1 >> 4) & 3,
-        (lut1 >> 2) & 3,
-        lut1 & 3,
-        (lut2 >> 6) & 3,
-        (lut2 >> 4) & 3,
-        (lut2 >> 2) & 3,
-        lut2 & 3,
-        (lut3 >> 6) & 3,
-        (lut3 >> 4) & 3,
-        (lut3 >> 2) & 3,
-        lut3 & 3,
-        (lut4 >> 6) & 3,
-        (lut4 >> 4) & 3,
-        (lut4 >> 2) & 3,
-        lut4 & 3,
+        (lut0 % 256) as u8,
+        (lut0 / 256 % 256) as u8,
+        (lut0 / 65536 % 256) as u8,
+        (lut0 / 16777216 % 256) as u8,
+        (lut1 % 256) as u8,
+        (lut1 / 256 % 256) as u8,
+        (lut1 / 65536 % 256) as u8,
+        (lut1 / 16777216 % 256) as u8,
+        (lut2 % 256) as u8,
+        (lut2 / 256 % 256) as u8,
+        (lut2 / 65536 % 256) as u8,
+        (lut2 / 16777216 % 256) as u8,
+        (lut3 % 256) as u8,
+        (lut3 / 256 % 256) as u8,
+        (lut3 / 65536 % 256) as u8,
+        (lut3 / 16777216 % 256) as u8,
+        (lut4 % 256) as u8,
+        (lut4 / 256 % 256) as u8,
+        (lut4 / 65536 % 256) as u8,
+        (lut4 / 16777216 % 256) as u8,
     ]
 }
 
@@ -67,6 +76,14 @@ fn one_more(byte: u8) -> u16
     byte as u16 + 1
 }
 
+// How many times a group runs.
+pub fn repeats(setting: &[u8; 112], group: usize) -> u16
+    requires { ⌜ group < 10 ⌝ }
+    ensures { λ r. ⌜ r ≡ groupCodesOf (now (setting .entry)) group .repeats ⌝ }
+{
+    one_more(setting[54 + 5 * group])
+}
+
 fn group_codes(setting: &[u8; 112], group: usize) -> GroupCodes
     requires { ⌜ group < 10 ⌝ }
     ensures { λ r. ⌜ r ≡ groupCodesOf (now (setting .entry)) group ⌝ }
@@ -78,7 +95,7 @@ fn group_codes(setting: &[u8; 112], group: usize) -> GroupCodes
         setting[52 + at],
         setting[53 + at],
     ];
-    let repeats = one_more(setting[54 + at]);
+    let repeats = repeats(setting, group);
     let frame_rate = frame_rate_code(setting, group);
     let codes = codes_of(setting, group);
     GroupCodes {

@@ -4,7 +4,7 @@ use Prim.Native.Char.{code}
 use Prim.Native.String.{String, [] as end, _∷_ as _then_}
 use mathlib.Core.List.{List, [], _∷_, _++_}
 use lib.ListN.{length, replicate}
-use Rattle.numbers.specs.Rows.{Row, lookup}
+use Rattle.numbers.specs.Rows.{TableRow, lookup}
 use Rattle.diagnostic.specs.declared.Name.{Name}
 
 -- the bytes of a text of ASCII characters
@@ -17,11 +17,11 @@ abbrev pub padded : List ℕ → Name
 padded text = record { bytes = text ++ replicate (44 - length text) 0; length = length text }
 
 -- a row: command and name
-abbrev pub row : ℕ → String → Row (List ℕ)
+abbrev pub row : ℕ → String → TableRow (List ℕ)
 row command name = record { number = command; gives = ascii name }
 
 -- the thirteen unsupported commands
-unfoldable pub names : List (Row (List ℕ))
+unfoldable pub names : List (TableRow (List ℕ))
 names =
     row 0x08 "Initial Code Setting OTP Program" ∷
     row 0x09 "Write Register for Initial Code Setting" ∷

@@ -5,7 +5,7 @@ ghost use Rattle.query.specs.Outcome.{outcome};
 ghost use Rattle.world.specs.World.{withGlass};
 ghost use Rattle.wait.specs.Wait.{clockMoved};
 use device::Ssd1677;
-use query::Answer;
+use query::CallAnswer;
 
 // Brings the chip to an instant: publishes a display that has ended, lowers BUSY. An instant before the latest one seen counts as the
 // latest.
@@ -15,14 +15,14 @@ pub fn advance(
     luts: &[u8],
     pixels: &mut [u8],
     time: u64,
-) -> Answer
+) -> CallAnswer
     ensures { λ r. ⌜ outcome (refusalNumber (r .refusal)) (withGlass (r .state) (now (states .exit)) (now (pixels .exit))) ≡ clockMoved (now (luts .entry)) time (withGlass state (now (states .entry)) (now (pixels .entry))) ⌝ }
 {
     let lengths = guard_lengths::glass_lent(states.len(), luts.len(), pixels.len());
     let refusal = guard::check(state, lengths);
     if guard::is_accepted(refusal) {
         let state = clock::advance(state, states, luts, pixels, time);
-        return Answer { refusal, state };
+        return CallAnswer { refusal, state };
     }
-    Answer { refusal, state }
+    CallAnswer { refusal, state }
 }

@@ -12,7 +12,7 @@ use Rattle.glass.specs.Transfers.{thenT, shiftT}
 use Rattle.waveform.specs.declared.Driving.{Driving}
 use Rattle.waveform.specs.declared.Group.{Group}
 use Rattle.waveform.specs.declared.Phase.{Phase}
-use Rattle.waveform.specs.declared.Step.{Step}
+use Rattle.waveform.specs.declared.DrivenPhase.{DrivenPhase}
 use Rattle.waveform.specs.Phases.{phaseOf, driven, joined}
 use Rattle.waveform.specs.Walks.{phaseIn, fourIn, groupIn, driveStepped, pushed}
 use Rattle.waveform_laws.proofs.Joined.{driven-none}
@@ -32,11 +32,11 @@ not-false true e = refl
 not-false false e = sym e
 
 -- a walk is not moved by a group without frames
-pub idle-walk : {A : Type 0} (step : A → Phase → A) (d : Driving) (g : Group) (a : A) {idle : Bool} → idle ≡ noFrames g → not idle ≡ false → a ≡ foldl step a (groupIn d g)
+pub idle-walk : {A : Type 0} (step : A → Phase → A) (d : Driving) (g : Group) (a : A) {idle : Bool} → idle ≡ noFrames (g .frames) → not idle ≡ false → a ≡ foldl step a (groupIn d g)
 unfolding phaseOf joined
 idle-walk step d g a h n = ap (foldl step a) (sym (ap (λ (l : List Phase). joined (g .repeats) (λ k. l)) four ∙ none-joined (g .repeats)))
   where
-    e : noFrames g ≡ true
+    e : noFrames (g .frames) ≡ true
     e = sym h ∙ not-false _ n
 
     z : ℕ → Bool
@@ -59,7 +59,7 @@ pub ready-step : (d : Driving) (l : Lasting) (t : Transfer) → LastingOf d l �
 unfolding pushed
 ready-step d l t r h =
     stepped-some d (l .step) t h
-    ∙ ap (λ (s : Step). thenT t (shiftT (s .drive) (d .swing))) (r .drive-is ∙ sym (drive-some d (l .step .phase) h))
+    ∙ ap (λ (s : DrivenPhase). thenT t (shiftT (s .drive) (d .swing))) (r .drive-is ∙ sym (drive-some d (l .step .phase) h))
 
 -- one walk, then another
 pub then-on : {A : Type 0} (step : A → Phase → A) (w : A) (xs ys : List Phase) {one two : A} → one ≡ foldl step w xs → two ≡ foldl step one ys → two ≡ foldl step w (xs ++ ys)

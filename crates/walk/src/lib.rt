@@ -4,11 +4,11 @@ pub mod phases;
 use glass::Transfer;
 use phases::Lasting;
 use waveform::Drive;
+use waveform::DrivenPhase;
 use waveform::Driving;
 use waveform::Group;
 use waveform::Phase;
 use waveform::Progress;
-use waveform::Step;
 use waveform::Until;
 use waveform::Waveform;
 ghost use mathlib.Core.Path.{_≡_};
@@ -21,7 +21,7 @@ ghost use Rattle.walk.specs.Ready.{LastingOf};
 // ---- the whole display
 
 // A phase to its end; one of 0 frames is passed over.
-fn whole_step(driving: Driving, step: Step, transfer: Transfer) -> Transfer
+fn whole_step(driving: Driving, step: DrivenPhase, transfer: Transfer) -> Transfer
     ensures { λ r. ⌜ r ≡ driveStepped driving step transfer ⌝ }
 {
     let phase = step.phase;
@@ -34,10 +34,10 @@ fn whole_step(driving: Driving, step: Step, transfer: Transfer) -> Transfer
 // The four phases of a group, once.
 fn whole_pass(
     driving: Driving,
-    first: Step,
-    second: Step,
-    third: Step,
-    fourth: Step,
+    first: DrivenPhase,
+    second: DrivenPhase,
+    third: DrivenPhase,
+    fourth: DrivenPhase,
     transfer: Transfer,
 ) -> Transfer
     ensures { λ r. ⌜ r ≡ driveStepped driving fourth (driveStepped driving third (driveStepped driving second (driveStepped driving first transfer))) ⌝ }

@@ -1,10 +1,10 @@
 // The phases of a group as they drive a pixel, and what some frames of one do to a transfer.
 use glass::Transfer;
 use waveform::Drive;
+use waveform::DrivenPhase;
 use waveform::Driving;
 use waveform::Group;
 use waveform::Phase;
-use waveform::Step;
 ghost use mathlib.Core.Path.{_≡_};
 ghost use Prim.Native.Nat.{_<_};
 ghost use Rattle.waveform.specs.Phases.{Takes, codeFor};
@@ -13,13 +13,13 @@ ghost use Rattle.walk.specs.Ready.{LastingOf, noFrames};
 
 // A phase with its drive and how long it lasts, in 64 bits: both made once for all repeats of its group.
 pub(crate) struct Lasting {
-    pub step: Step,
+    pub step: DrivenPhase,
     pub length: u64,
 }
 
 // A group without frames moves nothing, so its phases need not be made.
-pub fn idle(group: Group) -> bool
-    ensures { λ r. ⌜ r ≡ noFrames group ⌝ }
+pub(crate) fn idle(group: Group) -> bool
+    ensures { λ r. ⌜ r ≡ noFrames (group .frames) ⌝ }
 {
     let frames = group.frames;
     (frames[0] == 0) & (frames[1] == 0) & (frames[2] == 0) & (frames[3] == 0)
@@ -71,17 +71,17 @@ fn drive_of(positive_drives_black: bool, millivolts: i64, run: u64, frame_ns: u6
 }
 
 // A phase of a group, with its drive.
-pub(crate) fn step_of(driving: Driving, group: Group, at: usize) -> Step
+pub(crate) fn step_of(driving: Driving, group: Group, at: usize) -> DrivenPhase
     requires { ⌜ (at < 4) × Drivable driving ⌝ }
     ensures { λ r. ⌜ r ≡ phaseStep driving (phaseIn driving group at) ⌝ }
 {
     let phase = phase_of(driving, group, at);
     if phase.frames == 0 {
-        return Step { phase, drive: 0 };
+        return DrivenPhase { phase, drive: 0 };
     }
     let black = driving.positive_drives_black;
     let drive = drive_of(black, phase.millivolts, phase.frames, phase.frame_ns);
-    Step { phase, drive }
+    DrivenPhase { phase, drive }
 }
 
 pub(crate) fn lasting_of(driving: Driving, group: Group, at: usize) -> Lasting

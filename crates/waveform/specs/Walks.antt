@@ -15,7 +15,7 @@ use Rattle.waveform.specs.declared.Phase.{Phase}
 use Rattle.waveform.specs.declared.Until.{Until}
 use Rattle.waveform.specs.declared.Until.the-variants.{Whole, Cut}
 use Rattle.waveform.specs.declared.Progress.{Progress}
-use Rattle.waveform.specs.declared.Step.{Step}
+use Rattle.waveform.specs.declared.DrivenPhase.{DrivenPhase}
 use Rattle.waveform.specs.declared.Waveform.{Waveform}
 use Rattle.waveform.specs.Voltages.{AllListable}
 use Rattle.waveform.specs.Setting.{waveformOf}
@@ -62,7 +62,7 @@ unfoldable pub saturatedDrive : Bool → ℤ → ℕ → ℕ → ℤ
 saturatedDrive black millivolts frames period = negatedIf black (satZ (satZ (millivolts *ℤ satZ (pos frames)) *ℤ satZ (pos period)))
 
 -- a phase with the drive of all its frames; where it has none the drive is left at 0
-unfoldable pub phaseStep : Driving → Phase → Step
+unfoldable pub phaseStep : Driving → Phase → DrivenPhase
 phaseStep d p =
     record {
       phase = p;
@@ -70,7 +70,7 @@ phaseStep d p =
     }
 
 -- a transfer, then such a phase; one of 0 frames is passed over
-unfoldable pub driveStepped : Driving → Step → Transfer → Transfer
+unfoldable pub driveStepped : Driving → DrivenPhase → Transfer → Transfer
 driveStepped d s t = pick (eqb (s .phase .frames) 0) t (thenT t (shiftT (s .drive) (d .swing)))
 
 -- a transfer, then `run` frames of a phase

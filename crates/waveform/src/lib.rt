@@ -103,7 +103,7 @@ pub struct Phase {
 }
 
 // A phase with the drive of all its frames, which every repeat of its group shares.
-pub struct Step {
+pub struct DrivenPhase {
     pub phase: Phase,
     pub drive: i64,
 }

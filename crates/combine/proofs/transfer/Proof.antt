@@ -6,11 +6,17 @@ use Rattle.numbers.proofs.Lin.{back}
 use Rattle.glass.specs.declared.Transfer.{Transfer}
 use Rattle.glass.specs.Transfers.{applyT}
 use Rattle.waveform.specs.declared.Until.{Until}
-use Rattle.waveform.specs.Walks.{wholeOf, cutOf, transferOf}
+use Rattle.waveform.specs.declared.Waveform.{Waveform}
+use Rattle.waveform.specs.Setting.{waveformOf}
+use Rattle.waveform.specs.Walks.{Walkable, wholeOf, cutOf, transferOf}
 use Rattle.combine.specs.Settled.{settled, combinedOf}
 use borrow.Author.Needs.{needs}
 use Rattle.combine.proofs.transfer.Statement.{statement}
 use Rattle.combine.proofs.transfer.Tie as tie
+
+-- the waveform of the setting
+abbrev decoded : tie.Start → Waveform
+decoded s = waveformOf (s .args .setting .now) (s .args .frame-period .now)
 
 enum-told : tie.Need-enum-told
 enum-told c = search needs
@@ -23,8 +29,13 @@ transfer-whole-requires c κs =
 enum-known-until : tie.Need-enum-known-until
 enum-known-until c = search needs
 
+from-setting-requires : tie.Need-from-setting-requires
+from-setting-requires c κs = search needs
+
 transfer-cut-requires : tie.Need-transfer-cut-requires
-transfer-cut-requires c κs = search needs
+transfer-cut-requires c κs =
+    let s = c .before .before .before .before in
+    subst (λ (w : Waveform). Walkable w (s .args .drive)) (sym (c .from-setting .ensures)) (s .pre .0)
 
 returns : tie.Need-returns
 returns c =
@@ -34,23 +45,35 @@ returns c =
     let swing = back (s .fits .swing) in
     let whole = c .before .enum-told .given .1 in (
       c .transfer-whole .ensures .0
-          ∙ ap (λ (z : ℤ). settled (wholeOf (a .waveform) (a .drive) z black)) swing
-          ∙ sym (ap (combinedOf (a .waveform) (a .drive) (a .swing) black) whole),
+          ∙ ap (λ (z : ℤ). settled (wholeOf (decoded s) (a .drive) z black)) swing
+          ∙ sym (ap (combinedOf (decoded s) (a .drive) (a .swing) black) whole),
       λ z. c .transfer-whole .ensures .1 z
-          ∙ ap (λ (y : ℤ). applyT (wholeOf (a .waveform) (a .drive) y black) z) swing
-          ∙ sym (ap (λ (u : Until). applyT (transferOf (a .waveform) (a .drive) (a .swing) black u) z) whole),
+          ∙ ap (λ (y : ℤ). applyT (wholeOf (decoded s) (a .drive) y black) z) swing
+          ∙ sym (ap (λ (u : Until). applyT (transferOf (decoded s) (a .drive) (a .swing) black u) z) whole),
     )
 
 returns-2 : tie.Need-returns-2
 returns-2 c =
-    let s = c .before .before .before .before in
+    let call = c .before in
+    let s = call .before .before .before .before in
     let a = s .args in
     let black = a .positive-drives-black in
-    let known = c .before .before .until .given in
-    let e = c .transfer-cut .ensures ∙ ap (λ (z : ℤ). cutOf (a .waveform) (a .drive) z black (known .0 .0)) (back (s .fits .swing)) in (
-      e ∙ sym (ap (combinedOf (a .waveform) (a .drive) (a .swing) black) (known .1)),
-      λ z. ap (λ (t : Transfer). applyT t z) (e ∙ sym (ap (transferOf (a .waveform) (a .drive) (a .swing) black) (known .1))),
+    let known = call .before .before .until .given in
+    let e =
+    c .transfer-cut .ensures
+    ∙ (λ i. cutOf (call .from-setting .ensures i) (a .drive) (back (s .fits .swing) i) black (known .0 .0)) in (
+      e ∙ sym (ap (combinedOf (decoded s) (a .drive) (a .swing) black) (known .1)),
+      λ z. ap (λ (t : Transfer). applyT t z) (e ∙ sym (ap (transferOf (decoded s) (a .drive) (a .swing) black) (known .1))),
     )
 
 pub transfer-spec : {M : Type 1} → statement M
-transfer-spec = tie.close (tie.spec enum-told transfer-whole-requires enum-known-until transfer-cut-requires returns returns-2)
+transfer-spec =
+    tie.close
+    (tie.spec
+    enum-told
+    transfer-whole-requires
+    enum-known-until
+    from-setting-requires
+    transfer-cut-requires
+    returns
+    returns-2)

@@ -5,15 +5,15 @@ use lib.Signed.{_≤ℤ_}
 use Rattle.waveform_laws.proofs.Decoded.{walkable}
 use Rattle.panel.specs.declared.Panel.{Panel}
 use Rattle.finish.specs.declared.refresh.Refresh.{Refresh}
-use Rattle.finish.specs.Refresh.{AllWalkable}
+use Rattle.finish.specs.Refresh.{AllWalkable, waveformIn}
 use Rattle.finish.proofs.Steps.{finishes}
 use borrow.Author.Needs.{needs}
 use Rattle.finish.proofs.finish.Statement.{statement}
 use Rattle.finish.proofs.finish.Tie as tie
 
-drivable : (c : tie.After-refresh-of) → AllWalkable (c .refresh-of .result .waveform)
+drivable : (c : tie.After-refresh-of) → AllWalkable (waveformIn (c .refresh-of .result))
 drivable c =
-    subst (λ (r : Refresh). AllWalkable (r .waveform)) (sym (c .refresh-of .ensures))
+    subst (λ (r : Refresh). AllWalkable (waveformIn r)) (sym (c .refresh-of .ensures))
     (λ drive takes. walkable _ _ drive (c .before .before .before .pre .lasting) takes)
 
 swings : (c : tie.After-refresh-of) → pos 1 ≤ℤ c .refresh-of .result .swing

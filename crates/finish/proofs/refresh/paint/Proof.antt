@@ -147,7 +147,7 @@ returns c =
     let same =
     tab-ext n f (λ k. stateBy (inTable (a .transfers)) (getD (a .luts .now) k 0) (getD (a .states .now) k (pos 0)))
     (λ k l. made .moves .ensures .does (getD (a .luts .now) k 0) (omega (arith, told .before .before .shared-slice-known .given k)) (getD (a .states .now) k (pos 0)) (c .before .loop .inv .2 k (omega arith))) in
-    let swing : rd (a .refresh .swing) ≡ a .refresh .swing = field-back _ (told .struct-told .given .1 .0 .1) in (
+    let swing : rd (a .refresh .swing) ≡ a .refresh .swing = field-back _ (told .struct-told .given .1 .1 .0 .1) in (
       painted-all (c .before .loop .inv .0) (omega arith) ∙ same,
       rw (s .pre .0 .pixels-long) at (painted-all (c .before .loop .inv .1) (omega arith))
           ∙ grays-tab (rd (a .refresh .swing)) n f

@@ -6,26 +6,26 @@ use Rattle.numbers.proofs.Lin.{field-back}
 use Rattle.glass.specs.declared.Transfer.{Transfer}
 use Rattle.glass.specs.Transfers.{applyT}
 use Rattle.waveform.specs.Walks.{transferOf}
-use Rattle.finish.specs.Refresh.{transferIn}
+use Rattle.finish.specs.Refresh.{waveformIn, transferIn}
 use Rattle.finish.proofs.Moves.{combined-high}
+use borrow.Author.Needs.{needs}
 use Rattle.finish.proofs.refresh.transfer.Statement.{statement}
 use Rattle.finish.proofs.refresh.transfer.Tie as tie
 
 transfer-requires : tie.Need-transfer-requires
-transfer-requires c κs =
-    let s = c .before .before in
-    (s .pre .0, subst (λ (z : ℤ). pos 1 ≤ℤ z) (sym (field-back (s .args .refresh .swing) (c .struct-told .given .1 .0 .1))) (s .pre .1))
+transfer-requires c κs = search needs
 
 returns : tie.Need-returns
 unfolding transferIn
 returns c =
-    let s = c .before .before .before in
+    let told = c .before in
+    let s = told .before .before .before .before .before in
     let a = s .args in
     let r = a .refresh in
-    let same = field-back (r .swing) (c .before .struct-told .given .1 .0 .1) in
+    let same = field-back (r .swing) (told .struct-told .given .1 .1 .0 .1) in
     let some = subst (λ (z : ℤ). pos 1 ≤ℤ z) (sym same) (s .pre .1) in (
-      λ z. c .transfer .ensures .1 z ∙ ap (λ (y : ℤ). applyT (transferOf (r .waveform) (a .drive) y (r .«positive_drives_black») (r .until)) z) same,
-      subst (λ (t : Transfer). pos 0 ≤ℤ t .hi) (sym (c .transfer .ensures .0)) (combined-high (r .waveform) (a .drive) _ (r .«positive_drives_black») some (r .until)),
+      λ z. c .transfer .ensures .1 z ∙ ap (λ (y : ℤ). applyT (transferOf (waveformIn r) (a .drive) y (r .«positive_drives_black») (r .until)) z) same,
+      subst (λ (t : Transfer). pos 0 ≤ℤ t .hi) (sym (c .transfer .ensures .0)) (combined-high (waveformIn r) (a .drive) _ (r .«positive_drives_black») some (r .until)),
     )
 
 pub transfer-spec : {M : Type 1} → statement M

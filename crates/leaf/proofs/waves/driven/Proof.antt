@@ -2,19 +2,10 @@
 -- is combined.
 use lib.IntN.{pos}
 use Rattle.numbers.proofs.Lin.{rd, le-in, le-true}
-use Rattle.waveform.specs.Walks.{Walkable}
-use Rattle.waveform_laws.proofs.Decoded.{decoded-walkable}
+use Rattle.waveform_laws.proofs.Decoded.{walkable, decoded-walkable}
 use borrow.Author.Needs.{needs}
 use Rattle.leaf.proofs.waves.driven.Statement.{statement}
 use Rattle.leaf.proofs.waves.driven.Tie as tie
-
-abbrev start : tie.After-from-setting → tie.Start
-start c = c .before .before .before .before .before .before .before .before .before .before .before
-
-walkable : (c : tie.After-from-setting) → Walkable (c .from-setting .result) (start c .args .drive)
-walkable c =
-    let tested = c .before .before .before in
-    decoded-walkable _ _ _ (c .from-setting .ensures) (tested .before .lasting .ensures .1 (tested .if1 .taken)) (start c .pre)
 
 signed-requires : tie.Need-signed-requires
 signed-requires c κs = search needs
@@ -38,7 +29,10 @@ from-setting-requires : tie.Need-from-setting-requires
 from-setting-requires c κs = search needs
 
 transfer-requires : tie.Need-transfer-requires
-transfer-requires c κs = walkable (c .before)
+transfer-requires c κs =
+    let tested = c .before .before .before .before in
+    let s = tested .before .before .before .before .before .before .before .before in
+    decoded-walkable _ _ _ (c .from-setting .ensures) (tested .before .lasting .ensures .1 (tested .if1 .taken)) (s .pre)
 
 put-requires : tie.Need-put-requires
 put-requires c κs = search needs
@@ -48,9 +42,12 @@ returns c = search needs
 
 transfer-requires-2 : tie.Need-transfer-requires-2
 transfer-requires-2 c κs =
-    let made = c .before .before in
-    let swing = rd (made .before .before .before .before .before .before .before .before .before .signed .result) in
-    (walkable made, le-in (pos 1) swing (le-true (pos 1) swing (c .if3 .taken)))
+    let tested = c .before .before .before .before in
+    let signed = tested .before .before .before .before .before .before in
+    let swing = rd (signed .signed .result) in (
+      walkable _ _ _ (tested .before .lasting .ensures .1 (tested .if1 .taken)) (signed .before .before .pre),
+      le-in (pos 1) swing (le-true (pos 1) swing (c .before .before .if3 .taken)),
+    )
 
 put-requires-2 : tie.Need-put-requires-2
 put-requires-2 c κs = search needs

@@ -2,7 +2,7 @@
 use mathlib.Core.Path.{_≡_, sym, ap, subst, _∙_}
 use Prim.Native.Nat.{_<_}
 use Rattle.waveform.specs.declared.Phase.{Phase}
-use Rattle.waveform.specs.declared.Step.{Step}
+use Rattle.waveform.specs.declared.DrivenPhase.{DrivenPhase}
 use Rattle.waveform.specs.Phases.{phaseOf}
 use Rattle.waveform.specs.Walks.{phaseIn, phaseStep}
 use borrow.Author.Needs.{needs}
@@ -22,7 +22,7 @@ returns c =
     let a = call .before .args in
     let p = phaseIn (a .driving) (a .group) (a .at) in
     let s = call .step-of .result in
-    let e : s .phase ≡ p = ap (λ (x : Step). x .phase) (call .step-of .ensures) in (
+    let e : s .phase ≡ p = ap (λ (x : DrivenPhase). x .phase) (call .step-of .ensures) in (
       e,
       record {
         timed = subst (λ (x : Phase). 0 < x .«frame_ns») (sym e) (call .before .pre .1);

@@ -1,0 +1,2 @@
+-- The root of setting's specs.
+pub mod Word
