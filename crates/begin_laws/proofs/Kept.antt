@@ -108,7 +108,7 @@ module _ (P : WithBuffers → Type 0)
 
 -- ---- what finishing a display asks
 abbrev pub ReadyWith : WithBuffers → Type 0
-ReadyWith w = Ready (w .device) (w .states) (w .luts) (w .pixels)
+ReadyWith w = Ready (w .device) (w .states) (w .luts) (w .picture .pixels) (w .picture .counts)
 
 pub ready-begun : (k : Lent) (command : ℕ) (w : WithBuffers) (p : Power) → ReadyWith w → ReadyWith (begun k command w p)
 unfolding logged commandMade restored
@@ -143,7 +143,7 @@ luts-begun k command w p =
     k command w refl p
 
 -- the pixels are as many as the states
-pub pixels-begun : (k : Lent) (command : ℕ) (w : WithBuffers) (p : Power) → ReadyWith w → length (begun k command w p .pixels) ≡ length (w .pixels)
+pub pixels-begun : (k : Lent) (command : ℕ) (w : WithBuffers) (p : Power) → ReadyWith w → length (begun k command w p .picture .pixels) ≡ length (w .picture .pixels)
 pixels-begun k command w p h =
     ready-begun k command w p h .pixels-long ∙ states-begun k command w p ∙ sym (h .pixels-long)
 

@@ -15,6 +15,7 @@ use Rattle.glass.specs.Greys.{grayZ}
 use Rattle.glass.specs.Transfers.{applyT}
 use Rattle.waveform.specs.declared.Drive.{Drive}
 use Rattle.waveform.specs.declared.Drive.the-variants.{Lut}
+use Rattle.counts.specs.Counts.{countsOf, picture}
 use Rattle.panel.specs.declared.Panel.{Panel}
 use Rattle.finish.specs.declared.refresh.Refresh.{Refresh}
 use Rattle.panel.specs.Border.{borderDrive}
@@ -55,18 +56,20 @@ transfer-is : (e : Ending) (swing : ℤ) (drive : Drive) → transferIn (refresh
 unfolding transferIn transferBy
 transfer-is e swing drive = refl
 
-pub finishes : (e : Ending) (luts : List ℕ) (g : Glass) (r : Refresh) (states : List ℤ) (pixels : List ℕ) (p q : Panel)
+pub finishes : (e : Ending) (luts : List ℕ) (g : Glass) (r : Refresh) (states : List ℤ) (pixels counts : List ℕ) (p q : Panel)
     → r ≡ refreshIn e (g .panel .swing)
     → states ≡ statesBy (λ lut. transferIn r (Lut lut)) luts (g .states)
     → pixels ≡ grays (r .swing) (statesBy (λ lut. transferIn r (Lut lut)) luts (g .states))
+    → counts ≡ countsOf pixels
     → p ≡ withBorder (g .panel) (borderBy (transferIn r) (borderDrive (e .display .border)) (g .panel .border))
     → q ≡ published (e .display) (e .at) (e .until) p
-    → glass q states pixels ≡ finished e luts g
+    → glass q states (picture pixels counts) ≡ finished e luts g
 unfolding finished
-finishes e luts g r states pixels p q e₁ e₂ e₃ e₄ e₅ =
+finishes e luts g r states pixels counts p q e₁ e₂ e₃ e₄ e₅ e₆ =
     let same : transferIn r ≡ transferBy e (g .panel .swing) = ap transferIn e₁ ∙ (λ i drive. transfer-is e (g .panel .swing) drive i) in
-    let border = e₄ ∙ (λ i. withBorder (g .panel) (borderBy (same i) (borderDrive (e .display .border)) (g .panel .border))) in
+    let border = e₅ ∙ (λ i. withBorder (g .panel) (borderBy (same i) (borderDrive (e .display .border)) (g .panel .border))) in
+    let px = e₃ ∙ (λ j. grays (e₁ j .swing) (statesBy (λ lut. same j (Lut lut)) luts (g .states))) in
     λ i. glass
-    ((e₅ ∙ ap (published (e .display) (e .at) (e .until)) border) i)
+    ((e₆ ∙ ap (published (e .display) (e .at) (e .until)) border) i)
     ((e₂ ∙ (λ j. statesBy (λ lut. same j (Lut lut)) luts (g .states))) i)
-    ((e₃ ∙ (λ j. grays (e₁ j .swing) (statesBy (λ lut. same j (Lut lut)) luts (g .states)))) i)
+    (picture (px i) ((e₄ ∙ ap countsOf px) i))

@@ -113,17 +113,19 @@ fn setting_of(entry: &[u8]) -> [u8; 112]
     lut
 }
 
-// The waveform of the mode and the temperature register, or 35.
+// The waveform of the mode and the temperature register, with its place in the table, or 35.
 fn load_lut(run: Run, log: &mut [u8], time: u64, mode: DisplayMode, otp: &[u8]) -> Run
     requires { ⌜ length (now log) ≡ 16384 ⌝ }
     ensures { λ r. ⌜ step r (now (log .exit)) ≡ lutFound time mode (now (otp .entry)) (step run (now (log .entry))) ⌝ }
 {
     let temperature = run.temperature;
-    let entry = otp::find_waveform(otp, mode, temperature);
+    let mut place: u8 = 255;
+    let entry = otp::find_waveform(otp, mode, temperature, &mut place);
     let mut next = run;
     if entry.len() == 118 {
         let lut = setting_of(entry);
         next.lut = lut;
+        next.waveform = place;
         return next;
     }
     next.waveform_found = false;

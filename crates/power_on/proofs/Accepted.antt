@@ -4,21 +4,21 @@ use mathlib.Core.Path.{_≡_, sym, ap, _∙_}
 use mathlib.Core.Bool.{true}
 use mathlib.Core.List.{List, [], _∷_}
 use lib.ListN.{length}
-use borrow.Author.Tests.{not-false}
+use borrow.Author.Tests.{eqb-true, not-false}
 use Rattle.config.specs.declared.Ssd1677Config.{Ssd1677Config}
 use Rattle.config.specs.Answer.{Answer, isAccepted, firstOf}
 use Rattle.otp.specs.Table.{startTests}
 use Rattle.gates_laws.specs.OneToOne.{Scanned}
 use Rattle.guard_lengths.specs.declared.Lengths.{Lengths}
-use Rattle.guard_lengths.specs.Lengths.{lengthsFit}
+use Rattle.guard_lengths.specs.Lengths.{lengthsFit, countsFit}
 use Rattle.guard_laws.proofs.Accepted.{none-refuses, FinePanel, fine-panel, FineLengths, fine-lengths, some-ticks}
 use Rattle.guard_laws.proofs.Started.{both, started-panel, started-swing, started-frequency}
-use Rattle.power_on.specs.Start.{Buffers, lengthsIn, bufferTest, allTests, poweredUp, started}
+use Rattle.power_on.specs.Start.{Buffers, lengthsIn, bufferTest, countsTest, allTests, poweredUp, started}
 
 -- ---- every test is passed
 module _ (c : Ssd1677Config) (otp : List ℕ) (l : Lengths) (passes : isAccepted (firstOf (allTests c otp l)) ≡ true) where
-  each : (isAccepted (firstOf (startTests c otp)) ≡ true) × (isAccepted (firstOf (bufferTest (c .panel) l ∷ [])) ≡ true)
-  each = both (startTests c otp) (bufferTest (c .panel) l ∷ []) passes
+  each : (isAccepted (firstOf (startTests c otp)) ≡ true) × (isAccepted (firstOf (bufferTest (c .panel) l ∷ countsTest l ∷ [])) ≡ true)
+  each = both (startTests c otp) (bufferTest (c .panel) l ∷ countsTest l ∷ []) passes
 
   pub parameters : isAccepted (firstOf (startTests c otp)) ≡ true
   parameters = each .0
@@ -35,7 +35,12 @@ module _ (c : Ssd1677Config) (otp : List ℕ) (l : Lengths) (passes : isAccepted
       record { some = fine .height; most = fine .gates; even = fine .even }
 
   pub lengths : FineLengths (c .panel) l
-  lengths = fine-lengths (c .panel) l (not-false (lengthsFit (c .panel) l) (none-refuses (bufferTest (c .panel) l) [] (each .1) .0))
+  lengths = fine-lengths (c .panel) l (not-false (lengthsFit (c .panel) l) (none-refuses (bufferTest (c .panel) l) (countsTest l ∷ []) (each .1) .0))
+
+  pub counted : l .counts ≡ 256
+  counted =
+      eqb-true (l .counts) 256
+      (not-false (countsFit l) (none-refuses (countsTest l) [] (none-refuses (bufferTest (c .panel) l) (countsTest l ∷ []) (each .1) .1) .0))
 
 -- what the chip is set up with
 pub ready : (c : Ssd1677Config) (otp : List ℕ) (b : Buffers) (l : Lengths) (x : Answer) → l ≡ lengthsIn b → x ≡ firstOf (allTests c otp l) → isAccepted x ≡ true

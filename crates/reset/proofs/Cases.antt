@@ -38,24 +38,24 @@ pub shortens : (luts : List ℕ) (g : WithGlass) (into : ℕ) (after : Glass) (o
     → into ≡ nsBetween (g .device .config .frequency) (g .device .display .started) (g .device .now)
     → after ≡ finished (endingOf (g .device) (g .device .now) (Cut into)) luts (glassOf g)
     → off ≡ stopped (g .device .display) → r ≡ part.withPanelAndDisplay (g .device) (after .panel) off
-    → withGlass r (after .states) (after .pixels) ≡ displayCut luts g
+    → withGlass r (after .states) (after .picture) ≡ displayCut luts g
 unfolding displayCut
 shortens luts g into after off r e₁ e₂ e₃ e₄ = rw (← e₁, ← e₂, e₄, e₃)
 
 module _ (luts : List ℕ) (w : WithGlassLog) where
   pub cuts : (k : WithLog) (g : WithGlass) → isDriving (w .device) ≡ true → k ≡ logged ResetDuringDisplay (withLog (w .device) (w .log))
-      → g ≡ displayCut luts (withGlass (k .device) (w .states) (w .pixels)) → withGlassLog (g .device) (g .states) (g .pixels) (k .log) ≡ cut luts w
+      → g ≡ displayCut luts (withGlass (k .device) (w .states) (w .picture)) → withGlassLog (g .device) (g .states) (g .picture) (k .log) ≡ cut luts w
   unfolding cut
   cuts k g h e₁ e₂ = rw (h, e₂, e₁)
 
   pub drops : (off : Display) (r : Ssd1677) → isDriving (w .device) ≡ false → off ≡ stopped (w .device .display)
-      → r ≡ withDisplay (w .device) off → withGlassLog r (w .states) (w .pixels) (w .log) ≡ cut luts w
+      → r ≡ withDisplay (w .device) off → withGlassLog r (w .states) (w .picture) (w .log) ≡ cut luts w
   unfolding cut
   drops off r h e₁ e₂ = rw (h, e₂, e₁)
 
   pub asserts : (k : WithLog) (b : WithGlassLog) (d r : Ssd1677) → k ≡ closed (withLog (w .device) (w .log))
-      → b ≡ cut luts (withGlassLog (k .device) (w .states) (w .pixels) (k .log)) → d ≡ restored (b .device) → r ≡ inReset d
-      → withGlassLog r (b .states) (b .pixels) (b .log) ≡ asserted luts w
+      → b ≡ cut luts (withGlassLog (k .device) (w .states) (w .picture) (k .log)) → d ≡ restored (b .device) → r ≡ inReset d
+      → withGlassLog r (b .states) (b .picture) (b .log) ≡ asserted luts w
   unfolding asserted
   asserts k b d r e₁ e₂ e₃ e₄ = rw (e₄, e₃, e₂, e₁)
 
@@ -88,6 +88,6 @@ module _ (luts : List ℕ) (low : Bool) (w v : WithGlassLog) (p : Power) where
   keeps-asleep e f = rw (e, f)
 
 pub rises : (luts : List ℕ) (low : Bool) (w : WithGlassLog) (p : Power) (r : Ssd1677) → low ≡ false → p ≡ InReset → r ≡ released (w .device)
-    → withGlassLog r (w .states) (w .pixels) (w .log) ≡ byLine luts low w p
+    → withGlassLog r (w .states) (w .picture) (w .log) ≡ byLine luts low w p
 unfolding byLine
 rises luts low w p r e f g = rw (e, f, g)

@@ -1,0 +1,4 @@
+-- The laws of the record of the waveform loaded.
+pub mod Registers
+pub mod Loaded
+pub mod Activated
