@@ -16,8 +16,8 @@ use Rattle.config.specs.declared.ExternalSensor.{ExternalSensor}
 use Rattle.config.specs.declared.ExternalSensor.the-variants.{Absent, Reads}
 use Rattle.diagnostic.specs.declared.DiagnosticKind.the-variants.{WithoutClock, NoExternalSensor}
 use Rattle.diagnostic.specs.declared.Stage.the-variants.{AnalogOn, TemperatureLoad, LutLoad}
-use Rattle.otp.specs.declared.Entry.{Entry}
-use Rattle.otp.specs.declared.Entry.the-variants.{At, Nothing}
+use Rattle.otp.specs.declared.FoundEntry.{FoundEntry}
+use Rattle.otp.specs.declared.FoundEntry.the-variants.{At, Nothing}
 use Rattle.otp.specs.Table.{entryBytes, entryCount}
 use Rattle.otp.specs.Waveform.{foundEntry, partOf}
 use Rattle.otp.proofs.Found.{found-is}
@@ -108,7 +108,7 @@ module _ (otp : List ℕ) where
     found-recorded : (mode : DisplayMode) (s : Step) → RecordedStep s → RecordedStep (lutFound time mode otp s)
     found-recorded mode s h = by (foundEntry otp mode (s .run .temperature)) refl
       where
-        by : (e : Entry) → foundEntry otp mode (s .run .temperature) ≡ e → RecordedStep (lutFound time mode otp s)
+        by : (e : FoundEntry) → foundEntry otp mode (s .run .temperature) ≡ e → RecordedStep (lutFound time mode otp s)
         by (At entry) e =
             let l = found-loaded time mode otp s entry e in
             rw (l .0, l .1) (λ _. is-entry otp entry (found-is otp mode (s .run .temperature) entry e .within))
