@@ -54,23 +54,23 @@ unlent size = refl
 module _ (otp : List ℕ) (w : World) (s : Sound otp w) where
   -- a call that is lent the glass, and of the other buffers each or not
   lent-passes : (g b r o : Lent) → fits g logBytes ≡ true → fits b planeBytes ≡ true → fits r planeBytes ≡ true → fits o (w .device .config .panel .height) ≡ true
-      → guarded (w .device) (lengthsOf (length (w .states)) (length (w .luts)) (length (w .pixels)) g b r o) ≡ Accepted
+      → guarded (w .device) (lengthsOf (length (w .states)) (length (w .luts)) (length (w .picture .pixels)) (length (w .picture .counts)) g b r o) ≡ Accepted
   lent-passes g b r o e f h i =
       let l = sound-long otp w s in
-      two-pass (w .device) (lengthsOf (length (w .states)) (length (w .luts)) (length (w .pixels)) g b r o) (s .state)
-      (lengths-pass (w .device .config .panel) (length (w .states)) (length (w .luts)) (length (w .pixels)) g b r o (l .states) (l .luts) (l .pixels) e f h i)
+      two-pass (w .device) (lengthsOf (length (w .states)) (length (w .luts)) (length (w .picture .pixels)) (length (w .picture .counts)) g b r o) (s .state)
+      (lengths-pass (w .device .config .panel) (length (w .states)) (length (w .luts)) (length (w .picture .pixels)) (length (w .picture .counts)) g b r o (l .states) (l .luts) (l .picture) e f h i)
 
-  glass-passes : guarded (w .device) (glassLent (length (w .states)) (length (w .luts)) (length (w .pixels))) ≡ Accepted
+  glass-passes : guarded (w .device) (glassLent (length (w .states)) (length (w .luts)) (length (w .picture .pixels)) (length (w .picture .counts))) ≡ Accepted
   glass-passes =
       lent-passes Nothing Nothing Nothing Nothing (unlent logBytes) (unlent planeBytes) (unlent planeBytes) (unlent (w .device .config .panel .height))
 
-  log-passes : guarded (w .device) (glassLogLent (length (w .states)) (length (w .luts)) (length (w .pixels)) (length (w .log))) ≡ Accepted
+  log-passes : guarded (w .device) (glassLogLent (length (w .states)) (length (w .luts)) (length (w .picture .pixels)) (length (w .picture .counts)) (length (w .log))) ≡ Accepted
   log-passes =
       lent-passes (Of (length (w .log))) Nothing Nothing Nothing (has (length (w .log)) logBytes (sound-long otp w s .log)) (unlent planeBytes)
       (unlent planeBytes) (unlent (w .device .config .panel .height))
 
   planes-pass : guarded (w .device)
-      (planesLogLent (length (w .states)) (length (w .luts)) (length (w .pixels)) (length (w .log)) (length (w .blackWhite)) (length (w .red)))
+      (planesLogLent (length (w .states)) (length (w .luts)) (length (w .picture .pixels)) (length (w .picture .counts)) (length (w .log)) (length (w .blackWhite)) (length (w .red)))
       ≡ Accepted
   planes-pass =
       let l = sound-long otp w s in

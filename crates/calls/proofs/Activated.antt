@@ -136,4 +136,4 @@ module _ (k : Lent) (w : WithBuffers) (power : w .device .bus .power ≡ Running
   pub held-activated : Held (activated k w .device)
   unfolding activated
   held-activated =
-      held-advanced (stagedIn k w .luts) (stagedIn k w .device .now) (withGlass (stagedIn k w .device) (w .states) (w .pixels)) staged-due
+      held-advanced (stagedIn k w .luts) (stagedIn k w .device .now) (withGlass (stagedIn k w .device) (w .states) (w .picture)) staged-due

@@ -52,12 +52,12 @@ unfolding lineTaken commandTaken dataIn readIn
 states-kept otp w (advance time) = states-advanced (w .luts) time (glassInWorld .get w)
 states-kept otp w (set-reset time low) =
     let g = advanced (w .luts) time (glassInWorld .get w) in
-    line-leaves (w .luts) low (withGlassLog (g .device) (g .states) (g .pixels) (w .log)) (g .device .bus .power) .states-long
+    line-leaves (w .luts) low (withGlassLog (g .device) (g .states) (g .picture) (w .log)) (g .device .bus .power) .states-long
     ∙ states-advanced (w .luts) time (glassInWorld .get w)
 states-kept otp w (write-command time command) =
     let g = advanced (w .luts) time (glassInWorld .get w) in
     let c = closed (withLog (g .device) (w .log)) in
-    states-begun (lentOf otp w) command (withBuffers (c .device) (g .states) (w .luts) (g .pixels) (c .log)) (c .device .bus .power)
+    states-begun (lentOf otp w) command (withBuffers (c .device) (g .states) (w .luts) (g .picture) (c .log)) (c .device .bus .power)
     ∙ states-advanced (w .luts) time (glassInWorld .get w)
 states-kept otp w (write-data time byte) = states-advanced (w .luts) time (glassInWorld .get w)
 states-kept otp w (read-data time) = states-advanced (w .luts) time (glassInWorld .get w)
@@ -66,9 +66,9 @@ states-kept otp w take-diagnostics = refl
 
 module _ (otp : List ℕ) (w : World) (s : Sound otp w) where
   -- what finishing a display asks
-  ready : Ready (w .device) (w .states) (w .luts) (w .pixels)
+  ready : Ready (w .device) (w .states) (w .luts) (w .picture .pixels) (w .picture .counts)
   ready =
-      ready-fine (w .device) (w .states) (w .luts) (w .pixels) (Of (length (w .log))) (Of (length (w .blackWhite))) (Of (length (w .red)))
+      ready-fine (w .device) (w .states) (w .luts) (w .picture .pixels) (w .picture .counts) (Of (length (w .log))) (Of (length (w .blackWhite))) (Of (length (w .red)))
       (Of (length (w .gates))) (s .state) (s .lengths)
 
   module _ (time : ℕ) where
@@ -76,10 +76,10 @@ module _ (otp : List ℕ) (w : World) (s : Sound otp w) where
     abbrev moved : WithGlass
     moved = advanced (w .luts) time (glassInWorld .get w)
 
-    moved-ready : Ready (moved .device) (moved .states) (w .luts) (moved .pixels)
+    moved-ready : Ready (moved .device) (moved .states) (w .luts) (moved .picture .pixels) (moved .picture .counts)
     moved-ready = ready-advanced (w .luts) time (glassInWorld .get w) ready
 
-    moved-pixels : length (moved .pixels) ≡ length (w .pixels)
+    moved-pixels : length (moved .picture) ≡ length (w .picture)
     moved-pixels = moved-ready .pixels-long ∙ states-advanced (w .luts) time (glassInWorld .get w) ∙ sym (ready .pixels-long)
 
     moved-config : moved .device .config ≡ w .device .config
@@ -101,7 +101,7 @@ module _ (otp : List ℕ) (w : World) (s : Sound otp w) where
     -- a later state of the same configuration and swing, with its buffers
     later-sound : (v : World) → v .device .config ≡ moved .device .config → v .device .panel .swing ≡ moved .device .panel .swing
         → Bounded (v .device .regs) → v .device .journal .count ≤ 1024 → currentFine (v .device .bus .current) ≡ true
-        → length (v .states) ≡ length (moved .states) → length (v .luts) ≡ length (w .luts) → length (v .pixels) ≡ length (moved .pixels)
+        → length (v .states) ≡ length (moved .states) → length (v .luts) ≡ length (w .luts) → length (v .picture) ≡ length (moved .picture)
         → length (v .log) ≡ 16384 → length (v .blackWhite) ≡ length (w .blackWhite) → length (v .red) ≡ length (w .red)
         → length (v .gates) ≡ length (w .gates) → Sound otp v
     later-sound v config swing bounded count current states luts pixels log black-white red gates =
@@ -119,7 +119,7 @@ module _ (otp : List ℕ) (w : World) (s : Sound otp w) where
     line-keeps : (low : Bool) → Sound otp (taken otp w (set-reset time low))
     unfolding lineTaken
     line-keeps low =
-        let a = withGlassLog (moved .device) (moved .states) (moved .pixels) (w .log) in
+        let a = withGlassLog (moved .device) (moved .states) (moved .picture) (w .log) in
         let p = moved .device .bus .power in
         let l = line-leaves (w .luts) low a p in
         later-sound (taken otp w (set-reset time low)) (l .same-config) (l .same-swing) (l .bounded moved-bounded) (l .count moved-count)
@@ -132,14 +132,14 @@ module _ (otp : List ℕ) (w : World) (s : Sound otp w) where
     command-keeps command =
         let k = withLog (moved .device) (w .log) in
         let c = closed k in
-        let a = withBuffers (c .device) (moved .states) (w .luts) (moved .pixels) (c .log) in
+        let a = withBuffers (c .device) (moved .states) (w .luts) (moved .picture) (c .log) in
         let p = c .device .bus .power in
         let t = lentOf otp w in
         later-sound (taken otp w (write-command time command)) (config-begun t command a p ∙ closed-config k) (swing-begun t command a p ∙ closed-swing k)
         (bounded-begun t command a p (subst Bounded (sym (closed-regs k)) moved-bounded))
         (count-begun t command a p (closed-count k moved-count)) (current-begun t command a p (closed-current k)) (states-begun t command a p)
         (luts-begun t command a p)
-        (pixels-begun t command a p (ready-closed (moved .states) (w .luts) (moved .pixels) k c refl moved-ready))
+        (pixels-begun t command a p (ready-closed (moved .states) (w .luts) (moved .picture) k c refl moved-ready))
         (log-begun t command a p (closed-length k (sound-long otp w s .log)))
         refl refl refl
 

@@ -72,7 +72,7 @@ fine-kept d e f panel timing frequency swing bounded count current =
 pub record Long (p : PanelGeometry) (w : World) : Type 0 where
   pub states : length (w .states) ≡ pixelsOf p
   pub luts : length (w .luts) ≡ pixelsOf p
-  pub pixels : length (w .pixels) ≡ pixelsOf p
+  pub pixels : length (w .picture) ≡ pixelsOf p
   pub log : length (w .log) ≡ 16384
   pub black-white : length (w .blackWhite) ≡ 81600
   pub red : length (w .red) ≡ 81600
@@ -105,14 +105,14 @@ has n size e = eq-eqb n size e
 
 pub long-passes : (p : PanelGeometry) (w : World) → Long p w → lengthsFit p (lengthsInWorld w) ≡ true
 long-passes p w l =
-    lengths-pass p (length (w .states)) (length (w .luts)) (length (w .pixels)) (Of (length (w .log))) (Of (length (w .blackWhite)))
-    (Of (length (w .red))) (Of (length (w .gates))) (l .states) (l .luts) (l .pixels) (has (length (w .log)) logBytes (l .log))
+    lengths-pass p (length (w .states)) (length (w .luts)) (length (w .picture .pixels)) (length (w .picture .counts)) (Of (length (w .log))) (Of (length (w .blackWhite)))
+    (Of (length (w .red))) (Of (length (w .gates))) (l .states) (l .luts) (l .picture) (has (length (w .log)) logBytes (l .log))
     (has (length (w .blackWhite)) planeBytes (l .black-white)) (has (length (w .red)) planeBytes (l .red))
     (has (length (w .gates)) (p .height) (l .gates))
 
 -- another world for the same panel, whose buffers have the lengths of the first
 pub long-kept : (p q : PanelGeometry) (w v : World) → Long p w → q ≡ p → length (v .states) ≡ length (w .states)
-    → length (v .luts) ≡ length (w .luts) → length (v .pixels) ≡ length (w .pixels) → length (v .log) ≡ 16384
+    → length (v .luts) ≡ length (w .luts) → length (v .picture) ≡ length (w .picture) → length (v .log) ≡ 16384
     → length (v .blackWhite) ≡ length (w .blackWhite) → length (v .red) ≡ length (w .red) → length (v .gates) ≡ length (w .gates) → Long q v
 long-kept p q w v l same states luts pixels log black-white red gates =
     record {

@@ -78,7 +78,7 @@ module _ (c : Ssd1677Config) (otp : List ℕ) (b : Buffers) where
         record {
           states = length-tab (length (b .states)) _ ∙ long .states;
           luts = length-tab (length (b .luts)) _ ∙ long .luts;
-          pixels = length-tab (length (b .pixels)) _ ∙ long .pixels;
+          pixels = length-tab (length (b .picture .pixels)) (length (b .picture .counts)) _ ∙ long .pixels;
           log = length-tab (length (b .log)) _ ∙ long .log (length (b .log)) refl;
           black-white = length-tab (length (b .blackWhite)) _ ∙ long .black-white (length (b .blackWhite)) refl;
           red = length-tab (length (b .red)) _ ∙ long .red (length (b .red)) refl;

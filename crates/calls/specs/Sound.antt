@@ -22,7 +22,7 @@ use Rattle.guard_state.specs.State.{stateFine}
 -- the lengths of all that is lent
 abbrev pub lengthsInWorld : World → Lengths
 lengthsInWorld w =
-    allLent (length (w .states)) (length (w .luts)) (length (w .pixels)) (length (w .log)) (length (w .blackWhite)) (length (w .red)) (length (w .gates))
+    allLent (length (w .states)) (length (w .luts)) (length (w .picture .pixels)) (length (w .picture .counts)) (length (w .log)) (length (w .blackWhite)) (length (w .red)) (length (w .gates))
 
 -- neither 13, 11 nor 12 refuses it
 pub record Sound (otp : List ℕ) (w : World) : Type 0 where

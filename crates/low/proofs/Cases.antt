@@ -51,8 +51,8 @@ module _ (d : Ssd1677) (states : List ℤ) (luts pixels blackWhite red gates log
       ∙ ap (λ (g : WithGlass). g .device .config .panel) moved ∙ ap (λ x. x .panel) (config-advanced luts time (withGlass d states pixels))
 
   -- what the clock's move and the end of the last command keep of what an activation asks
-  pub still-activatable : length (c .log) ≡ length log → Activatable d states luts pixels blackWhite red gates log
-      → Activatable (c .device) (a .states) luts (a .pixels) blackWhite red gates (c .log)
+  pub still-activatable : length (c .log) ≡ length log → Activatable d states luts pixels counts blackWhite red gates log
+      → Activatable (c .device) (a .states) luts (a .picture .pixels) (a .picture .counts) blackWhite red gates (c .log)
   still-activatable same-log h =
       let s = h .startable in
       record {
@@ -67,31 +67,31 @@ module _ (d : Ssd1677) (states : List ℤ) (luts pixels blackWhite red gates log
               log-long = same-log ∙ s .log-long;
             };
         ready =
-            ready-closed (a .states) luts (a .pixels) (withLog (a .device) log) c is-closed
-            (subst (λ (g : WithGlass). Ready (g .device) (g .states) luts (g .pixels)) (sym moved)
+            ready-closed (a .states) luts (a .picture) (withLog (a .device) log) c is-closed
+            (subst (λ (g : WithGlass). Ready (g .device) (g .states) luts (g .picture .pixels) (g .picture .counts)) (sym moved)
             (ready-advanced luts time (withGlass d states pixels) (h .ready)));
       }
 
 pub takes : (k : Lent) (time command : ℕ) (w : WithBuffers) (a : WithGlass) (c : WithLog) (v : WithBuffers)
-    → a ≡ advanced (w .luts) time (withGlass (w .device) (w .states) (w .pixels)) → c ≡ closed (withLog (a .device) (w .log))
-    → v ≡ begun k command (withBuffers (c .device) (a .states) (w .luts) (a .pixels) (c .log)) (c .device .bus .power)
+    → a ≡ advanced (w .luts) time (withGlass (w .device) (w .states) (w .picture)) → c ≡ closed (withLog (a .device) (w .log))
+    → v ≡ begun k command (withBuffers (c .device) (a .states) (w .luts) (a .picture) (c .log)) (c .device .bus .power)
     → v ≡ commandTaken k time command w
 unfolding commandTaken
 takes k time command w a c v e₁ e₂ e₃ = rw (e₃, e₂, e₁)
 
 module _ (k : Lent) (time command : ℕ) (w : WithBuffers) (l : Lengths) (r : Refusal) (b : Bool)
     (lent-is : l
-    ≡ allLent (length (w .states)) (length (w .luts)) (length (w .pixels)) (length (w .log)) (length (k .blackWhite)) (length (k .red)) (length (k .gates)))
+    ≡ allLent (length (w .states)) (length (w .luts)) (length (w .picture .pixels)) (length (w .picture .counts)) (length (w .log)) (length (k .blackWhite)) (length (k .red)) (length (k .gates)))
     (is : r ≡ guardedWithTable (w .device) l (k .otp)) (t : b ≡ accepts r) where
   abbrev lengths : Lengths
   lengths =
-      allLent (length (w .states)) (length (w .luts)) (length (w .pixels)) (length (w .log)) (length (k .blackWhite)) (length (k .red)) (length (k .gates))
+      allLent (length (w .states)) (length (w .luts)) (length (w .picture .pixels)) (length (w .picture .counts)) (length (w .log)) (length (k .blackWhite)) (length (k .red)) (length (k .gates))
 
   same-table : r ≡ guardedWithTable (w .device) lengths (k .otp)
   same-table = is ∙ ap (λ (x : Lengths). guardedWithTable (w .device) x (k .otp)) lent-is
 
   pub command-activatable : b ≡ true
-      → Activatable (w .device) (w .states) (w .luts) (w .pixels) (k .blackWhite) (k .red) (k .gates) (w .log)
+      → Activatable (w .device) (w .states) (w .luts) (w .picture .pixels) (w .picture .counts) (k .blackWhite) (k .red) (k .gates) (w .log)
   command-activatable h =
       let fine = table-state-passed (w .device) lengths (k .otp) r b same-table t h in
       let fit = table-lengths-passed (w .device) lengths (k .otp) r b same-table t h in
@@ -109,7 +109,7 @@ module _ (k : Lent) (time command : ℕ) (w : WithBuffers) (l : Lengths) (r : Re
               log-long = g .log (length (w .log)) refl;
             };
         ready =
-            ready-fine (w .device) (w .states) (w .luts) (w .pixels) (Of (length (w .log))) (Of (length (k .blackWhite))) (Of (length (k .red)))
+            ready-fine (w .device) (w .states) (w .luts) (w .picture .pixels) (w .picture .counts) (Of (length (w .log))) (Of (length (k .blackWhite))) (Of (length (k .red)))
             (Of (length (k .gates))) fine fit;
       }
 

@@ -1,4 +1,5 @@
 -- `low::write_command` meets its contract.
+use Rattle.counts.specs.Counts.{picture}
 use Rattle.world.specs.World.{withBuffers, lent}
 use Rattle.low.proofs.Cases.{command-activatable, command-moves, command-refused}
 use borrow.Author.Needs.{needs}
@@ -17,7 +18,7 @@ is-accepted-requires c κs = search needs
 take-command-requires : tie.Need-take-command-requires
 take-command-requires c κs =
     let s = c .before .before .before .before .before .before .before .before .before .before .before .before .before .before .before .args in
-    command-activatable (lent (s .black-white .now) (s .red .now) (s .gates .now) (s .otp .now)) (s .time) (s .command) (withBuffers (s .state) (s .states .now) (s .luts .now) (s .pixels .now) (s .log .now)) _ _ _ (c .before .before .before .before .before .before .before .all-lent .ensures) (c .before .before .before .before .before .before .check-with-table .ensures) (c .before .before .before .before .before .is-accepted .ensures) (c .before .before .before .before .if1 .taken)
+    command-activatable (lent (s .black-white .now) (s .red .now) (s .gates .now) (s .otp .now)) (s .time) (s .command) (withBuffers (s .state) (s .states .now) (s .luts .now) (picture (s .pixels .now) (s .counts .now)) (s .log .now)) _ _ _ (c .before .before .before .before .before .before .before .all-lent .ensures) (c .before .before .before .before .before .before .check-with-table .ensures) (c .before .before .before .before .before .is-accepted .ensures) (c .before .before .before .before .if1 .taken)
 
 same-length : tie.Need-same-length
 same-length c = search needs
@@ -34,12 +35,12 @@ same-length-4 c = search needs
 returns : tie.Need-returns
 returns c =
     let s = c .before .before .before .before .before .before .before .before .before .before .before .before .before .before .before .before .before .before .before .before .before .before .before .args in
-    command-moves (lent (s .black-white .now) (s .red .now) (s .gates .now) (s .otp .now)) (s .time) (s .command) (withBuffers (s .state) (s .states .now) (s .luts .now) (s .pixels .now) (s .log .now)) _ _ _ (c .before .before .before .before .before .before .before .before .before .before .before .before .before .before .before .all-lent .ensures) (c .before .before .before .before .before .before .before .before .before .before .before .before .before .before .check-with-table .ensures) (c .before .before .before .before .before .before .before .before .before .before .before .before .before .is-accepted .ensures) _ (c .before .before .before .before .before .before .before .before .before .before .before .before .if1 .taken) (c .before .before .before .before .before .before .before .take-command .ensures)
+    command-moves (lent (s .black-white .now) (s .red .now) (s .gates .now) (s .otp .now)) (s .time) (s .command) (withBuffers (s .state) (s .states .now) (s .luts .now) (picture (s .pixels .now) (s .counts .now)) (s .log .now)) _ _ _ (c .before .before .before .before .before .before .before .before .before .before .before .before .before .before .before .all-lent .ensures) (c .before .before .before .before .before .before .before .before .before .before .before .before .before .before .check-with-table .ensures) (c .before .before .before .before .before .before .before .before .before .before .before .before .before .is-accepted .ensures) _ (c .before .before .before .before .before .before .before .before .before .before .before .before .if1 .taken) (c .before .before .before .before .before .before .before .take-command .ensures)
 
 returns-2 : tie.Need-returns-2
 returns-2 c =
     let s = c .before .before .before .before .before .before .before .before .before .before .before .args in
-    command-refused (lent (s .black-white .now) (s .red .now) (s .gates .now) (s .otp .now)) (s .time) (s .command) (withBuffers (s .state) (s .states .now) (s .luts .now) (s .pixels .now) (s .log .now)) _ _ _ (c .before .before .before .all-lent .ensures) (c .before .before .check-with-table .ensures) (c .before .is-accepted .ensures) (c .if1 .left)
+    command-refused (lent (s .black-white .now) (s .red .now) (s .gates .now) (s .otp .now)) (s .time) (s .command) (withBuffers (s .state) (s .states .now) (s .luts .now) (picture (s .pixels .now) (s .counts .now)) (s .log .now)) _ _ _ (c .before .before .before .all-lent .ensures) (c .before .before .check-with-table .ensures) (c .before .is-accepted .ensures) (c .if1 .left)
 
 pub write-command-spec : {M : Type 1} → statement M
 write-command-spec =

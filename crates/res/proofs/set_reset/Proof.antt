@@ -1,4 +1,5 @@
 -- `res::set_reset` meets its contract.
+use Rattle.counts.specs.Counts.{picture}
 use Rattle.world.specs.World.{withGlassLog}
 use Rattle.res.proofs.Cases.{line-ready, line-log, line-ready-then, line-moves, line-refused}
 use borrow.Author.Needs.{needs}
@@ -17,13 +18,13 @@ is-accepted-requires c κs = search needs
 advance-requires : tie.Need-advance-requires
 advance-requires c κs =
     let s = c .before .before .before .before .before .before .before .before .before .args in
-    line-ready (s .luts .now) (s .time) (s .asserted) (withGlassLog (s .state) (s .states .now) (s .pixels .now) (s .log .now)) _ _ _ (c .before .before .before .before .before .glass-log-lent .ensures) (c .before .before .before .before .check .ensures) (c .before .before .before .is-accepted .ensures) (c .before .before .if1 .taken)
+    line-ready (s .luts .now) (s .time) (s .asserted) (withGlassLog (s .state) (s .states .now) (picture (s .pixels .now) (s .counts .now)) (s .log .now)) _ _ _ (c .before .before .before .before .before .glass-log-lent .ensures) (c .before .before .before .before .check .ensures) (c .before .before .before .is-accepted .ensures) (c .before .before .if1 .taken)
 
 set-line-requires : tie.Need-set-line-requires
 set-line-requires c κs =
     let s = c .before .before .before .before .before .before .before .before .before .before .before .before .before .before .before .before .args in
-    let given = line-ready-then (s .luts .now) (s .time) (s .asserted) (withGlassLog (s .state) (s .states .now) (s .pixels .now) (s .log .now)) _ _ _ (c .before .before .before .before .before .before .before .before .before .before .before .before .glass-log-lent .ensures) (c .before .before .before .before .before .before .before .before .before .before .before .check .ensures) (c .before .before .before .before .before .before .before .before .before .before .is-accepted .ensures) _ (c .before .before .before .before .before .before .before .before .before .if1 .taken) (c .before .before .before .before .before .before .advance .ensures) in
-    (given, line-log (s .luts .now) (s .time) (s .asserted) (withGlassLog (s .state) (s .states .now) (s .pixels .now) (s .log .now)) _ _ _ (c .before .before .before .before .before .before .before .before .before .before .before .before .glass-log-lent .ensures) (c .before .before .before .before .before .before .before .before .before .before .before .check .ensures) (c .before .before .before .before .before .before .before .before .before .before .is-accepted .ensures) (c .before .before .before .before .before .before .before .before .before .if1 .taken))
+    let given = line-ready-then (s .luts .now) (s .time) (s .asserted) (withGlassLog (s .state) (s .states .now) (picture (s .pixels .now) (s .counts .now)) (s .log .now)) _ _ _ (c .before .before .before .before .before .before .before .before .before .before .before .before .glass-log-lent .ensures) (c .before .before .before .before .before .before .before .before .before .before .before .check .ensures) (c .before .before .before .before .before .before .before .before .before .before .is-accepted .ensures) _ (c .before .before .before .before .before .before .before .before .before .if1 .taken) (c .before .before .before .before .before .before .advance .ensures) in
+    (given, line-log (s .luts .now) (s .time) (s .asserted) (withGlassLog (s .state) (s .states .now) (picture (s .pixels .now) (s .counts .now)) (s .log .now)) _ _ _ (c .before .before .before .before .before .before .before .before .before .before .before .before .glass-log-lent .ensures) (c .before .before .before .before .before .before .before .before .before .before .before .check .ensures) (c .before .before .before .before .before .before .before .before .before .before .is-accepted .ensures) (c .before .before .before .before .before .before .before .before .before .if1 .taken))
 
 same-length : tie.Need-same-length
 same-length c = search needs
@@ -37,12 +38,12 @@ same-length-3 c = search needs
 returns : tie.Need-returns
 returns c =
     let s = c .before .before .before .before .before .before .before .before .before .before .before .before .before .before .before .before .before .before .before .before .before .before .args in
-    line-moves (s .luts .now) (s .time) (s .asserted) (withGlassLog (s .state) (s .states .now) (s .pixels .now) (s .log .now)) _ _ _ (c .before .before .before .before .before .before .before .before .before .before .before .before .before .before .before .before .before .before .glass-log-lent .ensures) (c .before .before .before .before .before .before .before .before .before .before .before .before .before .before .before .before .before .check .ensures) (c .before .before .before .before .before .before .before .before .before .before .before .before .before .before .before .before .is-accepted .ensures) _ _ (c .before .before .before .before .before .before .before .before .before .before .before .before .before .before .before .if1 .taken) (c .before .before .before .before .before .before .before .before .before .before .before .before .advance .ensures) (c .before .before .before .before .before .set-line .ensures)
+    line-moves (s .luts .now) (s .time) (s .asserted) (withGlassLog (s .state) (s .states .now) (picture (s .pixels .now) (s .counts .now)) (s .log .now)) _ _ _ (c .before .before .before .before .before .before .before .before .before .before .before .before .before .before .before .before .before .before .glass-log-lent .ensures) (c .before .before .before .before .before .before .before .before .before .before .before .before .before .before .before .before .before .check .ensures) (c .before .before .before .before .before .before .before .before .before .before .before .before .before .before .before .before .is-accepted .ensures) _ _ (c .before .before .before .before .before .before .before .before .before .before .before .before .before .before .before .if1 .taken) (c .before .before .before .before .before .before .before .before .before .before .before .before .advance .ensures) (c .before .before .before .before .before .set-line .ensures)
 
 returns-2 : tie.Need-returns-2
 returns-2 c =
     let s = c .before .before .before .before .before .before .before .args in
-    line-refused (s .luts .now) (s .time) (s .asserted) (withGlassLog (s .state) (s .states .now) (s .pixels .now) (s .log .now)) _ _ _ (c .before .before .before .glass-log-lent .ensures) (c .before .before .check .ensures) (c .before .is-accepted .ensures) (c .if1 .left)
+    line-refused (s .luts .now) (s .time) (s .asserted) (withGlassLog (s .state) (s .states .now) (picture (s .pixels .now) (s .counts .now)) (s .log .now)) _ _ _ (c .before .before .before .glass-log-lent .ensures) (c .before .before .check .ensures) (c .before .is-accepted .ensures) (c .if1 .left)
 
 pub set-reset-spec : {M : Type 1} → statement M
 set-reset-spec =
