@@ -46,8 +46,8 @@ blind-advanced luts time g = by (isOver (clocked time g .device))
 -- ---- 0x20
 joined-plain : (w : WithBuffers) (s : WithLuts) → plainBuffers (bothLeft s (arrived w s)) ≡ plainBuffers (bothLeft (plainLuts s) (arrived (plainBuffers w) (plainLuts s)))
 joined-plain w s =
-    ap (λ (g : WithGlass). withBuffers (g .device) (g .states) (s .luts) (g .pixels) [])
-    (blind-advanced (s .luts) (s .device .now) (withGlass (s .device) (w .states) (w .pixels)))
+    ap (λ (g : WithGlass). withBuffers (g .device) (g .states) (s .luts) (g .picture) [])
+    (blind-advanced (s .luts) (s .device .now) (withGlass (s .device) (w .states) (w .picture)))
 
 pub blind-activated : (k : Lent) → Blind plainBuffers plainBuffers (activated k)
 unfolding activated
@@ -64,7 +64,7 @@ pub quiet-log : (f : WithLog → WithLog) → QuietLog f → QuietBuffers (on lo
 quiet-log f q =
     record {
       blind = λ (w : WithBuffers). ap (λ (k : WithLog). withBuffers (k .device) [] (w .luts) [] (k .log)) (q .blind (withLog (w .device) (w .log)));
-      still = λ (w : WithBuffers). ap (behind (w .states) (w .pixels)) (q .still (withLog (w .device) (w .log)));
+      still = λ (w : WithBuffers). ap (behind (w .states) (w .picture)) (q .still (withLog (w .device) (w .log)));
     }
 
 abbrev pub told : DiagnosticKind → WithBuffers → WithBuffers

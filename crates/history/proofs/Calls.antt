@@ -46,19 +46,19 @@ pub accepted-taken : (otp : List ℕ) (w v : World) (call : Call) → outcome 0 
 unfolding clockMoved lineMoved commandWritten dataWritten dataRead ambientSet diagnosticsTaken
 accepted-taken otp w v (advance time) e =
     decides (glassInWorld .put w) (glassInWorld .get w) (advanced (w .luts) time (glassInWorld .get w))
-    (guarded (w .device) (glassLent (length (w .states)) (length (w .luts)) (length (w .pixels)))) v e
+    (guarded (w .device) (glassLent (length (w .states)) (length (w .luts)) (length (w .picture .pixels)) (length (w .picture .counts)))) v e
 accepted-taken otp w v (set-reset time low) e =
     decides (glassLogInWorld .put w) (glassLogInWorld .get w) (lineTaken (w .luts) time low (glassLogInWorld .get w))
-    (guarded (w .device) (glassLogLent (length (w .states)) (length (w .luts)) (length (w .pixels)) (length (w .log)))) v e
+    (guarded (w .device) (glassLogLent (length (w .states)) (length (w .luts)) (length (w .picture .pixels)) (length (w .picture .counts)) (length (w .log)))) v e
 accepted-taken otp w v (write-command time command) e =
     decides (buffersInWorld .put w) (buffersInWorld .get w) (commandTaken (lentOf otp w) time command (buffersInWorld .get w))
     (guardedWithTable (w .device) (lengthsInWorld w) otp) v e
 accepted-taken otp w v (write-data time byte) e =
     decides (planesInWorld .put w) (planesInWorld .get w) (dataIn (w .luts) time byte (planesInWorld .get w))
-    (guarded (w .device) (planesLogLent (length (w .states)) (length (w .luts)) (length (w .pixels)) (length (w .log)) (length (w .blackWhite)) (length (w .red)))) v e
+    (guarded (w .device) (planesLogLent (length (w .states)) (length (w .luts)) (length (w .picture .pixels)) (length (w .picture .counts)) (length (w .log)) (length (w .blackWhite)) (length (w .red)))) v e
 accepted-taken otp w v (read-data time) e =
     decides (λ (r : WithRead). glassLogInWorld .put w (r .left)) (withRead (glassLogInWorld .get w) Nothing) (readIn (w .luts) (w .blackWhite) (w .red) time (glassLogInWorld .get w))
-    (guarded (w .device) (planesLogLent (length (w .states)) (length (w .luts)) (length (w .pixels)) (length (w .log)) (length (w .blackWhite)) (length (w .red)))) v e
+    (guarded (w .device) (planesLogLent (length (w .states)) (length (w .luts)) (length (w .picture .pixels)) (length (w .picture .counts)) (length (w .log)) (length (w .blackWhite)) (length (w .red)))) v e
 accepted-taken otp w v (set-ambient register) e =
     decides (deviceInWorld .put w) (w .device) (withConfig (w .device) (withAmbient (w .device .config) register))
     (stateGuarded (w .device)) v e
@@ -70,19 +70,19 @@ pub refused-same : (otp : List ℕ) (w v : World) (number : ℕ) (call : Call) �
 unfolding clockMoved lineMoved commandWritten dataWritten dataRead ambientSet diagnosticsTaken
 refused-same otp w v number (advance time) n e =
     declines (glassInWorld .put w) (glassInWorld .get w) (advanced (w .luts) time (glassInWorld .get w))
-    (guarded (w .device) (glassLent (length (w .states)) (length (w .luts)) (length (w .pixels)))) number v n e
+    (guarded (w .device) (glassLent (length (w .states)) (length (w .luts)) (length (w .picture .pixels)) (length (w .picture .counts)))) number v n e
 refused-same otp w v number (set-reset time low) n e =
     declines (glassLogInWorld .put w) (glassLogInWorld .get w) (lineTaken (w .luts) time low (glassLogInWorld .get w))
-    (guarded (w .device) (glassLogLent (length (w .states)) (length (w .luts)) (length (w .pixels)) (length (w .log)))) number v n e
+    (guarded (w .device) (glassLogLent (length (w .states)) (length (w .luts)) (length (w .picture .pixels)) (length (w .picture .counts)) (length (w .log)))) number v n e
 refused-same otp w v number (write-command time command) n e =
     declines (buffersInWorld .put w) (buffersInWorld .get w) (commandTaken (lentOf otp w) time command (buffersInWorld .get w))
     (guardedWithTable (w .device) (lengthsInWorld w) otp) number v n e
 refused-same otp w v number (write-data time byte) n e =
     declines (planesInWorld .put w) (planesInWorld .get w) (dataIn (w .luts) time byte (planesInWorld .get w))
-    (guarded (w .device) (planesLogLent (length (w .states)) (length (w .luts)) (length (w .pixels)) (length (w .log)) (length (w .blackWhite)) (length (w .red)))) number v n e
+    (guarded (w .device) (planesLogLent (length (w .states)) (length (w .luts)) (length (w .picture .pixels)) (length (w .picture .counts)) (length (w .log)) (length (w .blackWhite)) (length (w .red)))) number v n e
 refused-same otp w v number (read-data time) n e =
     declines (λ (r : WithRead). glassLogInWorld .put w (r .left)) (withRead (glassLogInWorld .get w) Nothing) (readIn (w .luts) (w .blackWhite) (w .red) time (glassLogInWorld .get w))
-    (guarded (w .device) (planesLogLent (length (w .states)) (length (w .luts)) (length (w .pixels)) (length (w .log)) (length (w .blackWhite)) (length (w .red)))) number v n e
+    (guarded (w .device) (planesLogLent (length (w .states)) (length (w .luts)) (length (w .picture .pixels)) (length (w .picture .counts)) (length (w .log)) (length (w .blackWhite)) (length (w .red)))) number v n e
 refused-same otp w v number (set-ambient register) n e =
     declines (deviceInWorld .put w) (w .device) (withConfig (w .device) (withAmbient (w .device .config) register))
     (stateGuarded (w .device)) number v n e

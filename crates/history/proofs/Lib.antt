@@ -8,6 +8,7 @@ pub mod Begun
 pub mod Read
 pub mod Core
 pub mod Shows
+pub mod Counted
 pub mod Line
 pub mod Once
 pub mod Moved

@@ -98,7 +98,7 @@ module _ (k : Lent) (number : Marks) where
       → Shows (seenBuffers (activated k w)) (over (w .device .config) (endsIn (stagedIn k w .luts) (stagedIn k w .device .now) (stagedIn k w .device)) number)
   unfolding activated staged runSettled
   staged-shows w h =
-      advance-shows (stagedIn k w .luts) (stagedIn k w .device .now) (withGlass (stagedIn k w .device) (w .states) (w .pixels)) number
+      advance-shows (stagedIn k w .luts) (stagedIn k w .device .now) (withGlass (stagedIn k w .device) (w .states) (w .picture)) number
       (record {
         swing = h .swing;
         some = h .some;
@@ -107,6 +107,9 @@ module _ (k : Lent) (number : Marks) where
         states = h .states;
         within = h .within;
         pixels = h .pixels;
+        sized = h .sized;
+        pixels-long = h .pixels-long;
+        counts = h .counts;
         generation = h .generation;
       })
 

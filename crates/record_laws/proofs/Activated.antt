@@ -72,5 +72,5 @@ module _ (k : Lent) (w : WithBuffers) where
   unfolding activated
   activated-recorded h =
       subst (RecordedIn (k .otp))
-      (sym (regs-advanced (stagedIn k w .luts) (stagedIn k w .device .now) (withGlass (stagedIn k w .device) (w .states) (w .pixels))))
+      (sym (regs-advanced (stagedIn k w .luts) (stagedIn k w .device .now) (withGlass (stagedIn k w .device) (w .states) (w .picture))))
       (staged-recorded h)
