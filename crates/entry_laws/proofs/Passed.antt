@@ -1,5 +1,5 @@
 -- What a call that is accepted has: what its callees ask. Assumes nothing.
-use Prim.Native.Nat.{ℕ, _<_, _^_}
+use Prim.Native.Nat.{ℕ, _≤_, _<_, _^_}
 use mathlib.Core.Path.{_≡_, refl, sym, ap, _∙_}
 use mathlib.Core.Bool.{Bool, true, false}
 use mathlib.Core.List.{List}
@@ -39,7 +39,8 @@ module _ (d : Ssd1677) (states : List ℤ) (luts pixels counts : List ℕ) (log 
   few : length states < 2 ^ 32
   few =
       let f = fine-state d fine .panel in
-      let most = mul-le-mul {n₂ = 960} {m₂ = 680} {n₁ = d .config .panel .width} {m₁ = d .config .panel .height} (omega (arith, f .sources)) (f .gates) in
+      let wide : d .config .panel .width ≤ 960 = omega (arith, f .sources) in
+      let most = mul-le-mul {n₂ = 960} {m₂ = 680} wide (f .gates) in
       omega (arith, most, fine-lengths (d .config .panel) lengths fit .states)
 
   -- what finishing a display asks
