@@ -18,7 +18,7 @@ use Rattle.chip.specs.Close.{closed}
 use Rattle.clock.proofs.Arrived.{config-advanced, swing-advanced, regs-advanced, journal-advanced, current-advanced, states-advanced}
 use Rattle.reset.proofs.Kept.{ready-closed, ready-line}
 use Rattle.activation.proofs.Kept.{ready-advanced}
-use Rattle.begin_laws.proofs.Kept.{config-begun, swing-begun, states-begun, luts-begun, pixels-begun, log-begun, count-begun, bounded-begun, current-begun}
+use Rattle.begin_laws.proofs.Kept.{config-begun, swing-begun, states-begun, luts-begun, pixels-begun, ready-begun, log-begun, count-begun, bounded-begun, current-begun}
 use Rattle.data.specs.Data.{oneByteMore}
 use Rattle.data_laws.proofs.Kept.{data-leaves, current-kept}
 use Rattle.reading.specs.Reading.{oneReadMore}

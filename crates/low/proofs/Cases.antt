@@ -67,7 +67,7 @@ module _ (d : Ssd1677) (states : List ℤ) (luts pixels blackWhite red gates log
               log-long = same-log ∙ s .log-long;
             };
         ready =
-            ready-closed (a .states) luts (a .picture) (withLog (a .device) log) c is-closed
+            ready-closed (a .states) luts (a .picture .pixels) (a .picture .counts) (withLog (a .device) log) c is-closed
             (subst (λ (g : WithGlass). Ready (g .device) (g .states) luts (g .picture .pixels) (g .picture .counts)) (sym moved)
             (ready-advanced luts time (withGlass d states pixels) (h .ready)));
       }
