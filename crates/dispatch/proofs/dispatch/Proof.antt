@@ -1,5 +1,6 @@
 -- `dispatch::dispatch` meets its contract: what the entry point ensures, put back into the whole.
 use mathlib.Core.Path.{sym, ap, _∙_}
+use Rattle.counts.specs.Counts.{picture}
 use Rattle.world.specs.World.{World, world, glassInWorld, glassLogInWorld, buffersInWorld, planesInWorld}
 use Rattle.dispatch.specs.Dispatch.{tells, tellsRead, dispatched}
 use borrow.Author.Needs.{needs}
@@ -68,7 +69,7 @@ same-length-6 c = search needs
 
 abbrev given : tie.Start → World
 given s =
-    world (s .args .state) (s .args .states .now) (s .args .luts .now) (s .args .pixels .now) (s .args .black-white .now) (s .args .red .now) (s .args .gates .now) (s .args .log .now)
+    world (s .args .state) (s .args .states .now) (s .args .luts .now) (picture (s .args .pixels .now) (s .args .counts .now)) (s .args .black-white .now) (s .args .red .now) (s .args .gates .now) (s .args .log .now)
 
 returns : tie.Need-returns
 unfolding dispatched
