@@ -7,7 +7,7 @@ use native.Mathlib.Omega.{arith}
 use lib.Dec.{eqb}
 use lib.IntN.{ℤ}
 use lib.ListN.{length, getD}
-use borrow.Author.Tests.{eqb-true}
+use borrow.Author.Tests.{eqb-true, eq-eqb}
 use Rattle.numbers.specs.Choice.{pick}
 use Rattle.numbers.specs.Rows.{lookup}
 use Rattle.numbers.proofs.Cases.{left, right}
@@ -33,7 +33,7 @@ use Rattle.guard_lengths.specs.Lengths.{lengthsFit, planesLogLent}
 use Rattle.guard_kinds.specs.Kinds.{currentFine}
 use Rattle.guard_state.specs.State.{panelFine, swingFine, periodsFine, registersFine, countFine, frequencyFine, stateFine}
 use Rattle.guard_laws.proofs.Joined.{each}
-use Rattle.guard_laws.proofs.Accepted.{fine-registers, accepted-state, accepted-lengths}
+use Rattle.guard_laws.proofs.Accepted.{fine-registers, accepted-state, accepted-lengths, accepted-counts}
 use Rattle.guard_laws.proofs.Kept.{registers-pass, state-passes}
 use Rattle.guard.specs.declared.Refusal.{Refusal}
 use Rattle.guard.specs.declared.Refusal.the-variants.{Accepted}
@@ -101,9 +101,9 @@ module _ (d : Ssd1677) (a : Active) (is : d .bus .current ≡ current.Active a) 
       }))
       (passed 4) (still-current (s .received)) (passed 6)
 
-accepted : (d : Ssd1677) (l : Lengths) → stateFine d ≡ true → lengthsFit (d .config .panel) l ≡ true → guarded d l ≡ Accepted
+accepted : (d : Ssd1677) (l : Lengths) → stateFine d ≡ true → lengthsFit (d .config .panel) l ≡ true → l .counts ≡ 256 → guarded d l ≡ Accepted
 unfolding guarded
-accepted d l e f = rw (e, f)
+accepted d l e f k = rw (e, f, eq-eqb (l .counts) 256 k)
 
 -- ---- a byte of a burst is a call
 
@@ -114,7 +114,8 @@ data-event kind time value e = rw e
 
 -- the command's own plane, of two: `white` says that it is the black-white one
 module _ (d : Ssd1677) (a : Active) (is : d .bus .current ≡ current.Active a) (fine : stateFine d ≡ true) (streams : isStream (a .kind) ≡ true)
-    (white : Bool) (plane-is : eqb (a .command) 0x24 ≡ white) (other : List ℕ) (states : List ℤ) (luts : List ℕ) (shown : Picture) (gates log : List ℕ) where
+    (white : Bool) (plane-is : eqb (a .command) 0x24 ≡ white) (other : List ℕ) (states : List ℤ) (luts : List ℕ) (shown : Picture) (gates log : List ℕ)
+    (counted : length (shown .counts) ≡ 256) where
   -- the planes' lengths are such as 11 accepts
   Fit : List ℕ → Type 0
   Fit p =
@@ -171,7 +172,7 @@ module _ (d : Ssd1677) (a : Active) (is : d .bus .current ≡ current.Active a) 
   unfolding Fit
   written-one time byte s p ten fit quiet there =
       let l = planesLogLent (length states) (length luts) (length (shown .pixels)) (length (shown .counts)) (length log) (length (pick white p other)) (length (pick white other p)) in
-      let ok = accepted (reachedBy d a s) l (fine-reached d a is fine s ten) fit in
+      let ok = accepted (reachedBy d a s) l (fine-reached d a is fine s ten) fit counted in
       ap (λ (r : Refusal). outcome (refusalNumber r) (planes (onward (courseOf d) time s) (writtenAt p (s .counter) byte))) (sym ok)
       ∙ data-rests luts time byte (planes s p) l (guarded (reachedBy d a s) l) (accepts (guarded (reachedBy d a s) l)) refl refl refl
       (withNow (reachedBy d a s) (max (s .latest) time)) true
@@ -306,8 +307,9 @@ module _ (kinds times values : List ℕ) (count i : ℕ) (within : i ≤ count) 
           ∙ ap (λ (p : List ℕ). planesLogLent (length states) (length luts) (length (shown .pixels)) (length (shown .counts)) (length log) (length p) (length red)) first
           ∙ ap (λ (p : List ℕ). planesLogLent (length states) (length luts) (length (shown .pixels)) (length (shown .counts)) (length log) (length (pick white plane other)) (length p)) second))
           ∙ accepted-lengths d lengths passes in
+          let counted = ap (λ (l : Lengths). l .counts) (sym e) ∙ accepted-counts d lengths passes in
           ap (λ (k : ℕ). feeding step k m (world (burst .device) states luts shown (burst .blackWhite) (burst .red) gates log)) (sym all)
-          ∙ burst-alike d a is fine streams white plane-is other states luts shown gates log otp kinds times values (count - i) i (startOf d a) plane
+          ∙ burst-alike d a is fine streams white plane-is other states luts shown gates log counted otp kinds times values (count - i) i (startOf d a) plane
           (counter-ten d a is fine) fit
           ∙ ap (λ (x : Ssd1677). feeding step (count - i) i (world x states luts shown (pick white plane other) (pick white other plane) gates log)) (starts d a is)
           ∙ ap (λ (p : List ℕ). feeding step (count - i) i (world d states luts shown p (pick white other plane) gates log)) (sym first)
