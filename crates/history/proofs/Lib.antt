@@ -18,6 +18,7 @@ pub mod Going
 pub mod Calls
 pub mod Start
 pub mod History
+pub mod Recorded
 pub mod Cuts
 pub mod Tells
 pub mod TellsLog

@@ -2,3 +2,6 @@
 pub mod Registers
 pub mod Loaded
 pub mod Activated
+pub mod Begun
+pub mod Data
+pub mod Read
