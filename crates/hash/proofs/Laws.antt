@@ -11,7 +11,7 @@ use lib.Signed.{ltZ}
 use lib.ListN.{length, take, getD}
 use lib.Seq.{take-suc, take-length}
 use Rattle.numbers.proofs.Lin.{whole, lt-true}
-use Rattle.hash.specs.Hash.{stepOf, hashFrom, hashOf, wordBytes, patternOf, fourOf, stateBytes}
+use Rattle.hash.specs.Hash.{stepOf, hashFrom, hashOf, wordBytes, patternOf, fourOf, countBytes, stateBytes}
 
 pub hash-more : (h : ℕ) (s t : List ℕ) → hashFrom h (s ++ t) ≡ hashFrom (hashFrom h s) t
 unfolding hashFrom
@@ -48,6 +48,11 @@ pub words-more : (s : List ℕ) (w : ℕ) → wordBytes (s ++ (w ∷ [])) ≡ wo
 unfolding wordBytes
 words-more [] w = refl
 words-more (v ∷ s) w = ap (λ (t : List ℕ). v % 256 ∷ v / 256 ∷ t) (words-more s w)
+
+pub counts-more : (s : List ℕ) (n : ℕ) → countBytes (s ++ (n ∷ [])) ≡ countBytes s ++ countBytes (n ∷ [])
+unfolding countBytes
+counts-more [] n = refl
+counts-more (m ∷ s) n = ap (λ (t : List ℕ). fourOf m ++ t) (counts-more s n)
 
 pub states-more : (s : List ℤ) (z : ℤ) → stateBytes (s ++ (z ∷ [])) ≡ stateBytes s ++ stateBytes (z ∷ [])
 unfolding stateBytes

@@ -6,7 +6,7 @@ use mathlib.Core.List.{List}
 use native.Mathlib.Omega.{arith}
 use lib.ListN.{length}
 use Rattle.guard.specs.declared.Refusal.{Refusal}
-use Rattle.guard.specs.declared.Refusal.the-variants.{Accepted, Buffer, Table, State}
+use Rattle.guard.specs.declared.Refusal.the-variants.{Accepted, Buffer, Table, State, Counts}
 use Rattle.guard_lengths.specs.Lengths.{glassLent, glassLogLent, planesLogLent}
 use Rattle.guard.specs.Refusals.{guarded, guardedWithTable}
 use Rattle.clock.specs.Advance.{advanced}
@@ -34,12 +34,14 @@ module _ {A : Type 0} (put : A → World) (given done : A) where
   decides Buffer v e = absurd (nought 10 (ap (λ (o : Outcome World). o .number) e))
   decides Table v e = absurd (nought 11 (ap (λ (o : Outcome World). o .number) e))
   decides State v e = absurd (nought 12 (ap (λ (o : Outcome World). o .number) e))
+  decides Counts v e = absurd (nought 14 (ap (λ (o : Outcome World). o .number) e))
 
   declines : (r : Refusal) (number : ℕ) (v : World) → (number ≡ 0 → ⊥) → outcome number v ≡ back put (unless r given done) → v ≡ put given
   declines Accepted number v n e = absurd (n (ap (λ (o : Outcome World). o .number) e))
   declines Buffer number v n e = ap (λ (o : Outcome World). o .held) e
   declines Table number v n e = ap (λ (o : Outcome World). o .held) e
   declines State number v n e = ap (λ (o : Outcome World). o .held) e
+  declines Counts number v n e = ap (λ (o : Outcome World). o .held) e
 
 -- ---- by call
 pub accepted-taken : (otp : List ℕ) (w v : World) (call : Call) → outcome 0 v ≡ called otp w call → v ≡ taken otp w call

@@ -182,7 +182,7 @@ thenBuffers = tells-then inBuffers inBuffers inBuffers
 buffers-log : (n : ℕ) (f : WithLog → WithLog) → TellsLog n f → TellsBuffers n (on logInBuffers f)
 buffers-log n f t =
     record {
-      blind = λ (w : WithBuffers). ap (λ (k : WithLog). withBuffers (k .device) [] (w .luts) [] (k .log)) (t .blind (withLog (w .device) (w .log)));
+      blind = λ (w : WithBuffers). ap (λ (k : WithLog). withBuffers (k .device) [] (w .luts) unseen (k .log)) (t .blind (withLog (w .device) (w .log)));
       makes = λ (w : WithBuffers). t .makes (withLog (w .device) (w .log));
       is = λ (w : WithBuffers). t .is (withLog (w .device) (w .log));
       adds = λ (w : WithBuffers). t .adds (withLog (w .device) (w .log));

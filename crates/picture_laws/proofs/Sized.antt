@@ -122,7 +122,7 @@ module _ (p : PanelGeometry) where
   begun-sized : (k : Lent) (command : ℕ) (w : WithBuffers) (power : Power) → SizedBuffers w → SizedBuffers (begun k command w power)
   unfolding logged commandMade restored
   begun-sized k command w power h =
-      begun-keeps SizedBuffers (λ kind w h. h) (λ command kind w e h. h) (λ w h. h) (λ ns w h. h) activated-sized k command w h power
+      begun-keeps k SizedBuffers (λ kind w h. h) (λ command kind w e h. h) (λ w h. h) (λ ns w h. h) (activated-sized k) command w h power
 
   -- ---- every call
   module _ (otp : List ℕ) (w : World) (h : SizedWorld w) where

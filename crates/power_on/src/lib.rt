@@ -1,9 +1,10 @@
 // The chip at power-on (mod.rs, `new`): the configuration, the table and the lent buffers are tested, then all of it is set up.
 ghost use mathlib.Core.Path.{_≡_};
-ghost use Prim.Native.Nat.{_≤_};
+ghost use Prim.Native.Nat.{_≤_, _<_, _^_};
 ghost use lib.ListN.{length};
 ghost use Rattle.config.specs.Answer.{isAccepted, firstOf, answerOf};
 ghost use Rattle.gates_laws.specs.OneToOne.{Scanned};
+ghost use Rattle.counts.specs.Counts.{picture};
 ghost use Rattle.power_on.specs.Start.{allTests, startAnswerOf, noDisplay, chipWith, unstarted, clean, cleared, buffers, powered, poweredUp, start, started, refusalOf};
 use config::ConfigError;
 use config::Ssd1677Config;
@@ -224,7 +225,7 @@ fn power_up(
     gates: &mut [u16],
     log: &mut [u8],
 ) -> Ssd1677
-    requires { ⌜ (1 ≤ config .optics .«full_swing») × Scanned (config .panel .«native_scan») (config .panel .height) × (length (now gates) ≡ config .panel .height) ⌝ }
+    requires { ⌜ (1 ≤ config .optics .«full_swing») × Scanned (config .panel .«native_scan») (config .panel .height) × (length (now gates) ≡ config .panel .height) × (length (now counts) ≡ 256) × (length (now pixels) < 2 ^ 32) ⌝ }
     ensures { λ r. ⌜ powered r (buffers (now (states .exit)) (now (luts .exit)) (picture (now (pixels .exit)) (now (counts .exit))) (now («black_white» .exit)) (now (red .exit)) (now (gates .exit)) (now (log .exit))) ≡ poweredUp config (buffers (now (states .entry)) (now (luts .entry)) (picture (now (pixels .entry)) (now (counts .entry))) (now («black_white» .entry)) (now (red .entry)) (now (gates .entry)) (now (log .entry))) ⌝ }
 {
     let panel = panel_start::new(config.panel, config.optics, states, luts, pixels, counts);
@@ -234,7 +235,7 @@ fn power_up(
 }
 
 // The chip at power-on, under a configuration and a table. Planes and log are lent to be filled with 0x00, chosen LUTs with 255, states,
-// pixels and gates as the glass needs them.
+// pixels, their counts and gates as the glass needs them.
 pub fn new(
     config: Ssd1677Config,
     states: &mut [i64],

@@ -6,6 +6,7 @@ use lib.ListN.{length}
 use borrow.Author.Needs.{needs}
 use borrow.Author.Tests.{not-true, not-false}
 use Rattle.query.specs.Outcome.{Outcome}
+use Rattle.counts.specs.Counts.{picture}
 use Rattle.world.specs.World.{World, world}
 use Rattle.traffic.specs.Traffic.{eventAt, made, feeding}
 use Rattle.traffic.proofs.Feeding.{fed-all, ended-on, ended-there}
@@ -13,14 +14,14 @@ use Rattle.traffic.proofs.feed.Statement.{statement}
 use Rattle.traffic.proofs.feed.Tie as tie
 
 abbrev Inv-loop : tie.InvT-loop
-Inv-loop states₀ luts₀ pixels₀ black-white₀ red₀ gates log₀ otp kinds times values count next₀ i₀ states luts pixels black-white red log next i =
-    (feeding (made otp (eventAt kinds times values)) (count - i) i (world next states luts pixels black-white red gates log)
-    ≡ feeding (made otp (eventAt kinds times values)) count 0 (world next₀ states₀ luts₀ pixels₀ black-white₀ red₀ gates log₀))
-    × ((length states ≡ length states₀) × (length luts ≡ length luts₀) × (length pixels ≡ length pixels₀)
+Inv-loop states₀ luts₀ pixels₀ counts₀ black-white₀ red₀ gates log₀ otp kinds times values count next₀ i₀ states luts pixels counts black-white red log next i =
+    (feeding (made otp (eventAt kinds times values)) (count - i) i (world next states luts (picture pixels counts) black-white red gates log)
+    ≡ feeding (made otp (eventAt kinds times values)) count 0 (world next₀ states₀ luts₀ (picture pixels₀ counts₀) black-white₀ red₀ gates log₀))
+    × ((length states ≡ length states₀) × (length luts ≡ length luts₀) × (length pixels ≡ length pixels₀) × (length counts ≡ length counts₀)
     × (length black-white ≡ length black-white₀) × (length red ≡ length red₀) × (length log ≡ length log₀) × (i ≤ count))
 
 abbrev μ-loop : tie.MeasureT-loop
-μ-loop states₀ luts₀ pixels₀ black-white₀ red₀ gates log₀ otp kinds times values count next₀ i₀ states luts pixels black-white red log next i = count - i
+μ-loop states₀ luts₀ pixels₀ counts₀ black-white₀ red₀ gates log₀ otp kinds times values count next₀ i₀ states luts pixels counts black-white red log next i = count - i
 
 -- the step of each place
 abbrev step : tie.Start Inv-loop μ-loop → ℕ → World → Outcome World
@@ -29,7 +30,7 @@ step s = made (s .args .otp .now) (eventAt (s .args .kinds .now) (s .args .times
 -- what the device is at first
 abbrev given : tie.Start Inv-loop μ-loop → World
 given s =
-    world (s .args .state) (s .args .states .now) (s .args .luts .now) (s .args .pixels .now) (s .args .black-white .now) (s .args .red .now) (s .args .gates .now) (s .args .log .now)
+    world (s .args .state) (s .args .states .now) (s .args .luts .now) (picture (s .args .pixels .now) (s .args .counts .now)) (s .args .black-white .now) (s .args .red .now) (s .args .gates .now) (s .args .log .now)
 
 shorter-requires : tie.Need-shorter-requires Inv-loop μ-loop
 shorter-requires c κs = search needs
@@ -128,7 +129,7 @@ returns-2 : tie.Need-returns-2 Inv-loop μ-loop
 returns-2 c =
     let s = c .before .before .before .before .before .before .before .before .before .before .before .before .before .before in
     let m = c .before in
-    let w = world (m .loop .next) (m .loop .states) (m .loop .luts) (m .loop .pixels) (m .loop .black-white) (m .loop .red) (s .args .gates .now) (m .loop .log) in
+    let w = world (m .loop .next) (m .loop .states) (m .loop .luts) (picture (m .loop .pixels) (m .loop .counts)) (m .loop .black-white) (m .loop .red) (s .args .gates .now) (m .loop .log) in
     let n = m .before .shorter2 .result in
     let none : n - m .loop .i ≡ 0 = omega (arith, c .loop-test .left) in
     fed-all (step s) n (m .loop .i) (feeding (step s) n 0 (given s)) w none (m .loop .inv .0)

@@ -1,6 +1,7 @@
 -- `traffic::one` meets its contract: no event is left, or the next one is made, accepted or refused.
 use mathlib.Core.Path.{refl}
 use native.Mathlib.Omega.{arith}
+use Rattle.counts.specs.Counts.{picture}
 use Rattle.guard.specs.declared.Refusal.the-variants.{Accepted}
 use Rattle.world.specs.World.{world}
 use Rattle.traffic.specs.Traffic.{eventAt, made}
@@ -12,7 +13,7 @@ use Rattle.traffic.proofs.one.Tie as tie
 returns : tie.Need-returns
 returns c =
     let s = c .before .before .before .before .before .before .before .before .before .before .before in
-    (λ h. omega (arith, s .pre .0, c .if1 .taken), ended-on (made (s .args .otp .now) (eventAt (s .args .kinds .now) (s .args .times .now) (s .args .values .now))) (s .args .count) Accepted (s .args .at) (world (s .args .state) (s .args .states .now) (s .args .luts .now) (s .args .pixels .now) (s .args .black-white .now) (s .args .red .now) (s .args .gates .now) (s .args .log .now)) refl)
+    (λ h. omega (arith, s .pre .0, c .if1 .taken), ended-on (made (s .args .otp .now) (eventAt (s .args .kinds .now) (s .args .times .now) (s .args .values .now))) (s .args .count) Accepted (s .args .at) (world (s .args .state) (s .args .states .now) (s .args .luts .now) (picture (s .args .pixels .now) (s .args .counts .now)) (s .args .black-white .now) (s .args .red .now) (s .args .gates .now) (s .args .log .now)) refl)
 
 shared-slice-read-event-of : tie.Need-shared-slice-read-event-of
 shared-slice-read-event-of c = search needs
@@ -58,8 +59,8 @@ same-length-6 c = search needs
 returns-2 : tie.Need-returns-2
 returns-2 c =
     let s = c .before .before .before .before .before .before .before .before .before .before .before .before .before .before .before .before .before .before .before .before .before .before .before .before .before .before .before .before .before .before .before .before .before .before .before in
-    step-made (made (s .args .otp .now) (eventAt (s .args .kinds .now) (s .args .times .now) (s .args .values .now))) (s .args .count) (s .args .at) (c .counted .result) (world (s .args .state) (s .args .states .now) (s .args .luts .now) (s .args .pixels .now) (s .args .black-white .now) (s .args .red .now) (s .args .gates .now) (s .args .log .now)) (c .before .before .before .before .before .before .before .before .before .before .before .before .before .dispatch .result .refusal) (c .before .before .before .before .before .before .before .before .before .before .before .before .before .before .before .before .before .before .before .before .before .before .before .before .if1 .left) (c .counted .ensures)
-    (made-one (s .args .otp .now) (eventAt (s .args .kinds .now) (s .args .times .now) (s .args .values .now)) (s .args .at) (world (s .args .state) (s .args .states .now) (s .args .luts .now) (s .args .pixels .now) (s .args .black-white .now) (s .args .red .now) (s .args .gates .now) (s .args .log .now)) (c .before .before .before .before .before .before .before .before .before .before .before .before .before .dispatch .ensures) (c .before .before .before .before .before .before .before .before .before .before .before .before .before .before .before .before .before .before .before .before .event-of .ensures))
+    step-made (made (s .args .otp .now) (eventAt (s .args .kinds .now) (s .args .times .now) (s .args .values .now))) (s .args .count) (s .args .at) (c .counted .result) (world (s .args .state) (s .args .states .now) (s .args .luts .now) (picture (s .args .pixels .now) (s .args .counts .now)) (s .args .black-white .now) (s .args .red .now) (s .args .gates .now) (s .args .log .now)) (c .before .before .before .before .before .before .before .before .before .before .before .before .before .dispatch .result .refusal) (c .before .before .before .before .before .before .before .before .before .before .before .before .before .before .before .before .before .before .before .before .before .before .before .before .if1 .left) (c .counted .ensures)
+    (made-one (s .args .otp .now) (eventAt (s .args .kinds .now) (s .args .times .now) (s .args .values .now)) (s .args .at) (world (s .args .state) (s .args .states .now) (s .args .luts .now) (picture (s .args .pixels .now) (s .args .counts .now)) (s .args .black-white .now) (s .args .red .now) (s .args .gates .now) (s .args .log .now)) (c .before .before .before .before .before .before .before .before .before .before .before .before .before .dispatch .ensures) (c .before .before .before .before .before .before .before .before .before .before .before .before .before .before .before .before .before .before .before .before .event-of .ensures))
 
 pub one-spec : {M : Type 1} → statement M
 one-spec =

@@ -1,6 +1,7 @@
 -- `traffic::turn` meets its contract: the RAM data are fed as they would be a byte a call, and the event after them is the next.
 use mathlib.Core.Path.{_∙_}
 use native.Mathlib.Omega.{arith}
+use Rattle.counts.specs.Counts.{picture}
 use Rattle.traffic.specs.Traffic.{EndsAlike}
 use borrow.Author.Needs.{needs}
 use Rattle.traffic.proofs.turn.Statement.{statement}
@@ -40,7 +41,7 @@ returns c =
     let k = c .before .before .before .before .before .before .before .before .before .before .before .before .before .before .before .before .before .before .before .before .before .before .before .stream .ensures in
     let o = c .before .before .before .before .before .before .before .before .before .before .before .one .ensures in (
       λ h. let m = o .0 h in (omega (arith, m, k .0 .0, s .pre .0), omega (arith, m)),
-      o .1 ∙ k .1 (s .args .gates .now) (s .args .otp .now) (s .args .luts .now) (s .args .pixels .now) (s .args .log .now) (s .args .states .now) (c .before .before .before .before .before .before .before .before .before .before .before .before .before .before .before .before .before .before .before .before .before .before .before .before .before .before .planes-log-lent .ensures),
+      o .1 ∙ k .1 (s .args .gates .now) (s .args .otp .now) (s .args .luts .now) (picture (s .args .pixels .now) (s .args .counts .now)) (s .args .log .now) (s .args .states .now) (c .before .before .before .before .before .before .before .before .before .before .before .before .before .before .before .before .before .before .before .before .before .before .before .before .before .before .planes-log-lent .ensures),
     )
 
 pub turn-spec : {M : Type 1} → statement M
