@@ -1,20 +1,21 @@
 // The groups of a setting and their phases, read where the bytes stand (datasheet Figure 6-6): a waveform made of all of them
-// would be 424 bytes written to be read once.
+// is 424 bytes, written before any of it is read.
 use waveform::Drive;
 use waveform::Driving;
 use waveform::Phase;
 ghost use mathlib.Core.Path.{_≡_};
-ghost use Prim.Native.Nat.{_+_, _*_, _<_};
+ghost use Prim.Native.Nat.{_<_};
 ghost use lib.ListN.{getD};
 ghost use Rattle.waveform.specs.Phases.{Takes, codeFor};
-ghost use Rattle.waveform.specs.Setting.{codeIn, codesOf, frameRateOf};
+ghost use Rattle.waveform.specs.Setting.{codeIn, codesOf, frameRateOf, groupCodesOf};
 ghost use Rattle.waveform.specs.Walks.{Drivable, phaseIn};
-ghost use Rattle.combine.specs.Groups.{groupAt, framesAt, idleAt};
+ghost use Rattle.walk.specs.Ready.{noFrames};
+ghost use Rattle.combine.specs.Groups.{timedGroup};
 
 // A group without frames moves nothing, so its phases need not be made.
 pub(crate) fn idle(setting: &[u8; 112], group: usize) -> bool
     requires { ⌜ group < 10 ⌝ }
-    ensures { λ r. ⌜ r ≡ idleAt (now (setting .entry)) group ⌝ }
+    ensures { λ r. ⌜ r ≡ noFrames (groupCodesOf (now (setting .entry)) group .frames) ⌝ }
 {
     let at = 5 * group;
     (setting[50 + at] == 0)
@@ -23,23 +24,9 @@ pub(crate) fn idle(setting: &[u8; 112], group: usize) -> bool
         & (setting[53 + at] == 0)
 }
 
-fn one_more(byte: u8) -> u16
-    ensures { λ r. ⌜ r ≡ byte + 1 ⌝ }
-{
-    byte as u16 + 1
-}
-
-// How many times a group runs.
-pub(crate) fn repeats(setting: &[u8; 112], group: usize) -> u16
-    requires { ⌜ group < 10 ⌝ }
-    ensures { λ r. ⌜ r ≡ getD (now (setting .entry)) (54 + 5 * group) 0 + 1 ⌝ }
-{
-    one_more(setting[54 + 5 * group])
-}
-
 pub(crate) fn frames(setting: &[u8; 112], group: usize, phase: usize) -> u64
     requires { ⌜ (group < 10) × (phase < 4) ⌝ }
-    ensures { λ r. ⌜ r ≡ framesAt (now (setting .entry)) group phase ⌝ }
+    ensures { λ r. ⌜ r ≡ getD (groupCodesOf (now (setting .entry)) group .frames) phase 0 ⌝ }
 {
     numbers::wide(setting[50 + 5 * group + phase])
 }
@@ -79,7 +66,7 @@ pub(crate) fn phase_of(
     phase: usize,
 ) -> Phase
     requires { ⌜ (group < 10) × (phase < 4) × Drivable driving ⌝ }
-    ensures { λ r. ⌜ r ≡ phaseIn driving (groupAt (now (setting .entry)) (now («frame_period» .entry)) group) phase ⌝ }
+    ensures { λ r. ⌜ r ≡ phaseIn driving (timedGroup (now (setting .entry)) (now («frame_period» .entry)) group) phase ⌝ }
 {
     let levels = driving.levels;
     let drive = driving.drive;

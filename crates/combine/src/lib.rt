@@ -17,7 +17,7 @@ ghost use Rattle.glass.specs.Transfers.{identityT};
 ghost use Rattle.waveform.specs.Setting.{waveformOf};
 ghost use Rattle.waveform.specs.Walks.{Drivable, Walkable, phaseIn, fourIn, groupIn, wholeStep, wholeOf, transferOf};
 ghost use Rattle.combine.specs.Acts.{Repeated, Extends, Combinable};
-ghost use Rattle.combine.specs.Groups.{groupAt};
+ghost use Rattle.combine.specs.Groups.{timedGroup};
 ghost use Rattle.combine.specs.Settled.{Alike, settled, combinedOf};
 
 // `from`, then `pass` so many times. `power` is `pass` once, twice, four times and so on, while the count is halved.
@@ -50,7 +50,7 @@ fn then_phase(
     transfer: Transfer,
 ) -> Transfer
     requires { ⌜ (group < 10) × (at < 4) × Drivable driving ⌝ }
-    ensures { λ r. ⌜ r ≡ wholeStep driving transfer (phaseIn driving (groupAt (now (setting .entry)) (now («frame_period» .entry)) group) at) ⌝ }
+    ensures { λ r. ⌜ r ≡ wholeStep driving transfer (phaseIn driving (timedGroup (now (setting .entry)) (now («frame_period» .entry)) group) at) ⌝ }
 {
     let phase = groups::phase_of(setting, frame_period, driving, group, at);
     walk::phases::push(driving, phase, phase.frames, transfer)
@@ -66,7 +66,7 @@ fn pass(
     transfer: Transfer,
 ) -> Transfer
     requires { ⌜ (group < 10) × Drivable driving ⌝ }
-    ensures { λ r. ⌜ r ≡ foldl (wholeStep driving) transfer (fourIn driving (groupAt (now (setting .entry)) (now («frame_period» .entry)) group)) ⌝ }
+    ensures { λ r. ⌜ r ≡ foldl (wholeStep driving) transfer (fourIn driving (timedGroup (now (setting .entry)) (now («frame_period» .entry)) group)) ⌝ }
 {
     let mut moved = transfer;
     let mut at: usize = 0;
@@ -98,9 +98,9 @@ fn group_combined(
     transfer: Transfer,
 ) -> Transfer
     requires { ⌜ (group < 10) × Combinable driving ⌝ }
-    ensures { λ r. ⌜ Extends driving (groupIn driving (groupAt (now (setting .entry)) (now («frame_period» .entry)) group)) transfer r ⌝ }
+    ensures { λ r. ⌜ Extends driving (groupIn driving (timedGroup (now (setting .entry)) (now («frame_period» .entry)) group)) transfer r ⌝ }
 {
-    let repeats = groups::repeats(setting, group);
+    let repeats = setting::repeats(setting, group);
     let once = repeats == 1;
     let start = start(once, transfer, driving.swing);
     let passed = pass(setting, frame_period, driving, group, start);

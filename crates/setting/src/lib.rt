@@ -6,12 +6,12 @@ use waveform::Waveform;
 ghost use mathlib.Core.Path.{_≡_};
 ghost use Prim.Native.Nat.{_+_, _/_, _%_, _<_};
 ghost use Rattle.waveform.specs.Setting.{codesOf, frameRateOf, groupCodesOf, timed, waveformOf};
-ghost use Rattle.setting.specs.Word.{codeWord};
+ghost use Rattle.setting.specs.Word.{codesInWord};
 
 // The four codes of a byte, each in a byte of its own, that of phase 0 lowest: of four copies of the byte, ten bits apart, two
 // bits count in each.
 fn spread(byte: u8) -> u64
-    ensures { λ r. ⌜ r ≡ codeWord byte ⌝ }
+    ensures { λ r. ⌜ r ≡ codesInWord byte ⌝ }
 {
     ((numbers::wide(byte) * 0x4010_0401) >> 6) & 0x0303_0303
 }
@@ -76,6 +76,14 @@ fn one_more(byte: u8) -> u16
     byte as u16 + 1
 }
 
+// How many times a group runs.
+pub fn repeats(setting: &[u8; 112], group: usize) -> u16
+    requires { ⌜ group < 10 ⌝ }
+    ensures { λ r. ⌜ r ≡ groupCodesOf (now (setting .entry)) group .repeats ⌝ }
+{
+    one_more(setting[54 + 5 * group])
+}
+
 fn group_codes(setting: &[u8; 112], group: usize) -> GroupCodes
     requires { ⌜ group < 10 ⌝ }
     ensures { λ r. ⌜ r ≡ groupCodesOf (now (setting .entry)) group ⌝ }
@@ -87,7 +95,7 @@ fn group_codes(setting: &[u8; 112], group: usize) -> GroupCodes
         setting[52 + at],
         setting[53 + at],
     ];
-    let repeats = one_more(setting[54 + at]);
+    let repeats = repeats(setting, group);
     let frame_rate = frame_rate_code(setting, group);
     let codes = codes_of(setting, group);
     GroupCodes {

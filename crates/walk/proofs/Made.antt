@@ -32,11 +32,11 @@ not-false true e = refl
 not-false false e = sym e
 
 -- a walk is not moved by a group without frames
-pub idle-walk : {A : Type 0} (step : A → Phase → A) (d : Driving) (g : Group) (a : A) {idle : Bool} → idle ≡ noFrames g → not idle ≡ false → a ≡ foldl step a (groupIn d g)
+pub idle-walk : {A : Type 0} (step : A → Phase → A) (d : Driving) (g : Group) (a : A) {idle : Bool} → idle ≡ noFrames (g .frames) → not idle ≡ false → a ≡ foldl step a (groupIn d g)
 unfolding phaseOf joined
 idle-walk step d g a h n = ap (foldl step a) (sym (ap (λ (l : List Phase). joined (g .repeats) (λ k. l)) four ∙ none-joined (g .repeats)))
   where
-    e : noFrames g ≡ true
+    e : noFrames (g .frames) ≡ true
     e = sym h ∙ not-false _ n
 
     z : ℕ → Bool

@@ -19,7 +19,7 @@ pub(crate) struct Lasting {
 
 // A group without frames moves nothing, so its phases need not be made.
 pub(crate) fn idle(group: Group) -> bool
-    ensures { λ r. ⌜ r ≡ noFrames group ⌝ }
+    ensures { λ r. ⌜ r ≡ noFrames (group .frames) ⌝ }
 {
     let frames = group.frames;
     (frames[0] == 0) & (frames[1] == 0) & (frames[2] == 0) & (frames[3] == 0)

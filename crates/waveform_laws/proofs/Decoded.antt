@@ -1,6 +1,6 @@
 -- A decoded waveform is one that the walks take: its voltages lie from −17,000 to 17,000, and its groups have a frame period.
 -- Assumes nothing.
-use mathlib.Core.Path.{_≡_, refl, sym, ap, subst, _∙_}
+use mathlib.Core.Path.{_≡_, refl, sym, subst}
 use mathlib.Core.Bool.{Bool, true, false, _&&_}
 use mathlib.Core.List.{List, [], _∷_}
 use Prim.Native.Nat.{ℕ, _+_, _-_, _/_, _%_, _≤_, _<_}
@@ -13,7 +13,6 @@ use Rattle.numbers.specs.Choice.{pick}
 use Rattle.numbers.proofs.Cases.{left, right}
 use Rattle.numbers.proofs.Lin.{whole, le-in, neg-out}
 use Rattle.numbers.proofs.Painted.{getD-tab}
-use Rattle.glass.specs.declared.Transfer.{Transfer}
 use Rattle.voltage.specs.declared.Millivolts.the-variants.{Listed}
 use Rattle.voltage.specs.Codes.{Line, voltage, has, at, sourceHigh, sourceLow, sourceVoltage, vslLine, vslVoltage, below}
 use Rattle.waveform.specs.declared.Drive.{Drive}
@@ -22,7 +21,7 @@ use Rattle.waveform.specs.declared.Waveform.{Waveform}
 use Rattle.waveform.specs.Voltages.{orZero, levelsOf, Listable, AllListable}
 use Rattle.waveform.specs.Setting.{frameRateOf, groupCodesOf, timed, waveformOf}
 use Rattle.waveform.specs.Phases.{noGroup, Takes, Timed}
-use Rattle.waveform.specs.Walks.{Walkable, wholeOf, wholeTransfer}
+use Rattle.waveform.specs.Walks.{Walkable}
 use Rattle.waveform_laws.proofs.Range.{no-volts}
 
 -- a line whose millivolts are listable, before lines whose are
@@ -80,7 +79,3 @@ walkable s p drive h t = record { timed = all-timed s p h; listable = levels-lis
 module _ (s p : List ℕ) (drive : Drive) {w : Waveform} (decoded : w ≡ waveformOf s p) where
   pub decoded-walkable : ((k : ℕ) → k < 16 → 0 < getD p k 0) → Takes drive → Walkable w drive
   decoded-walkable h t = subst (λ (v : Waveform). Walkable v drive) (sym decoded) (walkable s p drive h t)
-
-  pub decoded-whole : (swing : ℤ) (black : Bool) {t : Transfer} → t ≡ wholeOf w drive swing black → t ≡ wholeTransfer s p drive swing black
-  unfolding wholeTransfer
-  decoded-whole swing black e = e ∙ ap (λ (v : Waveform). wholeOf v drive swing black) decoded

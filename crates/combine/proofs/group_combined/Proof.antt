@@ -15,7 +15,7 @@ use Rattle.waveform.specs.Phases.{joined}
 use Rattle.waveform.specs.Setting.{groupCodesOf}
 use Rattle.waveform.specs.Walks.{fourIn, groupIn, wholeStep}
 use Rattle.combine.specs.Acts.{Repeated, swingIn}
-use Rattle.combine.specs.Groups.{groupAt}
+use Rattle.combine.specs.Groups.{timedGroup}
 use Rattle.combine.proofs.Powers.{Swing, swing-is, acts-as}
 use Rattle.combine.proofs.Phases.{walk-extends, start-acts, drive-again}
 use borrow.Author.Needs.{needs}
@@ -28,7 +28,7 @@ once-is d g e = ap (λ (n : ℕ). joined n (λ k. fourIn d g)) (sym e)
 
 -- the group that is read, and how often it runs
 abbrev group-at : (c : tie.Start) → Group
-group-at c = groupAt (c .args .setting .now) (c .args .frame-period .now) (c .args .group)
+group-at c = timedGroup (c .args .setting .now) (c .args .frame-period .now) (c .args .group)
 
 repeats-are : (c : tie.After-repeats) → c .repeats .result ≡ group-at (c .before) .repeats
 unfolding groupCodesOf

@@ -10,14 +10,13 @@ use Rattle.waveform.specs.declared.Phase.{Phase}
 use Rattle.waveform.specs.Phases.{phaseOf, driven, joined}
 use Rattle.waveform.specs.Walks.{phaseIn, wholeStep}
 use Rattle.waveform_laws.proofs.Joined.{driven-none, driven-some, fold-none, fold-more}
-use Rattle.combine.specs.Groups.{groupAt}
-use Rattle.combine.proofs.Bytes.{frames-at}
+use Rattle.combine.specs.Groups.{timedGroup}
 use Rattle.combine.proofs.pass.Statement.{statement}
 use Rattle.combine.proofs.pass.Tie as tie
 
 -- the driven phases of a group, by their places
 abbrev of : Driving → List ℕ → List ℕ → ℕ → ℕ → List Phase
-of d s p group at = driven (phaseIn d (groupAt s p group) at)
+of d s p group at = driven (phaseIn d (timedGroup s p group) at)
 
 abbrev Inv-loop : tie.InvT-loop
 Inv-loop setting frame-period driving group moved₀ at₀ moved at = (at ≤ 4) × (moved ≡ foldl (wholeStep driving) moved₀ (joined at (of driving setting frame-period group)))
@@ -49,8 +48,8 @@ loop-again c =
     let step = wholeStep (a .driving) in
     let s = a .setting .now in
     let p = a .frame-period .now in
-    let phase = phaseIn (a .driving) (groupAt s p (a .group)) (m .loop .at) in
-    let frames = c .before .frames .ensures ∙ frames-at s p (a .group) (m .loop .at) (test .loop-test .taken) in (
+    let phase = phaseIn (a .driving) (timedGroup s p (a .group)) (m .loop .at) in
+    let frames = c .before .frames .ensures in (
       omega arith,
       fold-more step (a .transfer) (of (a .driving) s p (a .group)) (m .loop .at) (m .loop .inv .1)
           (⊎-elim

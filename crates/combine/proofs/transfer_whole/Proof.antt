@@ -21,7 +21,7 @@ use Rattle.waveform.specs.Phases.{noGroup, joined, phasesOf}
 use Rattle.waveform.specs.Walks.{groupIn, wholeStep, wholeOf, drivingOf}
 use Rattle.walk.proofs.Made.{idle-walk}
 use Rattle.combine.specs.Acts.{ActsAs, Extends, swingIn, drivenBy}
-use Rattle.combine.specs.Groups.{groupAt}
+use Rattle.combine.specs.Groups.{timedGroup}
 use Rattle.combine.specs.Settled.{settled}
 use Rattle.combine.proofs.Bytes.{group-is}
 use Rattle.combine.proofs.Powers.{Swing, swing-is, sane, acts-as}
@@ -104,7 +104,7 @@ loop-again c =
     let k = l .loop .k in
     let bytes = s .args .setting .now in
     let periods = s .args .frame-period .now in
-    let g = groupAt bytes periods k in
+    let g = timedGroup bytes periods k in
     let next : Extends d (groupIn d g) (l .loop .moved) (c .if1 .moved) =
     ⊎-elim
     (λ v. subst (λ (u : Transfer). Extends d (groupIn d g) (l .loop .moved) u) (sym (v .2)) (v .1 .ensures))

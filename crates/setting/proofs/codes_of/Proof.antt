@@ -7,7 +7,7 @@ use lib.ListN.{getD}
 use Rattle.numbers.specs.Lists.{tab}
 use Rattle.waveform.specs.Setting.{codeIn, codesOf}
 use borrow.Author.Needs.{needs}
-use Rattle.setting.specs.Word.{codeWord}
+use Rattle.setting.specs.Word.{codesInWord}
 use Rattle.setting.proofs.codes_of.Statement.{statement}
 use Rattle.setting.proofs.codes_of.Tie as tie
 
@@ -25,7 +25,7 @@ digits w a b c d ha hb hc hd e =
     )
 
 -- the four codes of a byte, taken out of their word, before others
-codes : {w : ℕ} (byte : ℕ) {others rest : List ℕ} → w ≡ codeWord byte → others ≡ rest
+codes : {w : ℕ} (byte : ℕ) {others rest : List ℕ} → w ≡ codesInWord byte → others ≡ rest
     → w % 256 ∷ w / 256 % 256 ∷ w / 65536 % 256 ∷ w / 16777216 % 256 ∷ others ≡ codeIn byte 0 ∷ codeIn byte 1 ∷ codeIn byte 2 ∷ codeIn byte 3 ∷ rest
 codes {w} byte e rest =
     let f = digits w (codeIn byte 0) (codeIn byte 1) (codeIn byte 2) (codeIn byte 3) (omega arith) (omega arith) (omega arith) (omega arith) e in
@@ -144,7 +144,7 @@ returns c =
     let s = a .setting .now in
     let g = a .group in
     let first : g ≡ 0 + g = omega arith in
-    codes (getD s (0 + g) 0) (one .spread .ensures ∙ ap (λ (n : ℕ). codeWord (getD s n 0)) first)
+    codes (getD s (0 + g) 0) (one .spread .ensures ∙ ap (λ (n : ℕ). codesInWord (getD s n 0)) first)
     (codes (getD s (10 + g) 0) (two .spread2 .ensures)
     (codes (getD s (20 + g) 0) (three .spread3 .ensures)
     (codes (getD s (30 + g) 0) (four .spread4 .ensures)

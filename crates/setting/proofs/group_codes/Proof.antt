@@ -28,20 +28,14 @@ add-t16 c = search needs
 element-copy-out-t19 : tie.Need-element-copy-out-t19
 element-copy-out-t19 c = search needs
 
-add-one-more : tie.Need-add-one-more
-add-one-more c = search needs
+add-t20 : tie.Need-add-t20
+add-t20 c = search needs
 
-element-copy-out-one-more : tie.Need-element-copy-out-one-more
-element-copy-out-one-more c = search needs
+element-copy-out-t23 : tie.Need-element-copy-out-t23
+element-copy-out-t23 c = search needs
 
-add-one-more-2 : tie.Need-add-one-more-2
-add-one-more-2 c = search needs
-
-element-copy-out-one-more-2 : tie.Need-element-copy-out-one-more-2
-element-copy-out-one-more-2 c = search needs
-
-one-more-requires : tie.Need-one-more-requires
-one-more-requires c κs = search needs
+repeats-requires : tie.Need-repeats-requires
+repeats-requires c κs = search needs
 
 frame-rate-code-requires : tie.Need-frame-rate-code-requires
 frame-rate-code-requires c κs = search needs
@@ -51,12 +45,13 @@ codes-of-requires c κs = search needs
 
 returns : tie.Need-returns
 unfolding groupCodesOf
-returns c = let s = c .before .before .before .before .before .before .before .before in
+returns c =
+    let s : tie.Start = search in
     let l = s .args .setting .now in
     let at = 5 * s .args .group in
     λ i. record {
       frames = getD l (50 + at) 0 ∷ getD l (51 + at) 0 ∷ getD l (52 + at) 0 ∷ getD l (53 + at) 0 ∷ [];
-      repeats = c .before .before .one-more .ensures i;
+      repeats = c .before .before .repeats .ensures i;
       «frame_rate» = c .before .frame-rate-code .ensures i;
       codes = c .codes-of .ensures i;
     }
@@ -72,11 +67,9 @@ group-codes-spec =
     element-copy-out-t15
     add-t16
     element-copy-out-t19
-    add-one-more
-    element-copy-out-one-more
-    add-one-more-2
-    element-copy-out-one-more-2
-    one-more-requires
+    add-t20
+    element-copy-out-t23
+    repeats-requires
     frame-rate-code-requires
     codes-of-requires
     returns)

@@ -8,7 +8,7 @@ use lib.Dec.{eqb, eqb→eq}
 use lib.ListN.{replicate}
 use Rattle.numbers.proofs.Every.{at}
 use borrow.Author.Needs.{needs}
-use Rattle.setting.specs.Word.{codeWord}
+use Rattle.setting.specs.Word.{codesInWord}
 use Rattle.setting.proofs.spread.Statement.{statement}
 use Rattle.setting.proofs.spread.Tie as tie
 
@@ -17,11 +17,11 @@ made : ℕ → ℕ
 made b = bitAnd (b * 1074791425 / 64) 50529027
 
 is : ℕ → ℕ → Bool
-is b x = eqb (made b) (codeWord b)
+is b x = eqb (made b) (codesInWord b)
 
-all-are : (b : ℕ) → b < 256 → made b ≡ codeWord b
+all-are : (b : ℕ) → b < 256 → made b ≡ codesInWord b
 unfolding made is
-all-are b h = eqb→eq (made b) (codeWord b) (at is (replicate 256 0) tt b h)
+all-are b h = eqb→eq (made b) (codesInWord b) (at is (replicate 256 0) tt b h)
 
 wide-requires : tie.Need-wide-requires
 wide-requires c κs = search needs

@@ -10,7 +10,7 @@ use Rattle.waveform.specs.Voltages.{sourceLevel, vcomSwing, Listable}
 use Rattle.waveform.specs.Phases.{codeFor, phaseOf}
 use Rattle.waveform.specs.Setting.{codesOf, groupCodesOf}
 use Rattle.waveform_laws.proofs.Range.{source-listable, vcom-listable}
-use Rattle.combine.proofs.Bytes.{code-at, frames-at}
+use Rattle.combine.proofs.Bytes.{code-at}
 use borrow.Author.Needs.{needs}
 use Rattle.combine.proofs.groups.phase_of.Statement.{statement}
 use Rattle.combine.proofs.groups.phase_of.Tie as tie
@@ -72,7 +72,7 @@ returns c =
     let s = start v in
     let a = s .args in
     λ i. record {
-      frames = (c .before .frames .ensures ∙ frames-at (a .setting .now) (a .frame-period .now) (a .group) (a .phase) (s .pre .1)) i;
+      frames = c .before .frames .ensures i;
       «frame_ns» = c .frame-ns .ensures i;
       millivolts = (back (sub-millivolts v) ∙ (λ j. source-is v j -ℤ vcom-is v j)) i;
     }
