@@ -58,7 +58,7 @@ impl Lent {
             states: vec![0; pixels],
             luts: vec![0; pixels],
             pixels: vec![0; pixels],
-            counts: [0; 256],
+            counts: [0xDEAD; 256],
             black_white: vec![0; PLANE_BYTES],
             red: vec![0; PLANE_BYTES],
             gates: vec![0; usize::from(height)],

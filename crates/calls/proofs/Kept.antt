@@ -1,4 +1,4 @@
--- Every call leaves a sound state and sound buffers: 13, 11 and 12 refuse no later call. Assumes nothing.
+-- Every call leaves a sound state and sound buffers: 13, 11, 15 and 12 refuse no later call. Assumes nothing.
 use Prim.Native.Nat.{ℕ, zero-le, _≤_}
 use mathlib.Core.Path.{_≡_, refl, sym, ap, subst, _∙_}
 use mathlib.Core.Bool.{Bool, true}
