@@ -1,5 +1,6 @@
 -- SCOPE, Grey counts (#108): after every list of calls from every accepted start, the record of the waveform loaded is 255, or it is the number of
--- an entry of the table, and bytes 0 to 104 of the LUT register are still those of that entry's setting. The one premise is acceptance.
+-- an entry of the table, and all bytes of the LUT register but 105 to 109, which the voltage commands write, are still those of that entry's
+-- setting. The one premise is acceptance.
 use Prim.Native.Nat.{ℕ}
 use mathlib.Core.Path.{_≡_, sym, subst}
 use mathlib.Core.Bool.{true}
