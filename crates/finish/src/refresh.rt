@@ -14,7 +14,7 @@ ghost use lib.Signed.{_≤ℤ_};
 ghost use Rattle.waveform.specs.Walks.{Walkable};
 ghost use Rattle.combine.specs.Settled.{Alike};
 ghost use Rattle.panel.specs.Border.{borderDrive};
-ghost use Rattle.panel.specs.Pixels.{stateBy, statesBy, grays};
+ghost use Rattle.panel.specs.Pixels.{statesBy, grays};
 ghost use Rattle.panel.specs.Finish.{borderBy, withBorder};
 ghost use Rattle.finish.specs.Refresh.{FourAlike, Refreshable, Repaintable, displayDrive, waveformIn, transferIn, inTable};
 ghost use Rattle.finish.specs.Moves.{Movable, MovesOf};

@@ -16,7 +16,6 @@ use Rattle.clock.specs.Advance.{Ready, advanced}
 use Rattle.chip.specs.Close.{closed}
 use Rattle.clock.proofs.Arrived.{config-advanced, regs-advanced}
 use Rattle.reset.proofs.Kept.{ready-closed}
-use Rattle.activation.specs.Display.{Startable}
 use Rattle.activation.specs.Activation.{Activatable}
 use Rattle.activation.proofs.Kept.{ready-advanced}
 use Rattle.begin.specs.Begin.{begun}

@@ -1,13 +1,12 @@
 -- 0x20 leaves a record that tells what the LUT register holds. Assumes nothing.
 use Prim.Native.Nat.{ℕ}
-use mathlib.Core.Path.{_≡_, sym, subst}
+use mathlib.Core.Path.{sym, subst}
 use mathlib.Core.Bool.{Bool, false, _&&_}
 use mathlib.Core.List.{List}
 use lib.ListN.{getD}
 use Rattle.numbers.specs.Choice.{pick, bitOf}
 use Rattle.diagnostic.specs.declared.DiagnosticKind.the-variants.{WithoutClock, WithoutAnalog, RamPingPong}
 use Rattle.diagnostic.specs.declared.Stage.the-variants as stage
-use Rattle.device.specs.declared.Registers.{Registers}
 use Rattle.device.specs.declared.Ssd1677.{Ssd1677}
 use Rattle.world.specs.World.{withGlass, WithBuffers, Lent}
 use Rattle.clock.proofs.Arrived.{regs-advanced}

@@ -2,7 +2,7 @@
 -- record, and nothing else touches either. Assumes nothing.
 use Prim.Native.Nat.{ℕ, _+_, _*_, _%_, _<_}
 use mathlib.Core.Path.{_≡_, refl, _∙_}
-use mathlib.Core.Bool.{Bool, true, false, _&&_, not}
+use mathlib.Core.Bool.{Bool, true, _&&_, not}
 use mathlib.Core.List.{List}
 use native.Mathlib.Omega.{arith}
 use lib.Dec.{eqb}
@@ -14,7 +14,7 @@ use Rattle.config.specs.declared.Ssd1677Config.{Ssd1677Config}
 use Rattle.config.specs.declared.DisplayMode.{DisplayMode}
 use Rattle.config.specs.declared.ExternalSensor.{ExternalSensor}
 use Rattle.config.specs.declared.ExternalSensor.the-variants.{Absent, Reads}
-use Rattle.diagnostic.specs.declared.DiagnosticKind.the-variants.{WithoutClock, NoExternalSensor}
+use Rattle.diagnostic.specs.declared.DiagnosticKind.the-variants.{WithoutClock}
 use Rattle.diagnostic.specs.declared.Stage.the-variants.{AnalogOn, TemperatureLoad, LutLoad}
 use Rattle.otp.specs.declared.FoundEntry.{FoundEntry}
 use Rattle.otp.specs.declared.FoundEntry.the-variants.{At, Nothing}
