@@ -82,19 +82,3 @@ ready-activated k w h =
     let before = withLuts (w .device) (w .luts) (w .log) in
     ready-advanced (s .luts) (s .device .now) (withGlass (s .device) (w .states) (w .picture))
     (ready-after k before s (w .states) (w .picture .pixels) (w .picture .counts) refl (luts-staged k before) h)
-
-mux-advanced : (luts : List ℕ) (time : ℕ) (g : WithGlass) → advanced luts time g .device .regs .mux ≡ g .device .regs .mux
-unfolding advanced ended
-mux-advanced luts time g =
-    either (λ (x : WithGlass). x .device .regs .mux ≡ g .device .regs .mux) (isOver (clocked time g .device))
-    (clock.glassPublished (clocked time g) (finished (endingOf (clocked time g .device) (g .device .display .ends) Whole) luts (glassOf (clocked time g))))
-    (clocked time g)
-    refl
-    refl
-
--- 0x20 keeps MUX
-pub mux-activated : (k : Lent) (w : WithBuffers) → activated k w .device .regs .mux ≡ w .device .regs .mux
-unfolding activated staged runSettled
-mux-activated k w =
-    let s = stagedIn k w in
-    mux-advanced (s .luts) (s .device .now) (withGlass (s .device) (w .states) (w .picture))

@@ -5,7 +5,6 @@ use Prim.Native.Nat.{ℕ, _+_, _*_, _^_}
 use lib.Dec.{eqb, ltb, leb}
 use lib.IntN.{ℤ, pos}
 use lib.Signed.{leZ}
-use lib.ListN.{length}
 use Rattle.config.specs.Tests.{zeroPeriod}
 
 -- every frame-rate code has a period (5; SCOPE, Refusals)

@@ -11,8 +11,8 @@ use Rattle.device.specs.Parts.{withConfig, withJournal}
 use Rattle.world.specs.World.{World, lentOf, deviceInWorld, glassInWorld, glassLogInWorld, buffersInWorld, planesInWorld}
 use Rattle.clock.specs.Advance.{advanced}
 use Rattle.guard_lengths.specs.declared.Lengths.{Lengths}
-use Rattle.guard_lengths.specs.declared.Lent.{Lent}
-use Rattle.guard_lengths.specs.declared.Lent.the-variants.{Nothing, Of}
+use Rattle.guard_lengths.specs.declared.LentLength.{LentLength}
+use Rattle.guard_lengths.specs.declared.LentLength.the-variants.{Nothing, Of}
 use Rattle.guard.specs.declared.Refusal.{Refusal}
 use Rattle.guard.specs.declared.Refusal.the-variants.{Accepted}
 use Rattle.guard_lengths.specs.Lengths.{planeBytes, logBytes, fits, lengthsFit, countsFit, lengthsOf, glassLent, glassLogLent, planesLogLent}
@@ -53,7 +53,7 @@ unlent size = refl
 
 module _ (otp : List ℕ) (w : World) (s : Sound otp w) where
   -- a call that is lent the glass, and of the other buffers each or not
-  lent-passes : (g b r o : Lent) → fits g logBytes ≡ true → fits b planeBytes ≡ true → fits r planeBytes ≡ true → fits o (w .device .config .panel .height) ≡ true
+  lent-passes : (g b r o : LentLength) → fits g logBytes ≡ true → fits b planeBytes ≡ true → fits r planeBytes ≡ true → fits o (w .device .config .panel .height) ≡ true
       → guarded (w .device) (lengthsOf (length (w .states)) (length (w .luts)) (length (w .picture .pixels)) (length (w .picture .counts)) g b r o) ≡ Accepted
   lent-passes g b r o e f h i =
       let l = sound-long otp w s in

@@ -11,7 +11,7 @@ use Rattle.device.specs.declared.Current.{Current}
 use Rattle.device.specs.declared.Current.the-variants.{Ignoring, Active}
 use Rattle.world.specs.World.{World, withLog, WithGlass, withGlassLog, withRam, withBuffers, lentOf, glassInWorld}
 use Rattle.registers.proofs.Bounds.{Bounded}
-use Rattle.guard_lengths.specs.declared.Lent.the-variants.{Of}
+use Rattle.guard_lengths.specs.declared.LentLength.the-variants.{Of}
 use Rattle.guard_kinds.specs.Kinds.{currentFine}
 use Rattle.clock.specs.Advance.{Ready, advanced}
 use Rattle.chip.specs.Close.{closed}

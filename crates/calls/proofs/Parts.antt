@@ -11,8 +11,8 @@ use Rattle.otp.specs.Table.{badTable}
 use Rattle.device.specs.declared.Ssd1677.{Ssd1677}
 use Rattle.world.specs.World.{World}
 use Rattle.registers.proofs.Bounds.{Bounded}
-use Rattle.guard_lengths.specs.declared.Lent.{Lent}
-use Rattle.guard_lengths.specs.declared.Lent.the-variants.{Of}
+use Rattle.guard_lengths.specs.declared.LentLength.{LentLength}
+use Rattle.guard_lengths.specs.declared.LentLength.the-variants.{Of}
 use Rattle.guard_kinds.specs.Kinds.{currentFine}
 use Rattle.guard_lengths.specs.Lengths.{planeBytes, logBytes, pixelsOf, fits, lengthsFit, countsFit, lengthsOf}
 use Rattle.guard_state.specs.State.{panelFine, swingFine, periodsFine, registersFine, countFine, frequencyFine, stateFine}
@@ -94,7 +94,7 @@ long-parts p w e counted =
     }
 
 -- the lengths of buffers, each lent or not
-pub lengths-pass : (p : PanelGeometry) (s u x n : ℕ) (g b r o : Lent) → s ≡ pixelsOf p → u ≡ pixelsOf p → x ≡ pixelsOf p
+pub lengths-pass : (p : PanelGeometry) (s u x n : ℕ) (g b r o : LentLength) → s ≡ pixelsOf p → u ≡ pixelsOf p → x ≡ pixelsOf p
     → fits g logBytes ≡ true → fits b planeBytes ≡ true → fits r planeBytes ≡ true → fits o (p .height) ≡ true
     → lengthsFit p (lengthsOf s u x n g b r o) ≡ true
 unfolding lengthsFit

@@ -10,7 +10,6 @@ use Rattle.panel.specs.Finish.{Glass, finished}
 use Rattle.device.specs.declared.Ssd1677.{Ssd1677}
 use Rattle.device.specs.declared.Bus.{Bus}
 use Rattle.device.specs.declared.Deadline.{Deadline}
-use Rattle.device.specs.declared.Deadline.the-variants.{Never, At}
 use Rattle.device.specs.Parts.{withNow, withBus}
 use Rattle.device.specs.Parts as part
 use Rattle.world.specs.World.{WithGlass, withGlass}

@@ -20,7 +20,7 @@ pub fn stop(display: Display) -> Display
 }
 
 // A display whose end has come is finished whole, and its image published.
-pub fn end_display(
+fn end_display(
     state: Ssd1677,
     states: &mut [i64],
     luts: &[u8],

@@ -9,7 +9,7 @@ use Rattle.world.specs.World.{withLog, WithGlass, withGlass, WithGlassLog, with
 use Rattle.clock.specs.Advance.{Ready, advanced}
 use Rattle.reading.specs.Reading.{WithByte, readTaken}
 use Rattle.guard_lengths.specs.declared.Lengths.{Lengths}
-use Rattle.guard_lengths.specs.declared.Lent.the-variants.{Nothing as none, Of}
+use Rattle.guard_lengths.specs.declared.LentLength.the-variants.{Nothing as none, Of}
 use Rattle.guard.specs.declared.Refusal.{Refusal}
 use Rattle.guard_lengths.specs.Lengths.{planesLogLent}
 use Rattle.guard.specs.Refusals.{refusalNumber, accepts, guarded}

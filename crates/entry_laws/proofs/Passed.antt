@@ -1,6 +1,6 @@
 -- What a call that is accepted has: what its callees ask. Assumes nothing.
 use Prim.Native.Nat.{ℕ, _≤_, _<_, _^_}
-use mathlib.Core.Path.{_≡_, refl, sym, ap, _∙_}
+use mathlib.Core.Path.{_≡_, refl, sym, _∙_}
 use mathlib.Core.Bool.{Bool, true, false}
 use mathlib.Core.List.{List}
 use native.Mathlib.Nat.{mul-le-mul}
@@ -10,8 +10,8 @@ use lib.ListN.{length}
 use Rattle.clock.specs.Advance.{Ready}
 use Rattle.device.specs.declared.Ssd1677.{Ssd1677}
 use Rattle.guard_lengths.specs.declared.Lengths.{Lengths}
-use Rattle.guard_lengths.specs.declared.Lent.{Lent}
-use Rattle.guard_lengths.specs.declared.Lent.the-variants.{Of}
+use Rattle.guard_lengths.specs.declared.LentLength.{LentLength}
+use Rattle.guard_lengths.specs.declared.LentLength.the-variants.{Of}
 use Rattle.guard.specs.declared.Refusal.{Refusal}
 use Rattle.guard.specs.declared.Refusal.the-variants.{Accepted, Buffer, Table, State, Counts}
 use Rattle.guard_lengths.specs.Lengths.{lengthsFit, lengthsOf}
@@ -29,7 +29,7 @@ only-accepted Table e = absurd (never e)
 only-accepted State e = absurd (never e)
 only-accepted Counts e = absurd (never e)
 
-module _ (d : Ssd1677) (states : List ℤ) (luts pixels counts : List ℕ) (log black red gates : Lent)
+module _ (d : Ssd1677) (states : List ℤ) (luts pixels counts : List ℕ) (log black red gates : LentLength)
     (fine : stateFine d ≡ true)
     (fit : lengthsFit (d .config .panel) (lengthsOf (length states) (length luts) (length pixels) (length counts) log black red gates) ≡ true) where
   abbrev lengths : Lengths

@@ -63,7 +63,13 @@ pub fn finish(
     requires { ⌜ Finishable «frame_period» (panel .swing) (now states) (now luts) (now pixels) (now counts) ⌝ }
     ensures { λ r. ⌜ glass r (now (states .exit)) (picture (now (pixels .exit)) (now (counts .exit))) ≡ finished (ending display «positive_drives_black» «frame_period» at until) (now (luts .entry)) (glass panel (now (states .entry)) (picture (now (pixels .entry)) (now (counts .entry)))) ⌝ }
 {
-    let refresh = refresh::refresh_of(panel, display, positive_drives_black, frame_period, until);
+    let refresh = refresh::display_drive(
+        panel,
+        display,
+        positive_drives_black,
+        frame_period,
+        until,
+    );
     refresh::repaint(refresh, luts, &mut states[..], &mut pixels[..]);
     counts::count(&pixels[..], &mut counts[..]);
     let moved = refresh::drive_border(refresh, display.border, panel);

@@ -19,8 +19,8 @@ use Rattle.otp.specs.Table.{badTable}
 use Rattle.device.specs.declared.Registers.{Registers}
 use Rattle.device.specs.declared.Ssd1677.{Ssd1677}
 use Rattle.registers.proofs.Bounds.{Bounded}
-use Rattle.guard_lengths.specs.declared.Lent.{Lent}
-use Rattle.guard_lengths.specs.declared.Lent.the-variants.{Of}
+use Rattle.guard_lengths.specs.declared.LentLength.{LentLength}
+use Rattle.guard_lengths.specs.declared.LentLength.the-variants.{Of}
 use Rattle.guard_lengths.specs.declared.Lengths.{Lengths}
 use Rattle.guard.specs.declared.Refusal.{Refusal}
 use Rattle.guard.specs.declared.Refusal.the-variants.{Accepted, Buffer, Table, State, Counts}
@@ -194,9 +194,9 @@ pub record FineLengths (p : PanelGeometry) (l : Lengths) : Type 0 where
   pub red : (n : ℕ) → l .red ≡ Of n → n ≡ 81600
   pub gates : (n : ℕ) → l .gates ≡ Of n → n ≡ p .height
 
-right-length : (b : Lent) (size : ℕ) → fits b size ≡ true → (n : ℕ) → b ≡ Of n → n ≡ size
+right-length : (b : LentLength) (size : ℕ) → fits b size ≡ true → (n : ℕ) → b ≡ Of n → n ≡ size
 unfolding fits
-right-length b size e n f = eqb-true n size (ap (λ (x : Lent). fits x size) (sym f) ∙ e)
+right-length b size e n f = eqb-true n size (ap (λ (x : LentLength). fits x size) (sym f) ∙ e)
 
 pub fine-lengths : (p : PanelGeometry) (l : Lengths) → lengthsFit p l ≡ true → FineLengths p l
 unfolding lengthsFit

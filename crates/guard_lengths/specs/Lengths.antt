@@ -3,8 +3,8 @@ use Prim.Native.Nat.{ℕ, _*_}
 use mathlib.Core.Bool.{Bool, true, _&&_}
 use lib.Dec.{eqb}
 use Rattle.config.specs.declared.PanelGeometry.{PanelGeometry}
-use Rattle.guard_lengths.specs.declared.Lent.{Lent}
-use Rattle.guard_lengths.specs.declared.Lent.the-variants.{Nothing, Of}
+use Rattle.guard_lengths.specs.declared.LentLength.{LentLength}
+use Rattle.guard_lengths.specs.declared.LentLength.the-variants.{Nothing, Of}
 use Rattle.guard_lengths.specs.declared.Lengths.{Lengths}
 
 -- a plane: 680 rows of 120 bytes
@@ -20,7 +20,7 @@ abbrev pub pixelsOf : PanelGeometry → ℕ
 pixelsOf p = p .width * p .height
 
 -- a buffer has the right length, or is not lent
-unfoldable pub fits : Lent → ℕ → Bool
+unfoldable pub fits : LentLength → ℕ → Bool
 fits Nothing right = true
 fits (Of n) right = eqb n right
 
@@ -40,7 +40,7 @@ abbrev pub countsFit : Lengths → Bool
 countsFit l = eqb (l .counts) 256
 
 -- the lengths of what is lent
-abbrev pub lengthsOf : ℕ → ℕ → ℕ → ℕ → Lent → Lent → Lent → Lent → Lengths
+abbrev pub lengthsOf : ℕ → ℕ → ℕ → ℕ → LentLength → LentLength → LentLength → LentLength → Lengths
 lengthsOf s l p c g b r o = record { states = s; luts = l; pixels = p; counts = c; log = g; «black_white» = b; red = r; gates = o }
 
 -- what `advance` is lent: states, chosen LUTs, pixels and counts

@@ -11,7 +11,7 @@ const LOG_BYTES: usize = 16_384;
 const GREYS: usize = 256;
 
 // A buffer that only some calls are lent.
-pub enum Lent {
+pub enum LentLength {
     Nothing,
     Of(usize),
 }
@@ -22,10 +22,10 @@ pub struct Lengths {
     pub luts: usize,
     pub pixels: usize,
     pub counts: usize,
-    pub log: Lent,
-    pub black_white: Lent,
-    pub red: Lent,
-    pub gates: Lent,
+    pub log: LentLength,
+    pub black_white: LentLength,
+    pub red: LentLength,
+    pub gates: LentLength,
 }
 
 fn lengths_of(
@@ -33,10 +33,10 @@ fn lengths_of(
     luts: usize,
     pixels: usize,
     counts: usize,
-    log: Lent,
-    black_white: Lent,
-    red: Lent,
-    gates: Lent,
+    log: LentLength,
+    black_white: LentLength,
+    red: LentLength,
+    gates: LentLength,
 ) -> Lengths
     ensures { λ r. ⌜ r ≡ lengthsOf states luts pixels counts log «black_white» red gates ⌝ }
 {
@@ -56,7 +56,7 @@ fn lengths_of(
 pub fn glass_lent(states: usize, luts: usize, pixels: usize, counts: usize) -> Lengths
     ensures { λ r. ⌜ r ≡ glassLent states luts pixels counts ⌝ }
 {
-    let none = Lent::Nothing;
+    let none = LentLength::Nothing;
     lengths_of(states, luts, pixels, counts, none, none, none, none)
 }
 
@@ -70,8 +70,8 @@ pub fn glass_log_lent(
 ) -> Lengths
     ensures { λ r. ⌜ r ≡ glassLogLent states luts pixels counts log ⌝ }
 {
-    let none = Lent::Nothing;
-    let log = Lent::Of(log);
+    let none = LentLength::Nothing;
+    let log = LentLength::Of(log);
     lengths_of(states, luts, pixels, counts, log, none, none, none)
 }
 
@@ -87,10 +87,10 @@ pub fn planes_log_lent(
 ) -> Lengths
     ensures { λ r. ⌜ r ≡ planesLogLent states luts pixels counts log «black_white» red ⌝ }
 {
-    let none = Lent::Nothing;
-    let log = Lent::Of(log);
-    let black_white = Lent::Of(black_white);
-    let red = Lent::Of(red);
+    let none = LentLength::Nothing;
+    let log = LentLength::Of(log);
+    let black_white = LentLength::Of(black_white);
+    let red = LentLength::Of(red);
     lengths_of(states, luts, pixels, counts, log, black_white, red, none)
 }
 
@@ -107,19 +107,19 @@ pub fn all_lent(
 ) -> Lengths
     ensures { λ r. ⌜ r ≡ allLent states luts pixels counts log «black_white» red gates ⌝ }
 {
-    let log = Lent::Of(log);
-    let black_white = Lent::Of(black_white);
-    let red = Lent::Of(red);
-    let gates = Lent::Of(gates);
+    let log = LentLength::Of(log);
+    let black_white = LentLength::Of(black_white);
+    let red = LentLength::Of(red);
+    let gates = LentLength::Of(gates);
     lengths_of(states, luts, pixels, counts, log, black_white, red, gates)
 }
 
-fn fits(lent: Lent, right: usize) -> bool
+fn fits(lent: LentLength, right: usize) -> bool
     ensures { λ r. ⌜ r ≡ fits lent right ⌝ }
 {
     match lent {
-        Lent::Nothing => true,
-        Lent::Of(length) => length == right,
+        LentLength::Nothing => true,
+        LentLength::Of(length) => length == right,
     }
 }
 

@@ -11,7 +11,7 @@ use Rattle.clock.specs.Advance.{Ready, isQuiet, advanced}
 use Rattle.clock.proofs.Cases.{rests}
 use Rattle.data.specs.Data.{dataTaken}
 use Rattle.guard_lengths.specs.declared.Lengths.{Lengths}
-use Rattle.guard_lengths.specs.declared.Lent.the-variants.{Nothing, Of}
+use Rattle.guard_lengths.specs.declared.LentLength.the-variants.{Nothing, Of}
 use Rattle.guard.specs.declared.Refusal.{Refusal}
 use Rattle.guard_lengths.specs.Lengths.{planesLogLent}
 use Rattle.guard.specs.Refusals.{refusalNumber, accepts, guarded}

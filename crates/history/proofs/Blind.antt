@@ -1,6 +1,5 @@
 -- What a step of the chip does to the core does not look at the glass, the journal or the log, and most steps leave the glass: the two laws,
 -- and how they go through a sequence, a choice and a larger bundle. Assumes nothing.
-use Prim.Native.Nat.{ℕ}
 use mathlib.Core.Path.{_≡_, sym, ap, subst, _∙_}
 use mathlib.Core.Bool.{Bool, true, false}
 use mathlib.Core.List.{List, []}

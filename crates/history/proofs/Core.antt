@@ -21,8 +21,8 @@ use Rattle.high.specs.Data.{dataIn}
 use Rattle.driven.specs.Read.{readIn}
 use Rattle.reading.specs.Reading.{readTaken}
 use Rattle.calls.specs.World.{Call, advance, set-reset, write-command, write-data, read-data, set-ambient, take-diagnostics, taken}
-use Rattle.history.specs.Reckon.{Core, coreOf, unseen, bare, coreAfter}
-use Rattle.history.proofs.Blind.{plain, plainLog, plainGlass, plainGlassLog, plainRam, plainBuffers, plainPlanes, Blind, blind-then}
+use Rattle.history.specs.Reckon.{coreOf, unseen, bare, coreAfter}
+use Rattle.history.proofs.Blind.{plain, plainLog, plainGlassLog, plainRam, plainBuffers, plainPlanes, Blind, blind-then}
 use Rattle.history.proofs.Steps.{quiet-closed}
 use Rattle.history.proofs.Written.{quiet-data}
 use Rattle.history.proofs.Read.{quiet-read}

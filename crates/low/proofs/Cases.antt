@@ -16,12 +16,11 @@ use Rattle.clock.specs.Advance.{Ready, advanced}
 use Rattle.chip.specs.Close.{closed}
 use Rattle.clock.proofs.Arrived.{config-advanced, regs-advanced}
 use Rattle.reset.proofs.Kept.{ready-closed}
-use Rattle.activation.specs.Display.{Startable}
 use Rattle.activation.specs.Activation.{Activatable}
 use Rattle.activation.proofs.Kept.{ready-advanced}
 use Rattle.begin.specs.Begin.{begun}
 use Rattle.guard_lengths.specs.declared.Lengths.{Lengths}
-use Rattle.guard_lengths.specs.declared.Lent.the-variants.{Of}
+use Rattle.guard_lengths.specs.declared.LentLength.the-variants.{Of}
 use Rattle.guard.specs.declared.Refusal.{Refusal}
 use Rattle.guard_lengths.specs.Lengths.{allLent}
 use Rattle.guard.specs.Refusals.{refusalNumber, accepts, guardedWithTable}

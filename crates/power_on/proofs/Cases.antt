@@ -1,10 +1,9 @@
 -- What each return of the code hands over, over plain variables. Assumes nothing.
 use Prim.Native.Nat.{ℕ}
-use mathlib.Core.Path.{_≡_, refl, sym, ap, _∙_}
+use mathlib.Core.Path.{_≡_, ap, _∙_}
 use mathlib.Core.Bool.{Bool, true, false, not}
 use mathlib.Core.List.{List, [], _∷_}
 use lib.ListN.{length}
-use Rattle.numbers.specs.Choice.{pick}
 use Rattle.numbers.specs.Lists.{tab}
 use Rattle.config.specs.declared.ConfigError.{ConfigError}
 use Rattle.config.specs.declared.ConfigError.the-variants.{Accepted}

@@ -1,13 +1,12 @@
 -- The start (mod.rs, `new`): refused with 1, 2, 3, 4, 5, 14, 12, 6, 11, 15 in this order, or the chip at power-on.
 use Prim.Native.Nat.{ℕ}
-use mathlib.Core.Bool.{Bool, true, false, not}
+use mathlib.Core.Bool.{false, not}
 use mathlib.Core.List.{List, [], _∷_, _++_}
 use lib.IntN.{ℤ, pos}
 use lib.ListN.{length, replicate}
 use Rattle.numbers.specs.Choice.{pick}
 use Rattle.numbers.specs.Lists.{tab}
 use Rattle.glass.specs.declared.RefreshKind.the-variants.{PowerOn}
-use Rattle.config.specs.declared.ConfigError.{ConfigError}
 use Rattle.config.specs.declared.PanelGeometry.{PanelGeometry}
 use Rattle.config.specs.declared.Ssd1677Config.{Ssd1677Config}
 use Rattle.config.specs.Answer.{Answer, accepted, refused, isAccepted, Test, firstOf, answerOf}

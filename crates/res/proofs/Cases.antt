@@ -9,7 +9,7 @@ use Rattle.clock.specs.Advance.{Ready, advanced}
 use Rattle.reset.specs.Reset.{byLine}
 use Rattle.activation.proofs.Kept.{ready-advanced}
 use Rattle.guard_lengths.specs.declared.Lengths.{Lengths}
-use Rattle.guard_lengths.specs.declared.Lent.the-variants.{Nothing, Of}
+use Rattle.guard_lengths.specs.declared.LentLength.the-variants.{Nothing, Of}
 use Rattle.guard.specs.declared.Refusal.{Refusal}
 use Rattle.guard_lengths.specs.Lengths.{glassLogLent}
 use Rattle.guard.specs.Refusals.{refusalNumber, accepts, guarded}

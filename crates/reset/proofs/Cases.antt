@@ -1,16 +1,10 @@
 -- What each return of the code hands over, over plain variables. Assumes nothing.
-use Prim.Native.Nat.{ℕ, _+_, _*_, _%_}
-use mathlib.Core.Path.{_≡_, refl}
+use Prim.Native.Nat.{ℕ}
+use mathlib.Core.Path.{_≡_}
 use mathlib.Core.Bool.{Bool, true, false}
 use mathlib.Core.List.{List}
-use Rattle.numbers.proofs.Cases.{took, passed}
-use Rattle.counter.specs.Counter.{withinOf}
 use Rattle.waveform.specs.declared.Until.the-variants.{Cut}
-use Rattle.diagnostic.specs.declared.DiagnosticKind.{DiagnosticKind}
-use Rattle.diagnostic.specs.declared.DiagnosticKind.the-variants.{CounterOutsideWindow, WithoutClock, WithoutAnalog, ResetDuringDisplay}
-use Rattle.diagnostic.specs.declared.Stage.{Stage}
-use Rattle.diagnostic.specs.declared.Stage.the-variants.{VcomSense}
-use Rattle.diagnostic.specs.Log.{Entries, reported}
+use Rattle.diagnostic.specs.declared.DiagnosticKind.the-variants.{ResetDuringDisplay}
 use Rattle.panel.specs.declared.Display.{Display}
 use Rattle.panel.specs.Finish.{Glass, finished}
 use Rattle.device.specs.declared.Ssd1677.{Ssd1677}
@@ -19,7 +13,7 @@ use Rattle.device.specs.declared.Bus.{Bus}
 use Rattle.device.specs.declared.Power.{Power}
 use Rattle.device.specs.declared.Power.the-variants.{Running, Asleep, InReset}
 use Rattle.device.specs.declared.Current.the-variants.{Idle}
-use Rattle.device.specs.Parts.{withBus, withDisplay, withJournal, withPowers}
+use Rattle.device.specs.Parts.{withBus, withDisplay, withPowers}
 use Rattle.device.specs.Parts as part
 use Rattle.world.specs.World.{WithLog, withLog, WithGlass, withGlass, WithGlassLog, withGlassLog}
 use Rattle.registers.specs.Reset.{resetOf}

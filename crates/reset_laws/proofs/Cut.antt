@@ -11,7 +11,7 @@ use lib.Signed.{_≤ℤ_}
 use lib.ListN.{length, getD}
 use borrow.Author.Tests.{le-leb, lt-leb}
 use Rattle.numbers.specs.Choice.{pick}
-use Rattle.numbers.specs.Saturation.{largest, most}
+use Rattle.numbers.specs.Saturation.{most}
 use Rattle.numbers.proofs.Lin.{whole, le-out}
 use Rattle.glass.specs.Greys.{grayZ}
 use Rattle.waveform.specs.declared.Until.the-variants.{Whole, Cut}

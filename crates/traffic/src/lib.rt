@@ -10,6 +10,7 @@ ghost use Rattle.world.specs.World.{world};
 ghost use Rattle.burst.specs.Burst.{bursted};
 ghost use Rattle.traffic.specs.Traffic.{eventAt, shortest, fed, made, feeding, ended, EndsAlike};
 use burst::Burst;
+use burst::DATA;
 use device::Ssd1677;
 use guard::Refusal;
 use guard_lengths::Lengths;
@@ -46,7 +47,7 @@ fn stream(
     ensures { λ r. ⌜ (from ≤ r .made) × (r .made ≤ count) ⌝ }
     ensures { λ r. ⌜ EndsAlike (now (kinds .entry)) (now (times .entry)) (now (values .entry)) count lengths (bursted from state (now («black_white» .entry)) (now (red .entry))) (bursted (r .made) (r .state) (now («black_white» .exit)) (now (red .exit))) ⌝ }
 {
-    if kinds[from] == 2 {
+    if kinds[from] == DATA {
         let refusal = guard::check(state, lengths);
         if guard::is_accepted(refusal) {
             return burst::write_burst(state, black_white, red, kinds, times, values, from, count);

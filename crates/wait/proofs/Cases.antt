@@ -7,7 +7,7 @@ use lib.ListN.{length}
 use Rattle.world.specs.World.{WithGlass}
 use Rattle.clock.specs.Advance.{Ready, advanced}
 use Rattle.guard_lengths.specs.declared.Lengths.{Lengths}
-use Rattle.guard_lengths.specs.declared.Lent.the-variants.{Nothing}
+use Rattle.guard_lengths.specs.declared.LentLength.the-variants.{Nothing}
 use Rattle.guard.specs.declared.Refusal.{Refusal}
 use Rattle.guard_lengths.specs.Lengths.{glassLent}
 use Rattle.guard.specs.Refusals.{refusalNumber, accepts, guarded}

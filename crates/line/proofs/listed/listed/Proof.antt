@@ -1,11 +1,9 @@
 -- `line::listed::listed` meets its contract: in each arm the kind is the row's number, and the table computes; in the last, it is no row's.
-use mathlib.Core.Path.{_≡_, refl, sym, ap, _∙_}
+use mathlib.Core.Path.{ap, _∙_}
 use Prim.{Unit}
-use Prim.Native.Nat.{ℕ}
 use Rattle.numbers.specs.Rows.{lookup}
 use Rattle.numbers.proofs.Miss.{miss}
 use Rattle.line.specs.Lines.{within, rows, listedAs}
-use Rattle.line.specs.declared.Line.{Line}
 use Rattle.line.specs.declared.Line.the-variants.{Bad}
 use borrow.Author.Needs.{needs}
 use Rattle.line.proofs.listed.listed.Statement.{statement}
