@@ -68,7 +68,7 @@ fn row(table: &Table, what: &str, panel: &Panel, ram: &Ram, choice: &Choice, end
     let display = display_of(panel, ram, choice, &waveform);
     let luts = inside::luts(&display);
     let mut after = panel.clone();
-    let (mut states, mut pixels, mut counts, mut border) = (Vec::new(), vec![0; PIXELS], [0; 256], 0);
+    let (mut states, mut pixels, mut counts, mut border) = (Vec::new(), vec![0; PIXELS], [0xDEAD; 256], 0);
     table.row(
         &format!("finish, {what}"),
         (PIXELS, "pixel"),

@@ -139,7 +139,7 @@ fn find_entry(otp: &[u8], mode: DisplayMode, register: u16) -> FoundEntry
 // In place of an entry's number where there is none; no entry has it, for 12 refuses more than 64 of them (#108).
 const NO_PLACE: u8 = 255;
 
-// The same, as that part of the table, with the entry's number left in `place`; with no such entry an empty part and 255.
+// The last entry that covers, as its part of the table, with the entry's number left in `place`; with no such entry an empty part and 255.
 pub fn find_waveform<'a>(
     otp: &'a [u8],
     mode: DisplayMode,

@@ -20,7 +20,7 @@ pub const OTP: usize = 10000;
 
 pub const FIELDS: usize = 54;
 
-// Buffers that a line can name: the seven of the device, the table and the counts.
+// Buffers that a line can name: the seven of the device without its counts, the table, and the counts.
 pub const BUFFERS: usize = 9;
 
 // A buffer that no line names is lent as long as the panel asks.
