@@ -15,6 +15,7 @@ pub mod Moved
 pub mod Taken
 pub mod Refreshed
 pub mod Going
+pub mod Alone
 pub mod Calls
 pub mod Start
 pub mod History

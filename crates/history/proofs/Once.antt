@@ -65,7 +65,7 @@ byStart now t = pick (t .display .running && leb (t .display .ends) now) (refres
 abbrev pub onceIn : Lent → Ssd1677 → List ℕ → List Worked
 onceIn k d luts = byStart (d .now) (during k (withLuts (unbused d) luts []) (controlOf (d .regs .«update_control_2»)))
 
-staged-once : (k : Lent) (s : WithLuts) → endsIn (staged k s .luts) (staged k s .device .now) (staged k s .device) ≡ onceIn k (s .device) (s .luts)
+pub staged-once : (k : Lent) (s : WithLuts) → endsIn (staged k s .luts) (staged k s .device .now) (staged k s .device) ≡ onceIn k (s .device) (s .luts)
 unfolding staged runSettled
 staged-once k s =
     let c = controlOf (s .device .regs .«update_control_2») in
