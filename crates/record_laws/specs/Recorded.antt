@@ -1,4 +1,4 @@
--- The record of the waveform loaded: what it says of the LUT register, and when a load sets it (document 02, #108).
+-- The record of the waveform loaded: what it says of the LUT register, and when a load sets it (SCOPE, Grey counts; #108).
 use Prim.Native.Nat.{ℕ, _<_, _≤_}
 use mathlib.Core.Path.{_≡_}
 use mathlib.Core.Bool.{Bool, _&&_, _||_}
