@@ -3,10 +3,12 @@
 mod bench;
 mod coldest;
 mod configuration;
+mod counts;
 mod dump;
 mod hash;
 mod inside;
 mod line;
+mod loaded;
 mod picture;
 mod record;
 mod replay;

@@ -5,6 +5,7 @@ mod charge;
 mod coldest;
 mod configuration;
 mod configurations;
+mod counts;
 mod dump;
 mod figures;
 mod generate;
@@ -13,6 +14,7 @@ mod inside;
 mod leaf;
 mod line;
 mod listing;
+mod loaded;
 mod picture;
 mod random;
 mod record;
@@ -31,6 +33,7 @@ const USAGE: &str = "usage: oracle replay < events
        oracle broken WAY
        oracle tally < events
        oracle generate SEED COUNT [FAMILY]
+       oracle counted < events
        oracle leaf < questions
        oracle leaf-generate NAME|all SEED COUNT
        oracle listing < setting
@@ -60,6 +63,7 @@ impl crate::Judge for Ssd1677 {
                     _ => return usage(),
                 }
             }
+            ["counted"] => generate::counted(&input(), &mut out),
             ["broken", way] => match way.parse() {
                 Ok(way) => generate::broken(way, &mut out),
                 Err(_) => return usage(),

@@ -68,7 +68,7 @@ fn row(table: &Table, what: &str, panel: &Panel, ram: &Ram, choice: &Choice, end
     let display = display_of(panel, ram, choice, &waveform);
     let luts = inside::luts(&display);
     let mut after = panel.clone();
-    let (mut states, mut pixels, mut border) = (Vec::new(), vec![0; PIXELS], 0);
+    let (mut states, mut pixels, mut counts, mut border) = (Vec::new(), vec![0; PIXELS], [0xDEAD; 256], 0);
     table.row(
         &format!("finish, {what}"),
         (PIXELS, "pixel"),
@@ -79,13 +79,15 @@ fn row(table: &Table, what: &str, panel: &Panel, ram: &Ram, choice: &Choice, end
         || {
             states.clone_from(&before.states);
             timed(|| {
-                (border, _) = proved::finish(&mut states, &luts, &mut pixels, before.border, black_box(ending));
+                (border, _) =
+                    proved::finish(&mut states, &luts, &mut pixels, &mut counts, before.border, black_box(ending));
             })
         },
     );
     let theirs = inside::glass(&after);
     assert_eq!((&theirs.states, theirs.border), (&states, border), "finish");
     assert_eq!(after.image().pixels, pixels, "finish");
+    assert_eq!(proved::recounted(&after.image().pixels), counts, "finish");
 }
 
 /// One picture of chance, by waveforms whole and cut.

@@ -1,6 +1,6 @@
 //! A device of crates/bench_device with the buffers that it is lent, run through a list of events.
 
-use super::proved::Published;
+use super::proved::{Counts, Published};
 use super::traffic::Events;
 use crate::ssd1677::ram::PLANE_BYTES;
 
@@ -14,6 +14,8 @@ unsafe extern "C" {
         luts_len: usize,
         pixels: *mut u8,
         pixels_len: usize,
+        counts: *mut u32,
+        counts_len: usize,
         black_white: *mut u8,
         black_white_len: usize,
         red: *mut u8,
@@ -41,6 +43,7 @@ pub(super) struct Lent {
     pub(super) states: Vec<i64>,
     pub(super) luts: Vec<u8>,
     pub(super) pixels: Vec<u8>,
+    pub(super) counts: Counts,
     pub(super) black_white: Vec<u8>,
     pub(super) red: Vec<u8>,
     gates: Vec<u16>,
@@ -55,6 +58,7 @@ impl Lent {
             states: vec![0; pixels],
             luts: vec![0; pixels],
             pixels: vec![0; pixels],
+            counts: [0xDEAD; 256],
             black_white: vec![0; PLANE_BYTES],
             red: vec![0; PLANE_BYTES],
             gates: vec![0; usize::from(height)],
@@ -73,6 +77,8 @@ impl Lent {
                 self.luts.len(),
                 self.pixels.as_mut_ptr(),
                 self.pixels.len(),
+                self.counts.as_mut_ptr(),
+                self.counts.len(),
                 self.black_white.as_mut_ptr(),
                 self.black_white.len(),
                 self.red.as_mut_ptr(),

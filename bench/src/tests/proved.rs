@@ -70,6 +70,8 @@ mod archive {
             luts_len: usize,
             pixels: *mut u8,
             pixels_len: usize,
+            counts: *mut u32,
+            counts_len: usize,
             setting: &[u8; 112],
             periods: &[u64; 16],
             swing: i64,
@@ -186,6 +188,18 @@ pub(super) fn start(luts: &mut [u8], gates: &[u16], red: &[u8], black_white: &[u
 /// started and at.
 pub(super) type Published = [u64; 8];
 
+/// How often each grey occurs in a picture.
+pub(super) type Counts = [u32; 256];
+
+/// The counts of a picture, counted anew: the reference has none.
+pub(super) fn recounted(pixels: &[u8]) -> Counts {
+    let mut counts = [0; 256];
+    for &grey in pixels {
+        counts[usize::from(grey)] += 1;
+    }
+    counts
+}
+
 /// A display that ends: what it is told, and the cut.
 #[derive(Clone, Copy)]
 pub(super) struct Ending<'a> {
@@ -207,6 +221,7 @@ pub(super) fn finish(
     states: &mut [i64],
     luts: &[u8],
     pixels: &mut [u8],
+    counts: &mut Counts,
     border: i64,
     e: &Ending<'_>,
 ) -> (i64, Published) {
@@ -220,6 +235,8 @@ pub(super) fn finish(
             luts.len(),
             pixels.as_mut_ptr(),
             pixels.len(),
+            counts.as_mut_ptr(),
+            counts.len(),
             e.setting,
             e.periods,
             e.swing,

@@ -7,7 +7,7 @@ use emu_core::Cycles;
 use super::beside::timed;
 use super::inside;
 use super::lent::Lent;
-use super::proved::Published;
+use super::proved::{Published, recounted};
 use super::record::{LOG_BYTES, record};
 use crate::lines::ONE_GIGAHERTZ;
 use crate::ssd1677::config::{DisplayMode, OtpWaveform, Provenance};
@@ -209,6 +209,7 @@ impl Sides {
         let alike = [
             (header(device) == self.published, "the image's header"),
             (device.panel_image().pixels == lent.pixels, "pixels"),
+            (recounted(&device.panel_image().pixels) == lent.counts, "counts"),
             (inside::glass(&device.panel).states == lent.states, "states"),
             (device.ram(Plane::BlackWhite) == lent.black_white, "black and white"),
             (device.ram(Plane::Red) == lent.red, "red"),

@@ -80,7 +80,7 @@ module _ (blackWhite red gates : List ℕ) (d : Ssd1677) where
   unfolding displayShown
   shows-not wanted two s luts h = rw h
 
-pub settles : (d : Ssd1677) (r : Run) (x : Display) (g : Registers) (b : Bus) (z : Ssd1677) → g ≡ withLoaded (d .regs) (r .temperature) (r .lut)
+pub settles : (d : Ssd1677) (r : Run) (x : Display) (g : Registers) (b : Bus) (z : Ssd1677) → g ≡ withLoaded (d .regs) (r .temperature) (r .lut) (r .waveform)
     → b ≡ busyFor (d .bus) (d .config .frequency) (d .now) (r .ns) → z ≡ withActivated d g b (r .clock) (r .analog) x (r .journal) → z ≡ runSettled d r x
 unfolding runSettled
 settles d r x g b z e₁ e₂ e₃ = rw (e₃, e₂, e₁)
@@ -96,7 +96,7 @@ unfolding staged
 stages k s control r a t b c z e₁ e₂ e₃ e₄ e₅ e₆ e₇ = rw (e₇, e₆, e₅, e₄, e₃, e₂, e₁)
 
 pub activates : (k : Lent) (w : WithBuffers) (s : WithLuts) (g : WithGlass) → s ≡ staged k (withLuts (w .device) (w .luts) (w .log))
-    → g ≡ advanced (s .luts) (s .device .now) (withGlass (s .device) (w .states) (w .pixels))
+    → g ≡ advanced (s .luts) (s .device .now) (withGlass (s .device) (w .states) (w .picture))
     → bothLeft s g ≡ activated k w
 unfolding activated
 activates k w s g e₁ e₂ = rw (e₂, e₁)

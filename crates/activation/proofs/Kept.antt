@@ -7,8 +7,7 @@ use lib.IntN.{ℤ}
 use lib.ListN.{length}
 use Rattle.numbers.specs.Choice.{pick}
 use Rattle.numbers.proofs.Painted.{length-tab}
-use Rattle.panel.specs.Finish.{Ending, published, finished}
-use Rattle.panel_laws.proofs.Exactly.{states-length, pixels-length}
+use Rattle.panel.specs.Finish.{finished}
 use Rattle.waveform.specs.declared.Until.the-variants.{Whole}
 use Rattle.diagnostic.specs.declared.DiagnosticKind.the-variants.{WithoutClock, WithoutAnalog}
 use Rattle.diagnostic.specs.declared.Stage.the-variants as stage
@@ -17,41 +16,35 @@ use Rattle.device.specs.declared.Ssd1677.{Ssd1677}
 use Rattle.world.specs.World.{WithGlass, withGlass, WithBuffers, Lent}
 use Rattle.clock.specs.Advance.{Ready, endingOf, glassOf, isOver, ended, clocked, advanced}
 use Rattle.clock.specs.Advance as clock
+use Rattle.clock.proofs.Kept.{ReadyGlass, ready-finished}
 use Rattle.stages.specs.Run.{Step, noted}
 use Rattle.stages_laws.proofs.Kept.{either}
 use Rattle.activation.specs.Display.{Displayed, scanOf, unchanged, displayBegun, displayShown}
 use Rattle.activation.specs.Activation.{runSettled, WithLuts, withLuts, staged, stagedIn, activated}
 
 -- the stages leave the configuration and the glass as they were
-pub ready-after : (k : Lent) (s z : WithLuts) (states : List ℤ) (pixels : List ℕ) → z ≡ staged k s → length (z .luts) ≡ length (s .luts)
-    → Ready (s .device) states (s .luts) pixels → Ready (z .device) states (z .luts) pixels
+pub ready-after : (k : Lent) (s z : WithLuts) (states : List ℤ) (pixels counts : List ℕ) → z ≡ staged k s → length (z .luts) ≡ length (s .luts)
+    → Ready (s .device) states (s .luts) pixels counts → Ready (z .device) states (z .luts) pixels counts
 unfolding staged runSettled
-ready-after k s z states pixels e same h =
-    subst (λ (x : WithLuts). Ready (x .device) states (z .luts) pixels) (sym e)
-    (record { luts-long = same ∙ h .luts-long; pixels-long = h .pixels-long; some = h .some; lasting = h .lasting })
-
--- finishing a display keeps what finishing the next one asks
-finished-ready : (e : Ending) (luts : List ℕ) (g : WithGlass) → Ready (g .device) (g .states) luts (g .pixels)
-    → Ready (clock.glassPublished g (finished e luts (glassOf g)) .device) (clock.glassPublished g (finished e luts (glassOf g)) .states) luts
-    (clock.glassPublished g (finished e luts (glassOf g)) .pixels)
-unfolding finished published
-finished-ready e luts g h =
-    record {
-      luts-long = h .luts-long ∙ sym (states-length _ luts (g .states));
-      pixels-long = pixels-length _ _;
+ready-after k s z states pixels counts e same h =
+    subst (λ (x : WithLuts). Ready (x .device) states (z .luts) pixels counts) (sym e)
+    (record {
+      luts-long = same ∙ h .luts-long;
+      pixels-long = h .pixels-long;
+      counts-long = h .counts-long;
+      few = h .few;
       some = h .some;
       lasting = h .lasting;
-    }
+    })
 
--- the clock's move too
-pub ready-advanced : (luts : List ℕ) (time : ℕ) (g : WithGlass) → Ready (g .device) (g .states) luts (g .pixels)
-    → Ready (advanced luts time g .device) (advanced luts time g .states) luts (advanced luts time g .pixels)
+-- the clock's move keeps what finishing a display asks
+pub ready-advanced : (luts : List ℕ) (time : ℕ) (g : WithGlass) → ReadyGlass luts g → ReadyGlass luts (advanced luts time g)
 unfolding advanced ended
 ready-advanced luts time g h =
-    either (λ (x : WithGlass). Ready (x .device) (x .states) luts (x .pixels)) (isOver (clocked time g .device))
+    either (ReadyGlass luts) (isOver (clocked time g .device))
     (clock.glassPublished (clocked time g) (finished (endingOf (clocked time g .device) (g .device .display .ends) Whole) luts (glassOf (clocked time g))))
     (clocked time g)
-    (finished-ready (endingOf (clocked time g .device) (g .device .display .ends) Whole) luts (clocked time g) h)
+    (ready-finished (endingOf (clocked time g .device) (g .device .display .ends) Whole) luts (clocked time g) h)
     h
 
 -- a display writes every LUT anew and no more
@@ -81,26 +74,11 @@ unfolding staged
 luts-staged k s = luts-shown _ _ _ _ _ _ _ _
 
 -- 0x20 keeps what finishing a display asks
-pub ready-activated : (k : Lent) (w : WithBuffers) → Ready (w .device) (w .states) (w .luts) (w .pixels)
-    → Ready (activated k w .device) (activated k w .states) (activated k w .luts) (activated k w .pixels)
+pub ready-activated : (k : Lent) (w : WithBuffers) → Ready (w .device) (w .states) (w .luts) (w .picture .pixels) (w .picture .counts)
+    → Ready (activated k w .device) (activated k w .states) (activated k w .luts) (activated k w .picture .pixels) (activated k w .picture .counts)
 unfolding activated
 ready-activated k w h =
     let s = stagedIn k w in
-    ready-advanced (s .luts) (s .device .now) (withGlass (s .device) (w .states) (w .pixels))
-    (ready-after k (withLuts (w .device) (w .luts) (w .log)) s (w .states) (w .pixels) refl (luts-staged k (withLuts (w .device) (w .luts) (w .log))) h)
-
-mux-advanced : (luts : List ℕ) (time : ℕ) (g : WithGlass) → advanced luts time g .device .regs .mux ≡ g .device .regs .mux
-unfolding advanced ended
-mux-advanced luts time g =
-    either (λ (x : WithGlass). x .device .regs .mux ≡ g .device .regs .mux) (isOver (clocked time g .device))
-    (clock.glassPublished (clocked time g) (finished (endingOf (clocked time g .device) (g .device .display .ends) Whole) luts (glassOf (clocked time g))))
-    (clocked time g)
-    refl
-    refl
-
--- 0x20 keeps MUX
-pub mux-activated : (k : Lent) (w : WithBuffers) → activated k w .device .regs .mux ≡ w .device .regs .mux
-unfolding activated staged runSettled
-mux-activated k w =
-    let s = stagedIn k w in
-    mux-advanced (s .luts) (s .device .now) (withGlass (s .device) (w .states) (w .pixels))
+    let before = withLuts (w .device) (w .luts) (w .log) in
+    ready-advanced (s .luts) (s .device .now) (withGlass (s .device) (w .states) (w .picture))
+    (ready-after k before s (w .states) (w .picture .pixels) (w .picture .counts) refl (luts-staged k before) h)

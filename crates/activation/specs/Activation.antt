@@ -35,12 +35,13 @@ runOf d =
       temperature = d .regs .temperature;
       lut = d .regs .lut;
       journal = d .journal;
+      waveform = d .regs .waveform;
     }
 
 -- and leave it there; BUSY is high for their time from now on
 unfoldable pub runSettled : Ssd1677 → Run → Display → Ssd1677
 runSettled d r display =
-    withActivated d (withLoaded (d .regs) (r .temperature) (r .lut)) (busyFor (d .bus) (d .config .frequency) (d .now) (r .ns)) (r .clock) (r .analog) display (r .journal)
+    withActivated d (withLoaded (d .regs) (r .temperature) (r .lut) (r .waveform)) (busyFor (d .bus) (d .config .frequency) (d .now) (r .ns)) (r .clock) (r .analog) display (r .journal)
 
 -- the state with the chosen LUTs and the log, which the stages change
 pub record WithLuts : Type 0 where
@@ -74,22 +75,22 @@ module _ (k : Lent) (s : WithLuts) where
   unfoldable pub staged : WithLuts
   staged = after (controlOf (s .device .regs .«update_control_2»)) (during (controlOf (s .device .regs .«update_control_2»)))
 
--- what the callers of an activation have once 13, 11 and 12 have refused all else
-pub record Activatable (d : Ssd1677) (states : List ℤ) (luts pixels blackWhite red gates log : List ℕ) : Type 0 where
+-- what the callers of an activation have once 13, 11, 15 and 12 have refused all else
+pub record Activatable (d : Ssd1677) (states : List ℤ) (luts pixels counts blackWhite red gates log : List ℕ) : Type 0 where
   pub startable : Startable (d .regs) (d .config .panel) luts blackWhite red gates log
-  pub ready : Ready d states luts pixels
+  pub ready : Ready d states luts pixels counts
 
--- all the stages, with the states and pixels as they were
+-- all the stages, with the states and the picture as they were
 abbrev pub stagedIn : Lent → WithBuffers → WithLuts
 stagedIn k w = staged k (withLuts (w .device) (w .luts) (w .log))
 
 -- brought to its own present: a display of no frame ends now
 abbrev pub arrived : WithBuffers → WithLuts → WithGlass
-arrived w s = advanced (s .luts) (s .device .now) (withGlass (s .device) (w .states) (w .pixels))
+arrived w s = advanced (s .luts) (s .device .now) (withGlass (s .device) (w .states) (w .picture))
 
 -- the two put together
 abbrev pub bothLeft : WithLuts → WithGlass → WithBuffers
-bothLeft s g = withBuffers (g .device) (g .states) (s .luts) (g .pixels) (s .log)
+bothLeft s g = withBuffers (g .device) (g .states) (s .luts) (g .picture) (s .log)
 
 -- 0x20
 unfoldable pub activated : Lent → WithBuffers → WithBuffers

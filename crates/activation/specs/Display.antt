@@ -22,7 +22,7 @@ use Rattle.device.specs.declared.Registers.{Registers}
 use Rattle.device.specs.declared.Ssd1677.{Ssd1677}
 use Rattle.moment.specs.Moments.{afterNs}
 use Rattle.stages.specs.declared.Run.{Run}
-use Rattle.stages.specs.Run.{Step, step, noted, waited}
+use Rattle.stages.specs.Run.{Step, noted, waited}
 
 -- what the callers of a display have: 13 refuses another MUX or geometry, 11 another length
 pub record Startable (regs : Registers) (g : PanelGeometry) (luts blackWhite red gates log : List ℕ) : Type 0 where

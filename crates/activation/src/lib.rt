@@ -7,6 +7,7 @@ ghost use Rattle.waveform.specs.Setting.{waveformOf};
 ghost use Rattle.waveform.specs.Duration.{durationOf};
 ghost use Rattle.stages.specs.Run.{step};
 ghost use Rattle.activation.specs.Display.{refreshKindOf, scanOf, warned, displayOf, displayed, Startable, displayBegun, displayShown};
+ghost use Rattle.counts.specs.Counts.{picture};
 ghost use Rattle.world.specs.World.{withBuffers, lent};
 ghost use Rattle.activation.specs.Activation.{analogOff, clockOff, runOf, runSettled, withLuts, staged, Activatable, activated};
 use device::Registers;
@@ -200,6 +201,7 @@ fn run_of(state: Ssd1677) -> Run
         temperature: regs.temperature,
         lut,
         journal,
+        waveform: regs.waveform,
     }
 }
 
@@ -209,7 +211,7 @@ fn settle(state: Ssd1677, run: Run, display: Display) -> Ssd1677
 {
     let config = state.config;
     let lut = run.lut;
-    let regs = part::set_loaded(state.regs, run.temperature, lut);
+    let regs = part::set_loaded(state.regs, run.temperature, lut, run.waveform);
     let bus = moment::busy_for(state.bus, config.frequency, state.now, run.ns);
     part::set_activated(
         state,
@@ -270,15 +272,16 @@ pub fn activate(
     states: &mut [i64],
     luts: &mut [u8],
     pixels: &mut [u8],
+    counts: &mut [u32],
     black_white: &[u8],
     red: &[u8],
     gates: &[u16],
     log: &mut [u8],
     otp: &[u8],
 ) -> Ssd1677
-    requires { ⌜ Activatable state (now states) (now luts) (now pixels) (now «black_white») (now red) (now gates) (now log) ⌝ }
-    ensures { λ r. ⌜ withBuffers r (now (states .exit)) (now (luts .exit)) (now (pixels .exit)) (now (log .exit)) ≡ activated (lent (now («black_white» .entry)) (now (red .entry)) (now (gates .entry)) (now (otp .entry))) (withBuffers state (now (states .entry)) (now (luts .entry)) (now (pixels .entry)) (now (log .entry))) ⌝ }
+    requires { ⌜ Activatable state (now states) (now luts) (now pixels) (now counts) (now «black_white») (now red) (now gates) (now log) ⌝ }
+    ensures { λ r. ⌜ withBuffers r (now (states .exit)) (now (luts .exit)) (picture (now (pixels .exit)) (now (counts .exit))) (now (log .exit)) ≡ activated (lent (now («black_white» .entry)) (now (red .entry)) (now (gates .entry)) (now (otp .entry))) (withBuffers state (now (states .entry)) (now (luts .entry)) (picture (now (pixels .entry)) (now (counts .entry))) (now (log .entry))) ⌝ }
 {
     let settled = run_stages(state, luts, black_white, red, gates, log, otp);
-    clock::advance(settled, states, &luts[..], pixels, settled.now)
+    clock::advance(settled, states, &luts[..], pixels, counts, settled.now)
 }

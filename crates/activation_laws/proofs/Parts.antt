@@ -28,7 +28,7 @@ use Rattle.activation.proofs.Kept.{luts-staged}
 module _ (k : Lent) (w : WithBuffers) where
   -- the state after the stages, with the glass that was lent
   abbrev glassThen : WithGlass
-  glassThen = withGlass (stagedIn k w .device) (w .states) (w .pixels)
+  glassThen = withGlass (stagedIn k w .device) (w .states) (w .picture)
 
   pub config-activated : activated k w .device .config ≡ w .device .config
   unfolding activated staged runSettled
@@ -59,14 +59,15 @@ module _ (k : Lent) (w : WithBuffers) where
   regs-then = regs-advanced (stagedIn k w .luts) (stagedIn k w .device .now) glassThen
 
   regs-staged : stagedIn k w .device .regs ≡ withLoaded (w .device .regs) (stagedIn k w .device .regs .temperature) (stagedIn k w .device .regs .lut)
+      (stagedIn k w .device .regs .waveform)
   unfolding staged runSettled
   regs-staged = refl
 
-  -- of the registers it changes the temperature and the LUT alone
+  -- of the registers it changes the temperature, the LUT and the record of the waveform loaded alone
   pub regs-activated : activated k w .device .regs
-      ≡ withLoaded (w .device .regs) (activated k w .device .regs .temperature) (activated k w .device .regs .lut)
+      ≡ withLoaded (w .device .regs) (activated k w .device .regs .temperature) (activated k w .device .regs .lut) (activated k w .device .regs .waveform)
   regs-activated =
-      regs-then ∙ regs-staged ∙ sym (ap (λ (r : Registers). withLoaded (w .device .regs) (r .temperature) (r .lut)) regs-then)
+      regs-then ∙ regs-staged ∙ sym (ap (λ (r : Registers). withLoaded (w .device .regs) (r .temperature) (r .lut) (r .waveform)) regs-then)
 
 -- the journal, the log and the temperature change as in the stages
 module _ (Q : ℕ → Entries → Type 0)

@@ -15,9 +15,7 @@ use Rattle.diagnostic.specs.declared.Stage.the-variants.{HvReadyDetection, VciD
 use Rattle.diagnostic.proofs.Kept.{reported-length, reported-count, reserved-length, reserved-count}
 use Rattle.device.specs.declared.Ssd1677.{Ssd1677}
 use Rattle.device.specs.declared.Status.{Status}
-use Rattle.device.specs.declared.Bus.{Bus}
-use Rattle.device.specs.declared.Deadline.the-variants.{At}
-use Rattle.device.specs.Parts.{withStatus, withUntil}
+use Rattle.device.specs.Parts.{withStatus}
 use Rattle.world.specs.World.{WithLog, withLog, WithRam, on, deviceInRam, logInRam}
 use Rattle.registers.proofs.Bounds.{Bounded}
 use Rattle.moment.proofs.Current.{current-busy}

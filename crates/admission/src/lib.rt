@@ -1,5 +1,6 @@
 // A command byte, once the clock has moved and the last command is closed: whether the chip hears it (mod.rs, `write_command`).
 ghost use mathlib.Core.Path.{_≡_};
+ghost use Rattle.counts.specs.Counts.{picture};
 ghost use Rattle.world.specs.World.{withBuffers, lent};
 ghost use Rattle.activation.specs.Activation.{Activatable};
 ghost use Rattle.begin.specs.Begin.{begun};
@@ -13,6 +14,7 @@ pub fn begin(
     states: &mut [i64],
     luts: &mut [u8],
     pixels: &mut [u8],
+    counts: &mut [u32],
     black_white: &[u8],
     red: &[u8],
     gates: &[u16],
@@ -20,8 +22,8 @@ pub fn begin(
     otp: &[u8],
     command: u8,
 ) -> Ssd1677
-    requires { ⌜ Activatable state (now states) (now luts) (now pixels) (now «black_white») (now red) (now gates) (now log) ⌝ }
-    ensures { λ r. ⌜ withBuffers r (now (states .exit)) (now (luts .exit)) (now (pixels .exit)) (now (log .exit)) ≡ begun (lent (now («black_white» .entry)) (now (red .entry)) (now (gates .entry)) (now (otp .entry))) command (withBuffers state (now (states .entry)) (now (luts .entry)) (now (pixels .entry)) (now (log .entry))) (state .bus .power) ⌝ }
+    requires { ⌜ Activatable state (now states) (now luts) (now pixels) (now counts) (now «black_white») (now red) (now gates) (now log) ⌝ }
+    ensures { λ r. ⌜ withBuffers r (now (states .exit)) (now (luts .exit)) (picture (now (pixels .exit)) (now (counts .exit))) (now (log .exit)) ≡ begun (lent (now («black_white» .entry)) (now (red .entry)) (now (gates .entry)) (now (otp .entry))) command (withBuffers state (now (states .entry)) (now (luts .entry)) (picture (now (pixels .entry)) (now (counts .entry))) (now (log .entry))) (state .bus .power) ⌝ }
 {
     let bus = state.bus;
     let power = bus.power;
@@ -39,6 +41,7 @@ pub fn begin(
                 states,
                 luts,
                 pixels,
+                counts,
                 black_white,
                 red,
                 gates,

@@ -6,11 +6,10 @@ use mathlib.Core.List.{List}
 use Prim.Native.Nat.{ℕ, zero, suc, _+_, _*_, _/_, _%_, _^_, _<_}
 use native.Mathlib.Omega.{arith}
 use lib.Dec.{leb, leb→le}
-use lib.ListN.{length, getD}
+use lib.ListN.{getD}
 use Rattle.numbers.specs.Choice.{pick, bitOf}
-use Rattle.numbers.specs.Lists.{tab}
 use Rattle.numbers.proofs.Every.{at}
-use Rattle.numbers.proofs.Painted.{Painted, paint, paint-all}
+use Rattle.numbers.proofs.Painted.{Painted, paint}
 use Rattle.auto_write.specs.Auto.{heights, widths, heightOf, widthOf, stepByte, autoByte, wholeRows, autoWritten}
 
 pub height-pos : (p : ℕ) → 0 < heightOf p
@@ -65,8 +64,3 @@ module _ (p row column above before v : ℕ) (first : Bool) (l : column < 120) (
 pub written : (p n : ℕ) (d s : List ℕ) → Painted n (autoByte p) d s → n ≡ wholeRows d → s ≡ autoWritten p d
 unfolding autoWritten paint
 written p n d s h e = h .is ∙ ap (λ (k : ℕ). paint k (autoByte p) d) e
-
--- a plane of 680 rows is written whole
-pub auto-whole : (p : ℕ) (d : List ℕ) → length d ≡ 81600 → autoWritten p d ≡ tab 81600 (autoByte p)
-unfolding autoWritten paint
-auto-whole p d l = paint-all (wholeRows d) (autoByte p) d (autoWritten p d) refl (omega arith) ∙ ap (λ (n : ℕ). tab n (autoByte p)) l

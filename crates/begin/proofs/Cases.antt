@@ -24,11 +24,11 @@ use Rattle.activation.specs.Activation.{Activatable, activated}
 use Rattle.begin.specs.Begin.{commandMade, run, commandByKind, begun}
 
 -- a command made current leaves what an activation asks
-pub still-activatable : (command : ℕ) (kind : Kind) (d r : Ssd1677) (states : List ℤ) (luts pixels blackWhite red gates log : List ℕ) → r ≡ commandMade command kind d
-    → Activatable d states luts pixels blackWhite red gates log → Activatable r states luts pixels blackWhite red gates log
+pub still-activatable : (command : ℕ) (kind : Kind) (d r : Ssd1677) (states : List ℤ) (luts pixels counts blackWhite red gates log : List ℕ) → r ≡ commandMade command kind d
+    → Activatable d states luts pixels counts blackWhite red gates log → Activatable r states luts pixels counts blackWhite red gates log
 unfolding commandMade
-still-activatable command kind d r states luts pixels blackWhite red gates log e h =
-    subst (λ (x : Ssd1677). Activatable x states luts pixels blackWhite red gates log) (sym e)
+still-activatable command kind d r states luts pixels counts blackWhite red gates log e h =
+    subst (λ (x : Ssd1677). Activatable x states luts pixels counts blackWhite red gates log) (sym e)
     (record { startable = h .startable; ready = h .ready })
 
 module _ (k : Lent) (command : ℕ) (w : WithBuffers) where
@@ -38,7 +38,7 @@ module _ (k : Lent) (command : ℕ) (w : WithBuffers) where
 
   -- the state put back
   abbrev put : Ssd1677 → WithBuffers
-  put d = withBuffers d (w .states) (w .luts) (w .pixels) (w .log)
+  put d = withBuffers d (w .states) (w .luts) (w .picture) (w .log)
 
   pub resets : (r : Ssd1677) → eqb command 0x12 ≡ true → r ≡ softReset (w .device) → put r ≡ run k command w
   unfolding run

@@ -1,6 +1,7 @@
 // A command that the chip hears, by Table 7-1 (mod.rs, `write_command` and `start_command`).
 ghost use mathlib.Core.Path.{_≡_};
 ghost use Rattle.command.specs.Table.{kindOf};
+ghost use Rattle.counts.specs.Counts.{picture};
 ghost use Rattle.world.specs.World.{withBuffers, lent, on, deviceInBuffers};
 ghost use Rattle.activation.specs.Activation.{Activatable};
 ghost use Rattle.begin.specs.Begin.{commandMade, run, commandByKind};
@@ -35,6 +36,7 @@ fn start_command(
     states: &mut [i64],
     luts: &mut [u8],
     pixels: &mut [u8],
+    counts: &mut [u32],
     black_white: &[u8],
     red: &[u8],
     gates: &[u16],
@@ -42,8 +44,8 @@ fn start_command(
     otp: &[u8],
     command: u8,
 ) -> Ssd1677
-    requires { ⌜ Activatable state (now states) (now luts) (now pixels) (now «black_white») (now red) (now gates) (now log) ⌝ }
-    ensures { λ r. ⌜ withBuffers r (now (states .exit)) (now (luts .exit)) (now (pixels .exit)) (now (log .exit)) ≡ run (lent (now («black_white» .entry)) (now (red .entry)) (now (gates .entry)) (now (otp .entry))) command (withBuffers state (now (states .entry)) (now (luts .entry)) (now (pixels .entry)) (now (log .entry))) ⌝ }
+    requires { ⌜ Activatable state (now states) (now luts) (now pixels) (now counts) (now «black_white») (now red) (now gates) (now log) ⌝ }
+    ensures { λ r. ⌜ withBuffers r (now (states .exit)) (now (luts .exit)) (picture (now (pixels .exit)) (now (counts .exit))) (now (log .exit)) ≡ run (lent (now («black_white» .entry)) (now (red .entry)) (now (gates .entry)) (now (otp .entry))) command (withBuffers state (now (states .entry)) (now (luts .entry)) (picture (now (pixels .entry)) (now (counts .entry))) (now (log .entry))) ⌝ }
 {
     if command == 0x12 {
         return start::soft_reset(state);
@@ -54,6 +56,7 @@ fn start_command(
             states,
             luts,
             pixels,
+            counts,
             black_white,
             red,
             gates,
@@ -76,6 +79,7 @@ fn accept(
     states: &mut [i64],
     luts: &mut [u8],
     pixels: &mut [u8],
+    counts: &mut [u32],
     black_white: &[u8],
     red: &[u8],
     gates: &[u16],
@@ -84,8 +88,8 @@ fn accept(
     command: u8,
     kind: Kind,
 ) -> Ssd1677
-    requires { ⌜ Activatable state (now states) (now luts) (now pixels) (now «black_white») (now red) (now gates) (now log) ⌝ }
-    ensures { λ r. ⌜ withBuffers r (now (states .exit)) (now (luts .exit)) (now (pixels .exit)) (now (log .exit)) ≡ run (lent (now («black_white» .entry)) (now (red .entry)) (now (gates .entry)) (now (otp .entry))) command (on deviceInBuffers (commandMade command kind) (withBuffers state (now (states .entry)) (now (luts .entry)) (now (pixels .entry)) (now (log .entry)))) ⌝ }
+    requires { ⌜ Activatable state (now states) (now luts) (now pixels) (now counts) (now «black_white») (now red) (now gates) (now log) ⌝ }
+    ensures { λ r. ⌜ withBuffers r (now (states .exit)) (now (luts .exit)) (picture (now (pixels .exit)) (now (counts .exit))) (now (log .exit)) ≡ run (lent (now («black_white» .entry)) (now (red .entry)) (now (gates .entry)) (now (otp .entry))) command (on deviceInBuffers (commandMade command kind) (withBuffers state (now (states .entry)) (now (luts .entry)) (picture (now (pixels .entry)) (now (counts .entry))) (now (log .entry)))) ⌝ }
 {
     let current = make_current(state, command, kind);
     start_command(
@@ -93,6 +97,7 @@ fn accept(
         states,
         luts,
         pixels,
+        counts,
         black_white,
         red,
         gates,
@@ -108,6 +113,7 @@ pub fn decode(
     states: &mut [i64],
     luts: &mut [u8],
     pixels: &mut [u8],
+    counts: &mut [u32],
     black_white: &[u8],
     red: &[u8],
     gates: &[u16],
@@ -115,8 +121,8 @@ pub fn decode(
     otp: &[u8],
     command: u8,
 ) -> Ssd1677
-    requires { ⌜ Activatable state (now states) (now luts) (now pixels) (now «black_white») (now red) (now gates) (now log) ⌝ }
-    ensures { λ r. ⌜ withBuffers r (now (states .exit)) (now (luts .exit)) (now (pixels .exit)) (now (log .exit)) ≡ commandByKind (lent (now («black_white» .entry)) (now (red .entry)) (now (gates .entry)) (now (otp .entry))) command (withBuffers state (now (states .entry)) (now (luts .entry)) (now (pixels .entry)) (now (log .entry))) (kindOf command) ⌝ }
+    requires { ⌜ Activatable state (now states) (now luts) (now pixels) (now counts) (now «black_white») (now red) (now gates) (now log) ⌝ }
+    ensures { λ r. ⌜ withBuffers r (now (states .exit)) (now (luts .exit)) (picture (now (pixels .exit)) (now (counts .exit))) (now (log .exit)) ≡ commandByKind (lent (now («black_white» .entry)) (now (red .entry)) (now (gates .entry)) (now (otp .entry))) command (withBuffers state (now (states .entry)) (now (luts .entry)) (picture (now (pixels .entry)) (now (counts .entry))) (now (log .entry))) (kindOf command) ⌝ }
 {
     let known = command::kind(command);
     // The last command was closed before this byte was looked at, so that data which follow are ignored: there is no more to do than to log.
@@ -135,6 +141,7 @@ pub fn decode(
             states,
             luts,
             pixels,
+            counts,
             black_white,
             red,
             gates,
@@ -148,6 +155,7 @@ pub fn decode(
             states,
             luts,
             pixels,
+            counts,
             black_white,
             red,
             gates,

@@ -1,4 +1,4 @@
--- What a command byte keeps: all that a diagnostic, a command made current, a restoring, BUSY and an activation keep. Assumes nothing.
+-- What a command byte keeps: all that a diagnostic, a command made current, a restoring, BUSY and an activation with what is lent keep. Assumes nothing.
 use Prim.Native.Nat.{ℕ, _≤_, _%_}
 use mathlib.Core.Path.{_≡_, refl, sym, ap, subst, _∙_}
 use mathlib.Core.Bool.{true, _||_}
@@ -39,12 +39,12 @@ use Rattle.begin.specs.Begin.{commandMade, run, commandByKind, isHeldOff, begun
 abbrev busyThen : ℕ → WithBuffers → WithBuffers
 busyThen ns w = on deviceInBuffers (λ (d : Ssd1677). withBusyFor d ns) w
 
-module _ (P : WithBuffers → Type 0)
+module _ (k : Lent) (P : WithBuffers → Type 0)
     (reports : (kind : DiagnosticKind) (w : WithBuffers) → P w → P (on logInBuffers (logged kind) w))
     (makes : (command : ℕ) (kind : Kind) (w : WithBuffers) → kindOf command ≡ Of kind → P w → P (on deviceInBuffers (commandMade command kind) w))
     (restores : (w : WithBuffers) → P w → P (on deviceInBuffers restored w))
     (waits : (ns : ℕ) (w : WithBuffers) → P w → P (busyThen ns w))
-    (activates : (k : Lent) (w : WithBuffers) → P w → P (activated k w)) where
+    (activates : (w : WithBuffers) → P w → P (activated k w)) where
   reset-keeps : (w : WithBuffers) → P w → P (on deviceInBuffers softReset w)
   unfolding softReset
   reset-keeps w h = waits (restored (w .device) .config .timing .«soft_reset») (on deviceInBuffers restored w) (restores w h)
@@ -79,17 +79,17 @@ module _ (P : WithBuffers → Type 0)
         let outside = CounterOutsideWindow command (regs .counter .x) (regs .counter .y) in
         either Put (withinOf (regs .counter) (regs .window)) entry (logged outside entry) h (reports outside w h)
 
-    run-keeps : (k : Lent) (command : ℕ) → P (run k command w)
+    run-keeps : (command : ℕ) → P (run k command w)
     unfolding run
-    run-keeps k command =
+    run-keeps command =
         either P (eqb command 0x12) _ _ (reset-keeps w h)
-        (either P (eqb command 0x20) _ _ (activates k w h)
+        (either P (eqb command 0x20) _ _ (activates w h)
         (either P (eqb command 0x28) _ _ sensed-keeps
         (either P (eqb command 0x24 || eqb command 0x26 || eqb command 0x27) _ _ (pointed-keeps command) h)))
 
-  module _ (k : Lent) (command : ℕ) (w : WithBuffers) (h : P w) where
+  module _ (command : ℕ) (w : WithBuffers) (h : P w) where
     accepted-keeps : (kind : Kind) → kindOf command ≡ Of kind → P (run k command (on deviceInBuffers (commandMade command kind) w))
-    accepted-keeps kind e = run-keeps (on deviceInBuffers (commandMade command kind) w) (makes command kind w e h) k command
+    accepted-keeps kind e = run-keeps (on deviceInBuffers (commandMade command kind) w) (makes command kind w e h) command
 
     kind-keeps : (known : Known) → kindOf command ≡ known → P (commandByKind k command w known)
     unfolding commandByKind
@@ -108,64 +108,64 @@ module _ (P : WithBuffers → Type 0)
 
 -- ---- what finishing a display asks
 abbrev pub ReadyWith : WithBuffers → Type 0
-ReadyWith w = Ready (w .device) (w .states) (w .luts) (w .pixels)
+ReadyWith w = Ready (w .device) (w .states) (w .luts) (w .picture .pixels) (w .picture .counts)
 
 pub ready-begun : (k : Lent) (command : ℕ) (w : WithBuffers) (p : Power) → ReadyWith w → ReadyWith (begun k command w p)
 unfolding logged commandMade restored
-ready-begun k command w p h = begun-keeps ReadyWith (λ kind w h. h) (λ command kind w e h. h) (λ w h. h) (λ ns w h. h) ready-activated k command w h p
+ready-begun k command w p h = begun-keeps k ReadyWith (λ kind w h. h) (λ command kind w e h. h) (λ w h. h) (λ ns w h. h) (ready-activated k) command w h p
 
 -- ---- the configuration and the swing
 pub config-begun : (k : Lent) (command : ℕ) (w : WithBuffers) (p : Power) → begun k command w p .device .config ≡ w .device .config
 unfolding logged commandMade restored
 config-begun k command w p =
-    begun-keeps (λ (x : WithBuffers). x .device .config ≡ w .device .config) (λ kind x h. h) (λ command kind x e h. h) (λ x h. h) (λ ns x h. h)
-    (λ k x h. config-activated k x ∙ h)
-    k command w refl p
+    begun-keeps k (λ (x : WithBuffers). x .device .config ≡ w .device .config) (λ kind x h. h) (λ command kind x e h. h) (λ x h. h) (λ ns x h. h)
+    (λ x h. config-activated k x ∙ h)
+    command w refl p
 
 pub swing-begun : (k : Lent) (command : ℕ) (w : WithBuffers) (p : Power) → begun k command w p .device .panel .swing ≡ w .device .panel .swing
 unfolding logged commandMade restored
 swing-begun k command w p =
-    begun-keeps (λ (x : WithBuffers). x .device .panel .swing ≡ w .device .panel .swing) (λ kind x h. h) (λ command kind x e h. h) (λ x h. h) (λ ns x h. h)
-    (λ k x h. swing-activated k x ∙ h)
-    k command w refl p
+    begun-keeps k (λ (x : WithBuffers). x .device .panel .swing ≡ w .device .panel .swing) (λ kind x h. h) (λ command kind x e h. h) (λ x h. h) (λ ns x h. h)
+    (λ x h. swing-activated k x ∙ h)
+    command w refl p
 
 -- ---- the buffers' lengths
 pub states-begun : (k : Lent) (command : ℕ) (w : WithBuffers) (p : Power) → length (begun k command w p .states) ≡ length (w .states)
 states-begun k command w p =
-    begun-keeps (λ (x : WithBuffers). length (x .states) ≡ length (w .states)) (λ kind x h. h) (λ command kind x e h. h) (λ x h. h) (λ ns x h. h)
-    (λ k x h. states-activated k x ∙ h)
-    k command w refl p
+    begun-keeps k (λ (x : WithBuffers). length (x .states) ≡ length (w .states)) (λ kind x h. h) (λ command kind x e h. h) (λ x h. h) (λ ns x h. h)
+    (λ x h. states-activated k x ∙ h)
+    command w refl p
 
 pub luts-begun : (k : Lent) (command : ℕ) (w : WithBuffers) (p : Power) → length (begun k command w p .luts) ≡ length (w .luts)
 luts-begun k command w p =
-    begun-keeps (λ (x : WithBuffers). length (x .luts) ≡ length (w .luts)) (λ kind x h. h) (λ command kind x e h. h) (λ x h. h) (λ ns x h. h)
-    (λ k x h. luts-activated k x ∙ h)
-    k command w refl p
+    begun-keeps k (λ (x : WithBuffers). length (x .luts) ≡ length (w .luts)) (λ kind x h. h) (λ command kind x e h. h) (λ x h. h) (λ ns x h. h)
+    (λ x h. luts-activated k x ∙ h)
+    command w refl p
 
 -- the pixels are as many as the states
-pub pixels-begun : (k : Lent) (command : ℕ) (w : WithBuffers) (p : Power) → ReadyWith w → length (begun k command w p .pixels) ≡ length (w .pixels)
+pub pixels-begun : (k : Lent) (command : ℕ) (w : WithBuffers) (p : Power) → ReadyWith w → length (begun k command w p .picture .pixels) ≡ length (w .picture .pixels)
 pixels-begun k command w p h =
     ready-begun k command w p h .pixels-long ∙ states-begun k command w p ∙ sym (h .pixels-long)
 
 pub log-begun : (k : Lent) (command : ℕ) (w : WithBuffers) (p : Power) → length (w .log) ≡ 16384 → length (begun k command w p .log) ≡ 16384
 unfolding logged commandMade restored
 log-begun k command w p h =
-    begun-keeps (λ (x : WithBuffers). length (x .log) ≡ 16384)
+    begun-keeps k (λ (x : WithBuffers). length (x .log) ≡ 16384)
     (λ kind x h. reported-length (entries (x .device .journal) (x .log)) (x .device .now) kind h)
     (λ command kind x e h. h) (λ x h. h) (λ ns x h. h)
-    (activated-holds (λ t e. length (e .log) ≡ 16384) (λ t e time kind h. reported-length e time kind h) (λ t register e h. h))
-    k command w h p
+    (activated-holds (λ t e. length (e .log) ≡ 16384) (λ t e time kind h. reported-length e time kind h) (λ t register e h. h) k)
+    command w h p
 
 -- ---- what refusal 13 asks of registers, log count and current command
 pub count-begun : (k : Lent) (command : ℕ) (w : WithBuffers) (p : Power) → w .device .journal .count ≤ 1024
     → begun k command w p .device .journal .count ≤ 1024
 unfolding logged commandMade restored
 count-begun k command w p h =
-    begun-keeps (λ (x : WithBuffers). x .device .journal .count ≤ 1024)
+    begun-keeps k (λ (x : WithBuffers). x .device .journal .count ≤ 1024)
     (λ kind x h. reported-count (entries (x .device .journal) (x .log)) (x .device .now) kind h)
     (λ command kind x e h. h) (λ x h. h) (λ ns x h. h)
-    (activated-holds (λ t e. e .journal .count ≤ 1024) (λ t e time kind h. reported-count e time kind h) (λ t register e h. h))
-    k command w h p
+    (activated-holds (λ t e. e .journal .count ≤ 1024) (λ t e time kind h. reported-count e time kind h) (λ t register e h. h) k)
+    command w h p
 
 twelve : (register : ℕ) → register % 4096 ≤ 4095
 twelve register = omega arith
@@ -185,16 +185,16 @@ bounded-activated k w h =
 pub bounded-begun : (k : Lent) (command : ℕ) (w : WithBuffers) (p : Power) → Bounded (w .device .regs) → Bounded (begun k command w p .device .regs)
 unfolding logged commandMade restored
 bounded-begun k command w p h =
-    begun-keeps (λ (x : WithBuffers). Bounded (x .device .regs)) (λ kind x h. h) (λ command kind x e h. h)
-    (λ x h. reset-bounded (x .device .config .«user_id»)) (λ ns x h. h) bounded-activated
-    k command w h p
+    begun-keeps k (λ (x : WithBuffers). Bounded (x .device .regs)) (λ kind x h. h) (λ command kind x e h. h)
+    (λ x h. reset-bounded (x .device .config .«user_id»)) (λ ns x h. h) (bounded-activated k)
+    command w h p
 
 pub current-begun : (k : Lent) (command : ℕ) (w : WithBuffers) (p : Power) → currentFine (w .device .bus .current) ≡ true
     → currentFine (begun k command w p .device .bus .current) ≡ true
 unfolding logged commandMade restored
 current-begun k command w p h =
-    begun-keeps (λ (x : WithBuffers). currentFine (x .device .bus .current) ≡ true) (λ kind x h. h)
+    begun-keeps k (λ (x : WithBuffers). currentFine (x .device .bus .current) ≡ true) (λ kind x h. h)
     (λ command kind x e h. active-fine _ e) (λ x h. h)
     (λ ns x h. ap currentFine (current-busy (x .device .bus) (x .device .config .frequency) (x .device .now) ns) ∙ h)
-    (λ k x h. ap currentFine (current-activated k x) ∙ h)
-    k command w h p
+    (λ x h. ap currentFine (current-activated k x) ∙ h)
+    command w h p

@@ -2,7 +2,7 @@
 use mathlib.Core.Path.{_≡_, refl, sym, subst}
 use mathlib.Core.Bool.{Bool, true, false, _&&_}
 use mathlib.Core.List.{List}
-use Prim.Native.Nat.{ℕ, zero, suc, _+_, _*_, _≤_, _<_}
+use Prim.Native.Nat.{ℕ, zero, suc, _+_, _*_, _^_, _≤_, _<_}
 use native.Mathlib.Nat.{not-suc-le-zero, le-of-suc-le-suc}
 use native.Mathlib.Omega.{arith}
 use lib.Dec.{eqb, ltb, leb}
@@ -16,7 +16,7 @@ use Rattle.numbers.proofs.Lin.{le-in, le-true}
 use Rattle.config.specs.Lowest.{lowest}
 use Rattle.config.specs.Tests.{zeroPeriod}
 use Rattle.config.specs.declared.PanelGeometry.{PanelGeometry}
-use Rattle.bench.specs.Asked.{lasting, grayable, walkable, combinable, scannable, finishable}
+use Rattle.bench.specs.Asked.{lasting, grayable, walkable, combinable, countable, scannable, finishable}
 use Rattle.bench.specs.Made.{geometryOf}
 
 -- a search that finds nothing passed over every number
@@ -61,10 +61,20 @@ pub combine-some : (p : List ℕ) (lut : ℕ) (swing : ℤ) → combinable p lut
 unfolding combinable
 combine-some p lut swing e = le-in (pos 1) swing (le-true (pos 1) swing (right (walkable p lut) (leZ (pos 1) swing) e))
 
-module _ (p : List ℕ) (swing : ℤ) (states luts pixels : ℕ) (e : finishable p swing states luts pixels ≡ true) where
-  both : lasting p && grayable swing states pixels ≡ true
+module _ (p : List ℕ) (swing : ℤ) (states luts pixels counts : ℕ) (e : finishable p swing states luts pixels counts ≡ true) where
+  abbrev glass : Bool
+  glass = (lasting p && grayable swing states pixels) && eqb luts states
+
+  fits : glass ≡ true
   unfolding finishable
-  both = left (lasting p && grayable swing states pixels) (eqb luts states) e
+  fits = left glass (countable states counts) e
+
+  both : lasting p && grayable swing states pixels ≡ true
+  both = left (lasting p && grayable swing states pixels) (eqb luts states) fits
+
+  counted : countable states counts ≡ true
+  unfolding finishable
+  counted = right glass (countable states counts) e
 
   pub finish-lasts : (code : ℕ) → code < 16 → 0 < getD p code 0
   finish-lasts = lasts p (left (lasting p) (grayable swing states pixels) both)
@@ -73,8 +83,15 @@ module _ (p : List ℕ) (swing : ℤ) (states luts pixels : ℕ) (e : finishable
   finish-grays = right (lasting p) (grayable swing states pixels) both
 
   pub finish-luts : luts ≡ states
-  unfolding finishable
-  finish-luts = eqb-true luts states (right (lasting p && grayable swing states pixels) (eqb luts states) e)
+  finish-luts = eqb-true luts states (right (lasting p && grayable swing states pixels) (eqb luts states) fits)
+
+  pub finish-counts : counts ≡ 256
+  unfolding countable
+  finish-counts = eqb-true counts 256 (left (eqb counts 256) (ltb states (2 ^ 32)) counted)
+
+  pub finish-few : states < 2 ^ 32
+  unfolding countable
+  finish-few = ltb-true states (2 ^ 32) (right (eqb counts 256) (ltb states (2 ^ 32)) counted)
 
 module _ (luts gates red blackWhite width height first : ℕ) where
   abbrev Scans : PanelGeometry → Type 0

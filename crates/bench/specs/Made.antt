@@ -4,6 +4,7 @@ use mathlib.Core.List.{List, [], _∷_}
 use Prim.Native.Nat.{ℕ, _/_}
 use lib.IntN.{ℤ}
 use Rattle.numbers.specs.Choice.{pick}
+use Rattle.counts.specs.Counts.{Picture}
 use Rattle.glass.specs.declared.Transfer.{Transfer}
 use Rattle.glass.specs.declared.RefreshKind.{RefreshKind}
 use Rattle.glass.specs.declared.RefreshKind.the-variants.{PowerOn, Full, Partial}
@@ -81,17 +82,17 @@ kindNumber Partial = 2
 unfoldable pub headerOf : PanelImage → List ℕ
 headerOf m = m .width ∷ m .height ∷ m .border ∷ m .generation ∷ kindNumber (m .kind) ∷ pick (m .interrupted) 1 0 ∷ m .started ∷ m .at ∷ []
 
--- what is handed back of the glass: the border's state, the states, the pixels and the image's header
+-- what is handed back of the glass: the border's state, the states, the picture and the image's header
 pub record Shown : Type 0 where
   pub border : ℤ
   pub states : List ℤ
-  pub pixels : List ℕ
+  pub picture : Picture
   pub header : List ℕ
 
 -- the four as one
-abbrev pub shown : ℤ → List ℤ → List ℕ → List ℕ → Shown
-shown border states pixels header = record { border = border; states = states; pixels = pixels; header = header }
+abbrev pub shown : ℤ → List ℤ → Picture → List ℕ → Shown
+shown border states picture header = record { border = border; states = states; picture = picture; header = header }
 
 -- that of a whole glass
 abbrev pub shownOf : Glass → Shown
-shownOf g = shown (g .panel .border) (g .states) (g .pixels) (headerOf (g .panel .image))
+shownOf g = shown (g .panel .border) (g .states) (g .picture) (headerOf (g .panel .image))

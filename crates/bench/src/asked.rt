@@ -1,7 +1,7 @@
 // The tests of what the functions ask.
 ghost use mathlib.Core.Path.{_≡_};
 ghost use Prim.Native.Nat.{_*_};
-ghost use Rattle.bench.specs.Asked.{lasting, grayable, walkable, combinable, scannable, finishable};
+ghost use Rattle.bench.specs.Asked.{lasting, grayable, walkable, combinable, countable, scannable, finishable};
 
 // Every frame-rate code has a period.
 fn last(periods: &[u64; 16]) -> bool
@@ -35,16 +35,23 @@ pub(crate) fn can_combine(periods: &[u64; 16], lut: usize, swing: i64) -> bool
     can_walk(periods, lut) & (1 <= swing)
 }
 
+fn can_count(states: usize, counts: usize) -> bool
+    ensures { λ r. ⌜ r ≡ countable states counts ⌝ }
+{
+    (counts == 256) & (states < 4294967296)
+}
+
 pub(crate) fn can_finish(
     periods: &[u64; 16],
     swing: i64,
     states: usize,
     luts: usize,
     pixels: usize,
+    counts: usize,
 ) -> bool
-    ensures { λ r. ⌜ r ≡ finishable (now (periods .entry)) swing states luts pixels ⌝ }
+    ensures { λ r. ⌜ r ≡ finishable (now (periods .entry)) swing states luts pixels counts ⌝ }
 {
-    last(periods) & can_gray(swing, states, pixels) & (luts == states)
+    last(periods) & can_gray(swing, states, pixels) & (luts == states) & can_count(states, counts)
 }
 
 // The pixels of a glass.

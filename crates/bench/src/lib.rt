@@ -19,6 +19,7 @@ ghost use Rattle.scan.specs.Luts.{lutOf};
 ghost use Rattle.waveform.specs.declared.Drive.the-variants.{Lut};
 ghost use Rattle.waveform.specs.Walks.{wholeTransfer};
 ghost use Rattle.combine.specs.Settled.{settled};
+ghost use Rattle.counts.specs.Counts.{picture};
 ghost use Rattle.panel.specs.Pixels.{grays};
 ghost use Rattle.panel.specs.Finish.{settingTransfer, glass, ending, finished};
 ghost use Rattle.bench.specs.Asked.{grayable, walkable, combinable, scannable, finishable};
@@ -156,12 +157,13 @@ pub extern "C" fn proved_start(
     false
 }
 
-// The end of a display: the border's state after it. The header is that of the image published.
+// The end of a display: the border's state after it, and how often each grey now occurs. The header is that of the image published.
 #[no_mangle]
 pub extern "C" fn proved_finish(
     states: &mut [i64],
     luts: &[u8],
     pixels: &mut [u8],
+    counts: &mut [u32],
     setting: &[u8; 112],
     periods: &[u64; 16],
     swing: i64,
@@ -178,9 +180,16 @@ pub extern "C" fn proved_finish(
     until: u64,
     header: &mut [u64; 8],
 ) -> i64
-    ensures { λ r. ⌜ shown r (now (states .exit)) (now (pixels .exit)) (now (header .exit)) ≡ pick (finishable (now (periods .entry)) swing (length (now (states .entry))) (length (now (luts .entry))) (length (now (pixels .entry)))) (shownOf (finished (ending (displayOf (now (setting .entry)) register partial started) «positive_drives_black» (now (periods .entry)) at (untilOf cut until)) (now (luts .entry)) (glass (panelOf swing border width height generation) (now (states .entry)) (now (pixels .entry))))) (shown border (now (states .entry)) (now (pixels .entry)) (now (header .entry))) ⌝ }
+    ensures { λ r. ⌜ shown r (now (states .exit)) (picture (now (pixels .exit)) (now (counts .exit))) (now (header .exit)) ≡ pick (finishable (now (periods .entry)) swing (length (now (states .entry))) (length (now (luts .entry))) (length (now (pixels .entry))) (length (now (counts .entry)))) (shownOf (finished (ending (displayOf (now (setting .entry)) register partial started) «positive_drives_black» (now (periods .entry)) at (untilOf cut until)) (now (luts .entry)) (glass (panelOf swing border width height generation) (now (states .entry)) (picture (now (pixels .entry)) (now (counts .entry)))))) (shown border (now (states .entry)) (picture (now (pixels .entry)) (now (counts .entry))) (now (header .entry))) ⌝ }
 {
-    if asked::can_finish(periods, swing, states.len(), luts.len(), pixels.len()) {
+    if asked::can_finish(
+        periods,
+        swing,
+        states.len(),
+        luts.len(),
+        pixels.len(),
+        counts.len(),
+    ) {
         let panel = made::panel_of(swing, border, width, height, generation);
         let display = made::display_of(setting, register, partial, started);
         let until = made::until_of(cut, until);
@@ -194,6 +203,7 @@ pub extern "C" fn proved_finish(
             &mut states[..],
             luts,
             &mut pixels[..],
+            &mut counts[..],
         );
         let image = finished.image;
         *header = made::header_of(image);

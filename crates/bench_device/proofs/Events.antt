@@ -11,9 +11,9 @@ use Rattle.bench_device.specs.Whole.{ran, ranOf, ranFrom}
 
 pub ran-on : (otp : List ℕ) (event : ℕ → Event) (n : ℕ) (p q : Powered) (left : World) {number count : ℕ} {header : List ℕ}
     → q ≡ p → fed number count left ≡ feeding (made otp event) n 0 (worldOf q) → header ≡ headerOf (left .device .panel .image)
-    → ran count header (buffers (left .states) (left .luts) (left .pixels) (left .blackWhite) (left .red) (left .gates) (left .log)) ≡ ranFrom otp event n p
+    → ran count header (buffers (left .states) (left .luts) (left .picture) (left .blackWhite) (left .red) (left .gates) (left .log)) ≡ ranFrom otp event n p
 unfolding ranFrom
 ran-on otp event n p q left {count = count} f e h =
-    (λ i. ran count (h i) (buffers (left .states) (left .luts) (left .pixels) (left .blackWhite) (left .red) (left .gates) (left .log)))
+    (λ i. ran count (h i) (buffers (left .states) (left .luts) (left .picture) (left .blackWhite) (left .red) (left .gates) (left .log)))
     ∙ ap ranOf e
     ∙ ap (ranFrom otp event n) f

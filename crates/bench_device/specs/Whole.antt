@@ -61,7 +61,7 @@ ran made header b = record { made = made; header = header; buffers = b }
 abbrev pub ranOf : Fed World → Ran
 ranOf f =
     ran (f .made) (headerOf (f .left .device .panel .image))
-    (buffers (f .left .states) (f .left .luts) (f .left .pixels) (f .left .blackWhite) (f .left .red) (f .left .gates) (f .left .log))
+    (buffers (f .left .states) (f .left .luts) (f .left .picture) (f .left .blackWhite) (f .left .red) (f .left .gates) (f .left .log))
 
 -- n events from a start on
 unfoldable pub ranFrom : List ℕ → (ℕ → Event) → ℕ → Powered → Ran

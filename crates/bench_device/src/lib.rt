@@ -2,6 +2,7 @@
 mod whole;
 
 ghost use mathlib.Core.Path.{_≡_};
+ghost use Rattle.counts.specs.Counts.{picture};
 ghost use Rattle.power_on.specs.Start.{buffers, started};
 ghost use Rattle.traffic.specs.Traffic.{eventAt, shortest};
 ghost use Rattle.bench_device.specs.Whole.{configOf, ran, ranFrom};
@@ -14,6 +15,7 @@ pub extern "C" fn proved_traffic(
     states: &mut [i64],
     luts: &mut [u8],
     pixels: &mut [u8],
+    counts: &mut [u32],
     black_white: &mut [u8],
     red: &mut [u8],
     gates: &mut [u16],
@@ -26,13 +28,14 @@ pub extern "C" fn proved_traffic(
     values: &[u8],
     header: &mut [u64; 8],
 ) -> usize
-    ensures { λ r. ⌜ ran r (now (header .exit)) (buffers (now (states .exit)) (now (luts .exit)) (now (pixels .exit)) (now («black_white» .exit)) (now (red .exit)) (now (gates .exit)) (now (log .exit))) ≡ ranFrom (now (otp .entry)) (eventAt (now (kinds .entry)) (now (times .entry)) (now (values .entry))) (shortest (now (kinds .entry)) (now (times .entry)) (now (values .entry))) (started (configOf width height) (now (otp .entry)) (buffers (now (states .entry)) (now (luts .entry)) (now (pixels .entry)) (now («black_white» .entry)) (now (red .entry)) (now (gates .entry)) (now (log .entry))) .left) ⌝ }
+    ensures { λ r. ⌜ ran r (now (header .exit)) (buffers (now (states .exit)) (now (luts .exit)) (picture (now (pixels .exit)) (now (counts .exit))) (now («black_white» .exit)) (now (red .exit)) (now (gates .exit)) (now (log .exit))) ≡ ranFrom (now (otp .entry)) (eventAt (now (kinds .entry)) (now (times .entry)) (now (values .entry))) (shortest (now (kinds .entry)) (now (times .entry)) (now (values .entry))) (started (configOf width height) (now (otp .entry)) (buffers (now (states .entry)) (now (luts .entry)) (picture (now (pixels .entry)) (now (counts .entry))) (now («black_white» .entry)) (now (red .entry)) (now (gates .entry)) (now (log .entry))) .left) ⌝ }
 {
     let started = power_on::new(
         whole::config_of(width, height),
         &mut states[..],
         &mut luts[..],
         &mut pixels[..],
+        &mut counts[..],
         &mut black_white[..],
         &mut red[..],
         &mut gates[..],
@@ -44,6 +47,7 @@ pub extern "C" fn proved_traffic(
         &mut states[..],
         &mut luts[..],
         &mut pixels[..],
+        &mut counts[..],
         &mut black_white[..],
         &mut red[..],
         &gates[..],

@@ -1,9 +1,9 @@
 -- What each return of the code hands over, over plain variables. Assumes nothing.
 use Prim.Native.Nat.{ℕ, max, min, _+_}
-use mathlib.Core.Path.{_≡_, refl, ap, _∙_}
+use mathlib.Core.Path.{_≡_, ap, _∙_}
 use mathlib.Core.Bool.{Bool, true, false, _&&_, not}
 use mathlib.Core.List.{List}
-use lib.Dec.{eqb, leb}
+use lib.Dec.{eqb}
 use Rattle.numbers.specs.Saturation.{largest}
 use Rattle.counter.specs.declared.Counter.{Counter}
 use Rattle.counter.specs.Counter.{advancedOf}

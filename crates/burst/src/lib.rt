@@ -15,7 +15,7 @@ use ram::Entry;
 use ram::Window;
 
 // The kind of a data event (docs/replay-format.md).
-const DATA: u8 = 2;
+pub const DATA: u8 = 2;
 
 // What bytes of RAM data change of a state.
 pub struct Reached {

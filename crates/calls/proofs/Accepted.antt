@@ -11,11 +11,11 @@ use Rattle.device.specs.Parts.{withConfig, withJournal}
 use Rattle.world.specs.World.{World, lentOf, deviceInWorld, glassInWorld, glassLogInWorld, buffersInWorld, planesInWorld}
 use Rattle.clock.specs.Advance.{advanced}
 use Rattle.guard_lengths.specs.declared.Lengths.{Lengths}
-use Rattle.guard_lengths.specs.declared.Lent.{Lent}
-use Rattle.guard_lengths.specs.declared.Lent.the-variants.{Nothing, Of}
+use Rattle.guard_lengths.specs.declared.LentLength.{LentLength}
+use Rattle.guard_lengths.specs.declared.LentLength.the-variants.{Nothing, Of}
 use Rattle.guard.specs.declared.Refusal.{Refusal}
 use Rattle.guard.specs.declared.Refusal.the-variants.{Accepted}
-use Rattle.guard_lengths.specs.Lengths.{planeBytes, logBytes, fits, lengthsFit, lengthsOf, glassLent, glassLogLent, planesLogLent}
+use Rattle.guard_lengths.specs.Lengths.{planeBytes, logBytes, fits, lengthsFit, countsFit, lengthsOf, glassLent, glassLogLent, planesLogLent}
 use Rattle.guard.specs.Refusals.{guarded, guardedWithTable}
 use Rattle.guard_state.specs.State.{stateFine}
 use Rattle.query.specs.Outcome.{outcome, unless, stateGuarded}
@@ -37,14 +37,14 @@ pub state-passes : (d : Ssd1677) → stateFine d ≡ true → stateGuarded d ≡
 unfolding stateGuarded
 state-passes d e = rw e
 
-two-pass : (d : Ssd1677) (l : Lengths) → stateFine d ≡ true → lengthsFit (d .config .panel) l ≡ true → guarded d l ≡ Accepted
+three-pass : (d : Ssd1677) (l : Lengths) → stateFine d ≡ true → lengthsFit (d .config .panel) l ≡ true → countsFit l ≡ true → guarded d l ≡ Accepted
 unfolding guarded
-two-pass d l e f = rw (e, f)
+three-pass d l e f k = rw (e, f, k)
 
-three-pass : (d : Ssd1677) (l : Lengths) (otp : List ℕ) → stateFine d ≡ true → lengthsFit (d .config .panel) l ≡ true → badTable otp ≡ false
+four-pass : (d : Ssd1677) (l : Lengths) (otp : List ℕ) → stateFine d ≡ true → lengthsFit (d .config .panel) l ≡ true → countsFit l ≡ true → badTable otp ≡ false
     → guardedWithTable d l otp ≡ Accepted
 unfolding guardedWithTable
-three-pass d l otp e f g = rw (e, f, g)
+four-pass d l otp e f k g = rw (e, f, k, g)
 
 -- what is not lent has no wrong length
 unlent : (size : ℕ) → fits Nothing size ≡ true
@@ -53,24 +53,25 @@ unlent size = refl
 
 module _ (otp : List ℕ) (w : World) (s : Sound otp w) where
   -- a call that is lent the glass, and of the other buffers each or not
-  lent-passes : (g b r o : Lent) → fits g logBytes ≡ true → fits b planeBytes ≡ true → fits r planeBytes ≡ true → fits o (w .device .config .panel .height) ≡ true
-      → guarded (w .device) (lengthsOf (length (w .states)) (length (w .luts)) (length (w .pixels)) g b r o) ≡ Accepted
+  lent-passes : (g b r o : LentLength) → fits g logBytes ≡ true → fits b planeBytes ≡ true → fits r planeBytes ≡ true → fits o (w .device .config .panel .height) ≡ true
+      → guarded (w .device) (lengthsOf (length (w .states)) (length (w .luts)) (length (w .picture .pixels)) (length (w .picture .counts)) g b r o) ≡ Accepted
   lent-passes g b r o e f h i =
       let l = sound-long otp w s in
-      two-pass (w .device) (lengthsOf (length (w .states)) (length (w .luts)) (length (w .pixels)) g b r o) (s .state)
-      (lengths-pass (w .device .config .panel) (length (w .states)) (length (w .luts)) (length (w .pixels)) g b r o (l .states) (l .luts) (l .pixels) e f h i)
+      three-pass (w .device) (lengthsOf (length (w .states)) (length (w .luts)) (length (w .picture .pixels)) (length (w .picture .counts)) g b r o) (s .state)
+      (lengths-pass (w .device .config .panel) (length (w .states)) (length (w .luts)) (length (w .picture .pixels)) (length (w .picture .counts)) g b r o (l .states) (l .luts) (l .pixels) e f h i)
+      (s .counts)
 
-  glass-passes : guarded (w .device) (glassLent (length (w .states)) (length (w .luts)) (length (w .pixels))) ≡ Accepted
+  glass-passes : guarded (w .device) (glassLent (length (w .states)) (length (w .luts)) (length (w .picture .pixels)) (length (w .picture .counts))) ≡ Accepted
   glass-passes =
       lent-passes Nothing Nothing Nothing Nothing (unlent logBytes) (unlent planeBytes) (unlent planeBytes) (unlent (w .device .config .panel .height))
 
-  log-passes : guarded (w .device) (glassLogLent (length (w .states)) (length (w .luts)) (length (w .pixels)) (length (w .log))) ≡ Accepted
+  log-passes : guarded (w .device) (glassLogLent (length (w .states)) (length (w .luts)) (length (w .picture .pixels)) (length (w .picture .counts)) (length (w .log))) ≡ Accepted
   log-passes =
       lent-passes (Of (length (w .log))) Nothing Nothing Nothing (has (length (w .log)) logBytes (sound-long otp w s .log)) (unlent planeBytes)
       (unlent planeBytes) (unlent (w .device .config .panel .height))
 
   planes-pass : guarded (w .device)
-      (planesLogLent (length (w .states)) (length (w .luts)) (length (w .pixels)) (length (w .log)) (length (w .blackWhite)) (length (w .red)))
+      (planesLogLent (length (w .states)) (length (w .luts)) (length (w .picture .pixels)) (length (w .picture .counts)) (length (w .log)) (length (w .blackWhite)) (length (w .red)))
       ≡ Accepted
   planes-pass =
       let l = sound-long otp w s in
@@ -85,7 +86,7 @@ module _ (otp : List ℕ) (w : World) (s : Sound otp w) where
   accepted-takes (write-command time command) =
       ap (back (buffersInWorld .put w))
       (granted _ (buffersInWorld .get w) (commandTaken (lentOf otp w) time command (buffersInWorld .get w))
-      (three-pass (w .device) (lengthsInWorld w) otp (s .state) (s .lengths) (s .table)))
+      (four-pass (w .device) (lengthsInWorld w) otp (s .state) (s .lengths) (s .counts) (s .table)))
   accepted-takes (write-data time byte) = ap (back (planesInWorld .put w)) (granted _ (planesInWorld .get w) (dataIn (w .luts) time byte (planesInWorld .get w)) planes-pass)
   accepted-takes (read-data time) =
       ap (back (λ (r : WithRead). glassLogInWorld .put w (r .left)))

@@ -106,7 +106,7 @@ settled-due d r display power current timed run ahead =
     let f = d .config .frequency in
     let ends = timed run in
     let high = rises (d .bus) f (d .now) (r .ns) (some-span f (d .now) (r .ns) (omega arith)) in
-    subst (λ (b : Bus). UnderWay (withActivated d (withLoaded (d .regs) (r .temperature) (r .lut)) b (r .clock) (r .analog) display (r .journal)))
+    subst (λ (b : Bus). UnderWay (withActivated d (withLoaded (d .regs) (r .temperature) (r .lut) (r .waveform)) b (r .clock) (r .analog) display (r .journal)))
     (sym high)
     (record {
       until = afterNs f (d .now) (r .ns);
@@ -136,4 +136,4 @@ module _ (k : Lent) (w : WithBuffers) (power : w .device .bus .power ≡ Running
   pub held-activated : Held (activated k w .device)
   unfolding activated
   held-activated =
-      held-advanced (stagedIn k w .luts) (stagedIn k w .device .now) (withGlass (stagedIn k w .device) (w .states) (w .pixels)) staged-due
+      held-advanced (stagedIn k w .luts) (stagedIn k w .device .now) (withGlass (stagedIn k w .device) (w .states) (w .picture)) staged-due

@@ -92,18 +92,18 @@ module _ (otp : List ℕ) (w : World) (h : Held (w .device)) where
     line-holds : (low : Bool) → Held (taken otp w (set-reset time low) .device)
     unfolding lineTaken
     line-holds low =
-        held-line (w .luts) low (withGlassLog (moved .device) (moved .states) (moved .pixels) (w .log)) (moved .device .bus .power) refl held-moved
+        held-line (w .luts) low (withGlassLog (moved .device) (moved .states) (moved .picture) (w .log)) (moved .device .bus .power) refl held-moved
 
     pub low-stops : taken otp w (set-reset time true) .device .display .running ≡ false
     unfolding lineTaken
     low-stops =
-        stopped-low (w .luts) (withGlassLog (moved .device) (moved .states) (moved .pixels) (w .log)) (moved .device .bus .power) refl held-moved
+        stopped-low (w .luts) (withGlassLog (moved .device) (moved .states) (moved .picture) (w .log)) (moved .device .bus .power) refl held-moved
 
     command-holds : (command : ℕ) → Held (taken otp w (write-command time command) .device)
     unfolding commandTaken
     command-holds command =
         let c = closed (withLog (moved .device) (w .log)) in
-        held-begun (lentOf otp w) command (withBuffers (c .device) (moved .states) (w .luts) (moved .pixels) (c .log))
+        held-begun (lentOf otp w) command (withBuffers (c .device) (moved .states) (w .luts) (moved .picture) (c .log))
         (held-closed (withLog (moved .device) (w .log)) held-moved)
 
     data-holds : (byte : ℕ) → byte ≤ 255 → Held (taken otp w (write-data time byte) .device)

@@ -1,4 +1,4 @@
--- Every call leaves a sound state and sound buffers: 13, 11 and 12 refuse no later call. Assumes nothing.
+-- Every call leaves a sound state and sound buffers: 13, 11, 15 and 12 refuse no later call. Assumes nothing.
 use Prim.Native.Nat.{ℕ, zero-le, _≤_}
 use mathlib.Core.Path.{_≡_, refl, sym, ap, subst, _∙_}
 use mathlib.Core.Bool.{Bool, true}
@@ -11,14 +11,14 @@ use Rattle.device.specs.declared.Current.{Current}
 use Rattle.device.specs.declared.Current.the-variants.{Ignoring, Active}
 use Rattle.world.specs.World.{World, withLog, WithGlass, withGlassLog, withRam, withBuffers, lentOf, glassInWorld}
 use Rattle.registers.proofs.Bounds.{Bounded}
-use Rattle.guard_lengths.specs.declared.Lent.the-variants.{Of}
+use Rattle.guard_lengths.specs.declared.LentLength.the-variants.{Of}
 use Rattle.guard_kinds.specs.Kinds.{currentFine}
 use Rattle.clock.specs.Advance.{Ready, advanced}
 use Rattle.chip.specs.Close.{closed}
 use Rattle.clock.proofs.Arrived.{config-advanced, swing-advanced, regs-advanced, journal-advanced, current-advanced, states-advanced}
 use Rattle.reset.proofs.Kept.{ready-closed, ready-line}
 use Rattle.activation.proofs.Kept.{ready-advanced}
-use Rattle.begin_laws.proofs.Kept.{config-begun, swing-begun, states-begun, luts-begun, pixels-begun, log-begun, count-begun, bounded-begun, current-begun}
+use Rattle.begin_laws.proofs.Kept.{config-begun, swing-begun, states-begun, luts-begun, pixels-begun, ready-begun, log-begun, count-begun, bounded-begun, current-begun}
 use Rattle.data.specs.Data.{oneByteMore}
 use Rattle.data_laws.proofs.Kept.{data-leaves, current-kept}
 use Rattle.reading.specs.Reading.{oneReadMore}
@@ -52,12 +52,12 @@ unfolding lineTaken commandTaken dataIn readIn
 states-kept otp w (advance time) = states-advanced (w .luts) time (glassInWorld .get w)
 states-kept otp w (set-reset time low) =
     let g = advanced (w .luts) time (glassInWorld .get w) in
-    line-leaves (w .luts) low (withGlassLog (g .device) (g .states) (g .pixels) (w .log)) (g .device .bus .power) .states-long
+    line-leaves (w .luts) low (withGlassLog (g .device) (g .states) (g .picture) (w .log)) (g .device .bus .power) .states-long
     ∙ states-advanced (w .luts) time (glassInWorld .get w)
 states-kept otp w (write-command time command) =
     let g = advanced (w .luts) time (glassInWorld .get w) in
     let c = closed (withLog (g .device) (w .log)) in
-    states-begun (lentOf otp w) command (withBuffers (c .device) (g .states) (w .luts) (g .pixels) (c .log)) (c .device .bus .power)
+    states-begun (lentOf otp w) command (withBuffers (c .device) (g .states) (w .luts) (g .picture) (c .log)) (c .device .bus .power)
     ∙ states-advanced (w .luts) time (glassInWorld .get w)
 states-kept otp w (write-data time byte) = states-advanced (w .luts) time (glassInWorld .get w)
 states-kept otp w (read-data time) = states-advanced (w .luts) time (glassInWorld .get w)
@@ -66,20 +66,20 @@ states-kept otp w take-diagnostics = refl
 
 module _ (otp : List ℕ) (w : World) (s : Sound otp w) where
   -- what finishing a display asks
-  ready : Ready (w .device) (w .states) (w .luts) (w .pixels)
+  ready : Ready (w .device) (w .states) (w .luts) (w .picture .pixels) (w .picture .counts)
   ready =
-      ready-fine (w .device) (w .states) (w .luts) (w .pixels) (Of (length (w .log))) (Of (length (w .blackWhite))) (Of (length (w .red)))
-      (Of (length (w .gates))) (s .state) (s .lengths)
+      ready-fine (w .device) (w .states) (w .luts) (w .picture .pixels) (w .picture .counts) (Of (length (w .log))) (Of (length (w .blackWhite))) (Of (length (w .red)))
+      (Of (length (w .gates))) (s .state) (s .lengths) (sound-long otp w s .counts)
 
   module _ (time : ℕ) where
     -- the clock has moved
     abbrev moved : WithGlass
     moved = advanced (w .luts) time (glassInWorld .get w)
 
-    moved-ready : Ready (moved .device) (moved .states) (w .luts) (moved .pixels)
+    moved-ready : Ready (moved .device) (moved .states) (w .luts) (moved .picture .pixels) (moved .picture .counts)
     moved-ready = ready-advanced (w .luts) time (glassInWorld .get w) ready
 
-    moved-pixels : length (moved .pixels) ≡ length (w .pixels)
+    moved-pixels : length (moved .picture .pixels) ≡ length (w .picture .pixels)
     moved-pixels = moved-ready .pixels-long ∙ states-advanced (w .luts) time (glassInWorld .get w) ∙ sym (ready .pixels-long)
 
     moved-config : moved .device .config ≡ w .device .config
@@ -101,30 +101,31 @@ module _ (otp : List ℕ) (w : World) (s : Sound otp w) where
     -- a later state of the same configuration and swing, with its buffers
     later-sound : (v : World) → v .device .config ≡ moved .device .config → v .device .panel .swing ≡ moved .device .panel .swing
         → Bounded (v .device .regs) → v .device .journal .count ≤ 1024 → currentFine (v .device .bus .current) ≡ true
-        → length (v .states) ≡ length (moved .states) → length (v .luts) ≡ length (w .luts) → length (v .pixels) ≡ length (moved .pixels)
-        → length (v .log) ≡ 16384 → length (v .blackWhite) ≡ length (w .blackWhite) → length (v .red) ≡ length (w .red)
+        → length (v .states) ≡ length (moved .states) → length (v .luts) ≡ length (w .luts) → length (v .picture .pixels) ≡ length (moved .picture .pixels)
+        → length (v .picture .counts) ≡ 256 → length (v .log) ≡ 16384 → length (v .blackWhite) ≡ length (w .blackWhite) → length (v .red) ≡ length (w .red)
         → length (v .gates) ≡ length (w .gates) → Sound otp v
-    later-sound v config swing bounded count current states luts pixels log black-white red gates =
+    later-sound v config swing bounded count current states luts pixels counts log black-white red gates =
         let same = config ∙ moved-config in
         is-sound otp v (s .table)
         (fine-kept (w .device) (v .device) (sound-fine otp w s) (ap (λ (c : Ssd1677Config). c .panel) same) (ap (λ (c : Ssd1677Config). c .timing) same)
         (ap (λ (c : Ssd1677Config). c .frequency) same) (swing ∙ moved-swing) bounded count current)
         (long-kept (w .device .config .panel) (v .device .config .panel) w v (sound-long otp w s) (ap (λ (c : Ssd1677Config). c .panel) same)
-        (states ∙ states-advanced (w .luts) time (glassInWorld .get w)) luts (pixels ∙ moved-pixels) log black-white red gates)
+        (states ∙ states-advanced (w .luts) time (glassInWorld .get w)) luts (pixels ∙ moved-pixels) counts log black-white red gates)
 
     clock-keeps : Sound otp (taken otp w (advance time))
     clock-keeps =
-        later-sound (taken otp w (advance time)) refl refl moved-bounded moved-count moved-current refl refl refl (sound-long otp w s .log) refl refl refl
+        later-sound (taken otp w (advance time)) refl refl moved-bounded moved-count moved-current refl refl refl (moved-ready .counts-long) (sound-long otp w s .log) refl refl refl
 
     line-keeps : (low : Bool) → Sound otp (taken otp w (set-reset time low))
     unfolding lineTaken
     line-keeps low =
-        let a = withGlassLog (moved .device) (moved .states) (moved .pixels) (w .log) in
+        let a = withGlassLog (moved .device) (moved .states) (moved .picture) (w .log) in
         let p = moved .device .bus .power in
         let l = line-leaves (w .luts) low a p in
         later-sound (taken otp w (set-reset time low)) (l .same-config) (l .same-swing) (l .bounded moved-bounded) (l .count moved-count)
         (current-line (w .luts) low a p moved-current) (l .states-long) refl
         (ready-line (w .luts) low a p moved-ready .pixels-long ∙ l .states-long ∙ sym (moved-ready .pixels-long))
+        (ready-line (w .luts) low a p moved-ready .counts-long)
         (l .log-long (sound-long otp w s .log)) refl refl refl
 
     command-keeps : (command : ℕ) → Sound otp (taken otp w (write-command time command))
@@ -132,14 +133,16 @@ module _ (otp : List ℕ) (w : World) (s : Sound otp w) where
     command-keeps command =
         let k = withLog (moved .device) (w .log) in
         let c = closed k in
-        let a = withBuffers (c .device) (moved .states) (w .luts) (moved .pixels) (c .log) in
+        let a = withBuffers (c .device) (moved .states) (w .luts) (moved .picture) (c .log) in
         let p = c .device .bus .power in
         let t = lentOf otp w in
+        let closes = ready-closed (moved .states) (w .luts) (moved .picture .pixels) (moved .picture .counts) k c refl moved-ready in
         later-sound (taken otp w (write-command time command)) (config-begun t command a p ∙ closed-config k) (swing-begun t command a p ∙ closed-swing k)
         (bounded-begun t command a p (subst Bounded (sym (closed-regs k)) moved-bounded))
         (count-begun t command a p (closed-count k moved-count)) (current-begun t command a p (closed-current k)) (states-begun t command a p)
         (luts-begun t command a p)
-        (pixels-begun t command a p (ready-closed (moved .states) (w .luts) (moved .pixels) k c refl moved-ready))
+        (pixels-begun t command a p closes)
+        (ready-begun t command a p closes .counts-long)
         (log-begun t command a p (closed-length k (sound-long otp w s .log)))
         refl refl refl
 
@@ -151,7 +154,7 @@ module _ (otp : List ℕ) (w : World) (s : Sound otp w) where
         let l = data-leaves byte r c small in
         let kept = l .rests .sound (record { bounded = moved-bounded; room = moved-count; long = sound-long otp w s .log }) in
         later-sound (taken otp w (write-data time byte)) (l .rests .same-config) (ap (λ x. x .swing) (l .rests .same-panel)) (kept .bounded) (kept .room)
-        (current-kept (λ (x : Current). currentFine x ≡ true) ignored goes-on byte r c refl moved-current) refl refl refl (kept .long)
+        (current-kept (λ (x : Current). currentFine x ≡ true) ignored goes-on byte r c refl moved-current) refl refl refl (moved-ready .counts-long) (kept .long)
         (l .black-white-long) (l .red-long) refl
 
     read-keeps : Sound otp (taken otp w (read-data time))
@@ -162,7 +165,7 @@ module _ (otp : List ℕ) (w : World) (s : Sound otp w) where
         let l = read-leaves (w .blackWhite) (w .red) k p in
         let kept = l .rests .sound (record { bounded = moved-bounded; room = moved-count; long = sound-long otp w s .log }) in
         later-sound (taken otp w (read-data time)) (l .rests .same-config) (ap (λ x. x .swing) (l .rests .same-panel)) (kept .bounded) (kept .room)
-        (current-read (λ (x : Current). currentFine x ≡ true) reads-on (w .blackWhite) (w .red) k p moved-current) refl refl refl (kept .long)
+        (current-read (λ (x : Current). currentFine x ≡ true) reads-on (w .blackWhite) (w .red) k p moved-current) refl refl refl (moved-ready .counts-long) (kept .long)
         refl refl refl
 
   ambient-keeps : (register : ℕ) → Sound otp (taken otp w (set-ambient register))
@@ -171,7 +174,7 @@ module _ (otp : List ℕ) (w : World) (s : Sound otp w) where
       let f = sound-fine otp w s in
       let l = sound-long otp w s in
       is-sound otp v (s .table) (fine-kept (w .device) (v .device) f refl refl refl refl (f .bounded) (f .count) (f .current))
-      (long-kept (w .device .config .panel) (w .device .config .panel) w v l refl refl refl refl (l .log) refl refl refl)
+      (long-kept (w .device .config .panel) (w .device .config .panel) w v l refl refl refl refl (l .counts) (l .log) refl refl refl)
 
   diagnostics-keeps : Sound otp (taken otp w take-diagnostics)
   diagnostics-keeps =
@@ -179,7 +182,7 @@ module _ (otp : List ℕ) (w : World) (s : Sound otp w) where
       let f = sound-fine otp w s in
       let l = sound-long otp w s in
       is-sound otp v (s .table) (fine-kept (w .device) (v .device) f refl refl refl refl (f .bounded) zero-le (f .current))
-      (long-kept (w .device .config .panel) (w .device .config .panel) w v l refl refl refl refl (l .log) refl refl refl)
+      (long-kept (w .device .config .panel) (w .device .config .panel) w v l refl refl refl refl (l .counts) (l .log) refl refl refl)
 
   pub sound-kept : (call : Call) → Typed call → Sound otp (taken otp w call)
   sound-kept (advance time) t = clock-keeps time

@@ -14,6 +14,7 @@ use Rattle.config.specs.declared.PanelGeometry.{PanelGeometry}
 use Rattle.config.specs.declared.Ssd1677Config.{Ssd1677Config}
 use Rattle.config.specs.Answer.{isAccepted, firstOf}
 use Rattle.otp.specs.Table.{startTests}
+use Rattle.counts.specs.Counts.{countsOf}
 use Rattle.panel.specs.Start.{panelAtPowerOn, powerOn}
 use Rattle.panel_laws.proofs.Start.{some-swing}
 use Rattle.device.specs.declared.Current.the-variants.{Idle}
@@ -73,12 +74,13 @@ module _ (c : Ssd1677Config) (otp : List ℕ) (b : Buffers) where
         }
 
     powered-long : Long (c .panel) (worldOf (poweredUp c b))
-    unfolding poweredUp filled powerOn cleared
+    unfolding poweredUp filled powerOn cleared countsOf
     powered-long =
         record {
           states = length-tab (length (b .states)) _ ∙ long .states;
           luts = length-tab (length (b .luts)) _ ∙ long .luts;
-          pixels = length-tab (length (b .pixels)) _ ∙ long .pixels;
+          pixels = length-tab (length (b .picture .pixels)) _ ∙ long .pixels;
+          counts = length-tab 256 _;
           log = length-tab (length (b .log)) _ ∙ long .log (length (b .log)) refl;
           black-white = length-tab (length (b .blackWhite)) _ ∙ long .black-white (length (b .blackWhite)) refl;
           red = length-tab (length (b .red)) _ ∙ long .red (length (b .red)) refl;

@@ -16,18 +16,19 @@ use Rattle.device.specs.declared.Power.the-variants.{Running}
 use Rattle.device.specs.declared.Ssd1677.{Ssd1677}
 use Rattle.world.specs.World.{World}
 use Rattle.guard_lengths.specs.declared.Lengths.{Lengths}
-use Rattle.guard_lengths.specs.Lengths.{lengthsFit, allLent}
+use Rattle.guard_lengths.specs.Lengths.{lengthsFit, countsFit, allLent}
 use Rattle.guard_state.specs.State.{stateFine}
 
 -- the lengths of all that is lent
 abbrev pub lengthsInWorld : World → Lengths
 lengthsInWorld w =
-    allLent (length (w .states)) (length (w .luts)) (length (w .pixels)) (length (w .log)) (length (w .blackWhite)) (length (w .red)) (length (w .gates))
+    allLent (length (w .states)) (length (w .luts)) (length (w .picture .pixels)) (length (w .picture .counts)) (length (w .log)) (length (w .blackWhite)) (length (w .red)) (length (w .gates))
 
--- neither 13, 11 nor 12 refuses it
+-- neither 13, 11, 15 nor 12 refuses it
 pub record Sound (otp : List ℕ) (w : World) : Type 0 where
   pub state : stateFine (w .device) ≡ true
   pub lengths : lengthsFit (w .device .config .panel) (lengthsInWorld w) ≡ true
+  pub counts : countsFit (lengthsInWorld w) ≡ true
   pub table : badTable otp ≡ false
 
 -- a kind of command whose data bytes change nothing but the command's own counts

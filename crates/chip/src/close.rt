@@ -13,7 +13,7 @@ use diagnostic::DiagnosticKind;
 use diagnostic::Journal;
 
 // The fewest parameters that a command of the kind takes.
-pub fn expected(kind: Kind) -> u16
+fn expected(kind: Kind) -> u16
     ensures { λ r. ⌜ r ≡ expectedOf kind ⌝ }
 {
     match kind {
@@ -29,7 +29,7 @@ pub fn expected(kind: Kind) -> u16
 }
 
 // 26 where the current command lacks parameters.
-pub fn report_missing(journal: Journal, log: &mut [u8], current: Current, time: u64) -> Journal
+fn report_missing(journal: Journal, log: &mut [u8], current: Current, time: u64) -> Journal
     requires { ⌜ length (now log) ≡ 16384 ⌝ }
     ensures { λ r. ⌜ entries r (now (log .exit)) ≡ missing time (entries journal (now (log .entry))) current ⌝ }
 {

@@ -10,7 +10,6 @@ use Rattle.panel.specs.Finish.{Glass, finished}
 use Rattle.device.specs.declared.Ssd1677.{Ssd1677}
 use Rattle.device.specs.declared.Bus.{Bus}
 use Rattle.device.specs.declared.Deadline.{Deadline}
-use Rattle.device.specs.declared.Deadline.the-variants.{Never, At}
 use Rattle.device.specs.Parts.{withNow, withBus}
 use Rattle.device.specs.Parts as part
 use Rattle.world.specs.World.{WithGlass, withGlass}
@@ -21,7 +20,7 @@ module _ (luts : List ℕ) (g : WithGlass) where
   pub ends : (after : Glass) (off : Display) (r : Ssd1677) → isOver (g .device) ≡ true
       → after ≡ finished (endingOf (g .device) (g .device .display .ends) Whole) luts (glassOf g)
       → off ≡ stopped (g .device .display) → r ≡ part.withPanelAndDisplay (g .device) (after .panel) off
-      → withGlass r (after .states) (after .pixels) ≡ ended luts g
+      → withGlass r (after .states) (after .picture) ≡ ended luts g
   unfolding ended
   ends after off r h e f k = rw (h, ← e, k, f)
 
@@ -45,7 +44,7 @@ settled g h = rw (still (g .device .bus .«busy_until») (g .device .bus) (g .de
 module _ (luts : List ℕ) (time : ℕ) (g : WithGlass) where
   -- a state that the clock's move leaves quiet is moved
   pub rests : (m : Ssd1677) (q : Bool) → m ≡ withNow (g .device) (max (g .device .now) time) → q ≡ isQuiet m → q ≡ true
-      → withGlass m (g .states) (g .pixels) ≡ advanced luts time g
+      → withGlass m (g .states) (g .picture) ≡ advanced luts time g
   unfolding advanced
   rests m q e f h =
       let k = clocked time g in
@@ -53,8 +52,8 @@ module _ (luts : List ℕ) (time : ℕ) (g : WithGlass) where
       rw e (sym (settled k (n .1)) ∙ ap (λ (x : WithGlass). quieted x) (ends-not luts k (n .0)))
 
   pub advances : (a : Ssd1677) (b : WithGlass) (bus : Bus) (r : Ssd1677) → a ≡ withNow (g .device) (max (g .device .now) time)
-      → b ≡ ended luts (withGlass a (g .states) (g .pixels)) → bus ≡ lowered (b .device .bus .«busy_until») (b .device .bus) (b .device .now)
-      → r ≡ withBus (b .device) bus → withGlass r (b .states) (b .pixels) ≡ advanced luts time g
+      → b ≡ ended luts (withGlass a (g .states) (g .picture)) → bus ≡ lowered (b .device .bus .«busy_until») (b .device .bus) (b .device .now)
+      → r ≡ withBus (b .device) bus → withGlass r (b .states) (b .picture) ≡ advanced luts time g
   unfolding advanced
   advances a b bus r e₁ e₂ e₃ e₄ = rw (e₄, e₃, e₂, e₁)
 

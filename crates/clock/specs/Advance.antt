@@ -15,9 +15,9 @@ use Rattle.device.specs.Parts as part
 use Rattle.world.specs.World.{WithGlass, withGlass}
 use Rattle.moment.specs.Moments.{lowered, quietAt}
 
--- what finishing a display asks of the state and its buffers; 13 and 11 refuse all else
-abbrev pub Ready : Ssd1677 → List ℤ → List ℕ → List ℕ → Type 0
-Ready d states luts pixels = Finishable (d .config .timing .«frame_period») (d .panel .swing) states luts pixels
+-- what finishing a display asks of the state and its buffers; 13, 11 and 15 refuse all else
+abbrev pub Ready : Ssd1677 → List ℤ → List ℕ → List ℕ → List ℕ → Type 0
+Ready d states luts pixels counts = Finishable (d .config .timing .«frame_period») (d .panel .swing) states luts pixels counts
 
 -- a display that no longer runs
 abbrev pub stopped : Display → Display
@@ -29,11 +29,11 @@ endingOf d at until = ending (d .display) (d .config .optics .«positive_drives_
 
 -- the glass as the state has it
 abbrev pub glassOf : WithGlass → Glass
-glassOf g = glass (g .device .panel) (g .states) (g .pixels)
+glassOf g = glass (g .device .panel) (g .states) (g .picture)
 
 -- the glass that a display left, and the display stopped
 abbrev pub glassPublished : WithGlass → Glass → WithGlass
-glassPublished g after = withGlass (part.withPanelAndDisplay (g .device) (after .panel) (stopped (g .device .display))) (after .states) (after .pixels)
+glassPublished g after = withGlass (part.withPanelAndDisplay (g .device) (after .panel) (stopped (g .device .display))) (after .states) (after .picture)
 
 -- the display runs and the clock has reached its end
 abbrev pub isOver : Ssd1677 → Bool
@@ -52,11 +52,11 @@ ended luts g =
 
 -- BUSY, at the clock
 abbrev pub quieted : WithGlass → WithGlass
-quieted g = withGlass (withBus (g .device) (lowered (g .device .bus .«busy_until») (g .device .bus) (g .device .now))) (g .states) (g .pixels)
+quieted g = withGlass (withBus (g .device) (lowered (g .device .bus .«busy_until») (g .device .bus) (g .device .now))) (g .states) (g .picture)
 
 -- the later of the clock and a time
 abbrev pub clocked : ℕ → WithGlass → WithGlass
-clocked time g = withGlass (withNow (g .device) (max (g .device .now) time)) (g .states) (g .pixels)
+clocked time g = withGlass (withNow (g .device) (max (g .device .now) time)) (g .states) (g .picture)
 
 -- the clock moves, a display whose end has come is finished, and BUSY falls when its time has come
 unfoldable pub advanced : List ℕ → ℕ → WithGlass → WithGlass

@@ -1,6 +1,7 @@
 // What happens when the clock moves (mod.rs, `advance`).
 ghost use mathlib.Core.Path.{_≡_};
 ghost use Prim.Native.Nat.{max};
+ghost use Rattle.counts.specs.Counts.{picture};
 ghost use Rattle.device.specs.Parts.{withNow};
 ghost use Rattle.world.specs.World.{withGlass};
 ghost use Rattle.clock.specs.Advance.{Ready, stopped, ended, isQuiet, advanced};
@@ -19,9 +20,15 @@ pub fn stop(display: Display) -> Display
 }
 
 // A display whose end has come is finished whole, and its image published.
-pub fn end_display(state: Ssd1677, states: &mut [i64], luts: &[u8], pixels: &mut [u8]) -> Ssd1677
-    requires { ⌜ Ready state (now states) (now luts) (now pixels) ⌝ }
-    ensures { λ r. ⌜ withGlass r (now (states .exit)) (now (pixels .exit)) ≡ ended (now (luts .entry)) (withGlass state (now (states .entry)) (now (pixels .entry))) ⌝ }
+fn end_display(
+    state: Ssd1677,
+    states: &mut [i64],
+    luts: &[u8],
+    pixels: &mut [u8],
+    counts: &mut [u32],
+) -> Ssd1677
+    requires { ⌜ Ready state (now states) (now luts) (now pixels) (now counts) ⌝ }
+    ensures { λ r. ⌜ withGlass r (now (states .exit)) (picture (now (pixels .exit)) (now (counts .exit))) ≡ ended (now (luts .entry)) (withGlass state (now (states .entry)) (picture (now (pixels .entry)) (now (counts .entry)))) ⌝ }
 {
     let display = state.display;
     if display.running & (display.ends <= state.now) {
@@ -40,6 +47,7 @@ pub fn end_display(state: Ssd1677, states: &mut [i64], luts: &[u8], pixels: &mut
             &mut states[..],
             luts,
             &mut pixels[..],
+            &mut counts[..],
         );
         let off = stop(display);
         return part::set_glass(state, finished, off);
@@ -72,16 +80,23 @@ pub fn advance(
     states: &mut [i64],
     luts: &[u8],
     pixels: &mut [u8],
+    counts: &mut [u32],
     time: u64,
 ) -> Ssd1677
-    requires { ⌜ Ready state (now states) (now luts) (now pixels) ⌝ }
-    ensures { λ r. ⌜ withGlass r (now (states .exit)) (now (pixels .exit)) ≡ advanced (now (luts .entry)) time (withGlass state (now (states .entry)) (now (pixels .entry))) ⌝ }
+    requires { ⌜ Ready state (now states) (now luts) (now pixels) (now counts) ⌝ }
+    ensures { λ r. ⌜ withGlass r (now (states .exit)) (picture (now (pixels .exit)) (now (counts .exit))) ≡ advanced (now (luts .entry)) time (withGlass state (now (states .entry)) (picture (now (pixels .entry)) (now (counts .entry)))) ⌝ }
 {
     let moved = move_clock(state, time);
     if is_quiet(moved) {
         return moved;
     }
-    let shown = end_display(moved, &mut states[..], luts, &mut pixels[..]);
+    let shown = end_display(
+        moved,
+        &mut states[..],
+        luts,
+        &mut pixels[..],
+        &mut counts[..],
+    );
     let bus = moment::lower_busy(shown.bus, shown.now);
     part::set_bus(shown, bus)
 }

@@ -1,18 +1,18 @@
 -- A column without its units: how a column and what stands left of its units grow to the right, byte by byte. Assumes nothing.
 --     front w n       w places of n, as a column has them but for the units' digit that is always there: 0 is blanks alone
 use mathlib.Core.Path.{_≡_, refl, sym, ap, _∙_}
-use mathlib.Core.Bool.{Bool, true, false, _&&_, _||_}
+use mathlib.Core.Bool.{Bool, true, false, _||_}
 use mathlib.Core.List.{List, [], _∷_, _++_}
-use Prim.Native.Nat.{ℕ, zero, suc, _+_, _-_, _*_, _/_, _%_, _^_, _<_, _≤_}
+use Prim.Native.Nat.{ℕ, zero, suc, _+_, _-_, _*_, _/_, _%_, _^_, _<_}
 use native.Mathlib.Nat.{div-div-eq-div-mul, div-one, pow-suc, pow-succ'}
 use native.Mathlib.Omega.{arith}
-use lib.Dec.{leb, eqb, eqb·suc-zero}
+use lib.Dec.{leb, eqb·suc-zero}
 use lib.ListN.{length}
 use borrow.Author.Tests.{leb-true, leb-false, le-leb, lt-leb}
 use Rattle.numbers.specs.Choice.{pick}
 use Rattle.numbers.specs.Lists.{tab}
 use Rattle.numbers.proofs.Painted.{length-tab, tab-ext}
-use Rattle.column.specs.Columns.{hasDigit, symbolAt, columnOf, natural}
+use Rattle.column.specs.Columns.{symbolAt, columnOf, natural}
 
 abbrev frontAt : ℕ → ℕ → ℕ
 frontAt n k = pick (leb (10 ^ k) n) (48 + n / 10 ^ k % 10) 32

@@ -1,14 +1,11 @@
 -- Tests taken one after the other, and lists of tests: what the first that refuses decides. Assumes nothing.
-use mathlib.Core.Path.{_≡_, refl, sym, ap, _∙_}
+use mathlib.Core.Path.{_≡_, sym, ap, _∙_}
 use mathlib.Core.Bool.{Bool, true, false}
 use mathlib.Core.List.{List, [], _∷_, _++_}
 use Prim.Native.Nat.{ℕ}
-use lib.Dec.{eqb}
 use native.Mathlib.Omega.{arith}
 use Rattle.numbers.specs.Choice.{pick}
-use Rattle.config.specs.declared.ConfigError.{ConfigError}
-use Rattle.config.specs.declared.ConfigError.the-variants.{Accepted, EmptyPanel, PanelOutsideRam, OddRowsWithGd, ZeroSwing, ZeroFramePeriod, ZeroFrequency, BadTable, OtpVoltage}
-use Rattle.config.specs.Answer.{Answer, accepted, refused, isAccepted, Test, firstOf, answerOf}
+use Rattle.config.specs.Answer.{Answer, accepted, refused, isAccepted, Test, firstOf}
 
 -- the first test refuses, or lets pass
 module _ (t : Test) (ts : List Test) where
@@ -46,30 +43,3 @@ goes-on (t ∷ a) b x y e h f = by (t .refuses) e (λ g. goes-on a b x y g h f)
     by : (r : Bool) → x ≡ pick r (refused (t .number) (t .value)) (firstOf a) → (x ≡ firstOf a → y ≡ firstOf (a ++ b)) → y ≡ pick r (refused (t .number) (t .value)) (firstOf (a ++ b))
     by true g more = absurd (no (sym (ap isAccepted g) ∙ h))
     by false g more = more g
-
--- ---- an answer stands for one case only
-coded : ℕ → ℕ → ConfigError
-coded n v =
-    pick (eqb n 1) EmptyPanel
-    (pick (eqb n 2) PanelOutsideRam
-    (pick (eqb n 3) OddRowsWithGd
-    (pick (eqb n 4) ZeroSwing (pick (eqb n 5) (ZeroFramePeriod v) (pick (eqb n 6) (OtpVoltage v) (pick (eqb n 14) ZeroFrequency BadTable))))))
-
-errorOf : Answer → ConfigError
-errorOf accepted = Accepted
-errorOf (refused n v) = coded n v
-
-error-of-answer : (e : ConfigError) → errorOf (answerOf e) ≡ e
-unfolding answerOf errorOf coded
-error-of-answer Accepted = refl
-error-of-answer EmptyPanel = refl
-error-of-answer PanelOutsideRam = refl
-error-of-answer OddRowsWithGd = refl
-error-of-answer ZeroSwing = refl
-error-of-answer (ZeroFramePeriod code) = refl
-error-of-answer ZeroFrequency = refl
-error-of-answer BadTable = refl
-error-of-answer (OtpVoltage index) = refl
-
-pub same-error : (a b : ConfigError) → answerOf a ≡ answerOf b → a ≡ b
-same-error a b e = sym (error-of-answer a) ∙ ap errorOf e ∙ error-of-answer b

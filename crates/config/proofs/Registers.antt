@@ -1,5 +1,5 @@
--- Registers and sixteenths of a degree: what stands for what, the range, and that each undoes the other. Assumes nothing.
-use mathlib.Core.Path.{_≡_, refl, sym, ap, _∙_}
+-- Registers and sixteenths of a degree: what stands for what, and the range. Assumes nothing.
+use mathlib.Core.Path.{_≡_, refl, ap, _∙_}
 use mathlib.Core.Bool.{Bool, true, false}
 use Prim.Native.Nat.{ℕ, _+_, _-_, _%_, _≤_, _<_}
 use native.Mathlib.Omega.{arith}
@@ -52,25 +52,6 @@ ranged r = by (ltb (r % 4096) 2048) refl
         let h = ltb-false (r % 4096) 2048 e in
         let s = high-below r h in
         record { bottom = omega (arith, ap down s); top = omega (arith, ap up s) }
-
--- a register's temperature has the register's low twelve bits
-pub register-of-sixteenths : (r : ℕ) → registerOf (sixteenthsOf r) ≡ r % 4096
-unfolding registerOf
-register-of-sixteenths r = by (ltb (r % 4096) 2048) refl
-  where
-    by : (t : Bool) → ltb (r % 4096) 2048 ≡ t → registerOf (sixteenthsOf r) ≡ r % 4096
-    by true e = rw (← low-half r (ltb-true (r % 4096) 2048 e)) (omega arith)
-    by false e = let h = ltb-false (r % 4096) 2048 e in rw (← high-below r h) (omega arith)
-
--- a temperature of the format is its register's
-pub sixteenths-of-register : (z : ℤ) → up z ≤ 2047 → down z ≤ 2048 → sixteenthsOf (registerOf z) ≡ z
-unfolding registerOf
-sixteenths-of-register (pos n) h k =
-    let e : n % 4096 % 4096 ≡ n = omega arith in
-    sym (low-half (n % 4096) (omega arith)) ∙ ap pos e
-sixteenths-of-register (negsuc n) h k =
-    let e : 4095 - (4095 - n % 4096) % 4096 ≡ n = omega arith in
-    sym (high-below (4095 - n % 4096) (omega arith)) ∙ ap negsuc e
 
 -- every register but 800h stands for a temperature above the coldest
 pub above-coldest : (r : ℕ) → (r % 4096 ≡ 0x800 → ⊥) → Lt (negsuc 2047) (sixteenthsOf r)

@@ -289,7 +289,7 @@ pub fn periods_error(periods: [u64; 16]) -> ConfigError
     ConfigError::Accepted
 }
 
-pub fn frequency_error(frequency: u32) -> ConfigError
+fn frequency_error(frequency: u32) -> ConfigError
     ensures { λ r. ⌜ answerOf r ≡ firstOf (frequencyTest frequency ∷ []) ⌝ }
 {
     if frequency == 0 {

@@ -1,7 +1,6 @@
 -- A data byte, once the clock has moved (mod.rs, `write_data` and `write_ram`).
 use Prim.Native.Nat.{ℕ, _+_, min}
-use mathlib.Core.Bool.{Bool, true, false, _||_, not}
-use mathlib.Core.List.{List}
+use mathlib.Core.Bool.{Bool, true}
 use lib.Dec.{eqb, ltb}
 use Rattle.numbers.specs.Choice.{pick}
 use Rattle.numbers.specs.Saturation.{largest}

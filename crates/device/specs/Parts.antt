@@ -199,8 +199,8 @@ abbrev pub withUntil : Bus → Deadline → Bus
 withUntil b new = record { power = b .power; current = b .current; «busy_until» = new }
 
 -- what the stages of an activation load into the registers
-abbrev pub withLoaded : Registers → ℕ → List ℕ → Registers
-withLoaded r newTemperature newLut =
+abbrev pub withLoaded : Registers → ℕ → List ℕ → ℕ → Registers
+withLoaded r newTemperature newLut newWaveform =
     record {
       mux = r .mux;
       «gate_scan» = r .«gate_scan»;
@@ -217,6 +217,7 @@ withLoaded r newTemperature newLut =
       «user_id» = r .«user_id»;
       border = r .border;
       «read_ram_red» = r .«read_ram_red»;
+      waveform = newWaveform;
     }
 
 -- another address counter
@@ -238,6 +239,7 @@ withCounter r newCounter =
       «user_id» = r .«user_id»;
       border = r .border;
       «read_ram_red» = r .«read_ram_red»;
+      waveform = r .waveform;
     }
 
 -- what a byte of RAM data changes: the address counter and the bus

@@ -53,6 +53,8 @@ pub struct Registers {
     pub user_id: [u8; 10],
     pub border: u8,
     pub read_ram_red: bool,
+    // The OTP entry of the last waveform loaded, 255 for none (#108).
+    pub waveform: u8,
 }
 
 // The supply and reset state of the chip.

@@ -164,12 +164,13 @@ pub fn set_until(bus: Bus, busy_until: Deadline) -> Bus
 }
 
 // What the stages of an activation load into the registers.
-pub fn set_loaded(regs: Registers, temperature: u16, lut: [u8; 112]) -> Registers
-    ensures { λ r. ⌜ r ≡ withLoaded regs temperature lut ⌝ }
+pub fn set_loaded(regs: Registers, temperature: u16, lut: [u8; 112], waveform: u8) -> Registers
+    ensures { λ r. ⌜ r ≡ withLoaded regs temperature lut waveform ⌝ }
 {
     let mut loaded = regs;
     loaded.temperature = temperature;
     loaded.lut = lut;
+    loaded.waveform = waveform;
     loaded
 }
 

@@ -1,6 +1,6 @@
 -- The log of diagnostics: 1,024 records of 16 bytes, and what a report makes of it (SCOPE, Log; mod.rs, `report` and `reserved`).
 use Prim.Native.Nat.{ℕ, _+_, _*_, min}
-use mathlib.Core.Bool.{Bool, true, false}
+use mathlib.Core.Bool.{true}
 use mathlib.Core.List.{List, _++_}
 use lib.Dec.{ltb}
 use lib.ListN.{take, drop}

@@ -23,7 +23,7 @@ pub enum DiagnosticKind {
     ReservedCommand {
         command: u8,
     },
-    // A command of the datasheet whose effect the model does not carry out; its data are accepted.
+    // A command of the datasheet whose effect the model does not carry out; its data are ignored.
     UnsupportedCommand {
         command: u8,
     },

@@ -35,7 +35,7 @@ fn of(number: u8, a: u8, b: u16, c: u16) -> Fields
     Fields { number, a, b, c }
 }
 
-pub fn fields(kind: DiagnosticKind) -> Fields
+fn fields(kind: DiagnosticKind) -> Fields
     ensures { λ r. ⌜ r ≡ fieldsOf kind ⌝ }
 {
     match kind {

@@ -2,6 +2,7 @@
 ghost use mathlib.Core.Path.{_≡_};
 ghost use Rattle.guard.specs.Refusals.{refusalNumber};
 ghost use Rattle.query.specs.Outcome.{outcome};
+ghost use Rattle.counts.specs.Counts.{picture};
 ghost use Rattle.world.specs.World.{world};
 ghost use Rattle.dispatch.specs.Dispatch.{told, silent, dispatched};
 use device::Ssd1677;
@@ -29,6 +30,7 @@ pub fn dispatch(
     states: &mut [i64],
     luts: &mut [u8],
     pixels: &mut [u8],
+    counts: &mut [u32],
     black_white: &mut [u8],
     red: &mut [u8],
     gates: &[u16],
@@ -36,7 +38,7 @@ pub fn dispatch(
     otp: &[u8],
     event: Event,
 ) -> ReadAnswer
-    ensures { λ r. ⌜ outcome (refusalNumber (r .refusal)) (told (world (r .state) (now (states .exit)) (now (luts .exit)) (now (pixels .exit)) (now («black_white» .exit)) (now (red .exit)) (now (gates .entry)) (now (log .exit))) (r .byte)) ≡ dispatched (now (otp .entry)) (world state (now (states .entry)) (now (luts .entry)) (now (pixels .entry)) (now («black_white» .entry)) (now (red .entry)) (now (gates .entry)) (now (log .entry))) event ⌝ }
+    ensures { λ r. ⌜ outcome (refusalNumber (r .refusal)) (told (world (r .state) (now (states .exit)) (now (luts .exit)) (picture (now (pixels .exit)) (now (counts .exit))) (now («black_white» .exit)) (now (red .exit)) (now (gates .entry)) (now (log .exit))) (r .byte)) ≡ dispatched (now (otp .entry)) (world state (now (states .entry)) (now (luts .entry)) (picture (now (pixels .entry)) (now (counts .entry))) (now («black_white» .entry)) (now (red .entry)) (now (gates .entry)) (now (log .entry))) event ⌝ }
 {
     match event {
         Event::Command(time, command) => silent(ssd1677::write_command(
@@ -44,6 +46,7 @@ pub fn dispatch(
             states,
             luts,
             pixels,
+            counts,
             black_white,
             red,
             gates,
@@ -57,6 +60,7 @@ pub fn dispatch(
             states,
             luts,
             pixels,
+            counts,
             black_white,
             red,
             log,
@@ -64,17 +68,28 @@ pub fn dispatch(
             byte,
         )),
         Event::Read(time) => {
-            ssd1677::read_data(state, states, luts, pixels, black_white, red, log, time)
+            ssd1677::read_data(
+                state,
+                states,
+                luts,
+                pixels,
+                counts,
+                black_white,
+                red,
+                log,
+                time,
+            )
         }
         Event::Reset(time, asserted) => silent(ssd1677::set_reset(
             state,
             states,
             luts,
             pixels,
+            counts,
             log,
             time,
             asserted,
         )),
-        Event::Advance(time) => silent(ssd1677::advance(state, states, luts, pixels, time)),
+        Event::Advance(time) => silent(ssd1677::advance(state, states, luts, pixels, counts, time)),
     }
 }

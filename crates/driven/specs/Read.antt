@@ -32,5 +32,5 @@ unfoldable pub dataRead : List ℕ → List ℕ → List ℕ → ℕ → WithGla
 dataRead luts blackWhite red time w =
     unless
     (guarded (w .device)
-    (planesLogLent (length (w .states)) (length luts) (length (w .pixels)) (length (w .log)) (length blackWhite) (length red)))
+    (planesLogLent (length (w .states)) (length luts) (length (w .picture .pixels)) (length (w .picture .counts)) (length (w .log)) (length blackWhite) (length red)))
     (withRead w Nothing) (readIn luts blackWhite red time w)

@@ -9,6 +9,7 @@ pub mod refresh;
 ghost use mathlib.Core.Path.{_≡_};
 ghost use lib.IntN.{pos};
 ghost use lib.Signed.{_≤ℤ_};
+ghost use Rattle.counts.specs.Counts.{picture};
 ghost use Rattle.panel.specs.Finish.{Finishable, glass, ending, wasCut, published, finished};
 
 // A hardware reset cut the display short.
@@ -46,7 +47,7 @@ fn publish(panel: Panel, display: Display, at: u64, until: Until) -> Panel
     published
 }
 
-// Applies the display, whole or up to a cut, to the glass, and publishes the image, dated `at`.
+// Applies the display, whole or up to a cut, to the glass, counts its greys, and publishes the image, dated `at`.
 pub fn finish(
     panel: Panel,
     display: Display,
@@ -57,12 +58,20 @@ pub fn finish(
     states: &mut [i64],
     luts: &[u8],
     pixels: &mut [u8],
+    counts: &mut [u32],
 ) -> Panel
-    requires { ⌜ Finishable «frame_period» (panel .swing) (now states) (now luts) (now pixels) ⌝ }
-    ensures { λ r. ⌜ glass r (now (states .exit)) (now (pixels .exit)) ≡ finished (ending display «positive_drives_black» «frame_period» at until) (now (luts .entry)) (glass panel (now (states .entry)) (now (pixels .entry))) ⌝ }
+    requires { ⌜ Finishable «frame_period» (panel .swing) (now states) (now luts) (now pixels) (now counts) ⌝ }
+    ensures { λ r. ⌜ glass r (now (states .exit)) (picture (now (pixels .exit)) (now (counts .exit))) ≡ finished (ending display «positive_drives_black» «frame_period» at until) (now (luts .entry)) (glass panel (now (states .entry)) (picture (now (pixels .entry)) (now (counts .entry)))) ⌝ }
 {
-    let refresh = refresh::refresh_of(panel, display, positive_drives_black, frame_period, until);
+    let refresh = refresh::display_drive(
+        panel,
+        display,
+        positive_drives_black,
+        frame_period,
+        until,
+    );
     refresh::repaint(refresh, luts, &mut states[..], &mut pixels[..]);
+    counts::count(&pixels[..], &mut counts[..]);
     let moved = refresh::drive_border(refresh, display.border, panel);
     publish(moved, display, at, until)
 }

@@ -14,13 +14,13 @@ ghost use lib.Signed.{_≤ℤ_};
 ghost use Rattle.waveform.specs.Walks.{Walkable};
 ghost use Rattle.combine.specs.Settled.{Alike};
 ghost use Rattle.panel.specs.Border.{borderDrive};
-ghost use Rattle.panel.specs.Pixels.{stateBy, statesBy, grays};
+ghost use Rattle.panel.specs.Pixels.{statesBy, grays};
 ghost use Rattle.panel.specs.Finish.{borderBy, withBorder};
-ghost use Rattle.finish.specs.Refresh.{FourAlike, Refreshable, Repaintable, refreshOf, waveformIn, transferIn, inTable};
+ghost use Rattle.finish.specs.Refresh.{FourAlike, Refreshable, Repaintable, displayDrive, waveformIn, transferIn, inTable};
 ghost use Rattle.finish.specs.Moves.{Movable, MovesOf};
 
 // What the transfers of a display are made from.
-pub struct Refresh {
+pub struct DisplayDrive {
     pub setting: [u8; 112],
     pub frame_period: [u64; 16],
     pub swing: i64,
@@ -29,17 +29,17 @@ pub struct Refresh {
 }
 
 // The display's 112 setting bytes, with the frame period of each frame-rate code.
-pub(crate) fn refresh_of(
+pub(crate) fn display_drive(
     panel: Panel,
     display: Display,
     positive_drives_black: bool,
     frame_period: [u64; 16],
     until: Until,
-) -> Refresh
-    ensures { λ r. ⌜ r ≡ refreshOf (display .setting) «frame_period» (panel .swing) «positive_drives_black» until ⌝ }
+) -> DisplayDrive
+    ensures { λ r. ⌜ r ≡ displayDrive (display .setting) «frame_period» (panel .swing) «positive_drives_black» until ⌝ }
 {
     let setting = display.setting;
-    Refresh {
+    DisplayDrive {
         setting,
         frame_period,
         swing: panel.swing,
@@ -48,7 +48,7 @@ pub(crate) fn refresh_of(
     }
 }
 
-fn transfer(refresh: Refresh, drive: Drive) -> Transfer
+fn transfer(refresh: DisplayDrive, drive: Drive) -> Transfer
     requires { ⌜ Walkable (waveformIn refresh) drive × (pos 1 ≤ℤ refresh .swing) ⌝ }
     ensures { λ r. ⌜ Alike r (transferIn refresh drive) ⌝ }
     ensures { λ r. ⌜ pos 0 ≤ℤ r .hi ⌝ }
@@ -67,7 +67,7 @@ fn transfer(refresh: Refresh, drive: Drive) -> Transfer
 }
 
 // Those of LUTs 0 to 3.
-fn transfers(refresh: Refresh) -> [Transfer; 4]
+fn transfers(refresh: DisplayDrive) -> [Transfer; 4]
     requires { ⌜ Refreshable refresh ⌝ }
     ensures { λ r. ⌜ FourAlike refresh r ⌝ }
     ensures { λ r. ⌜ Movable r ⌝ }
@@ -111,7 +111,7 @@ fn place(lut: u8) -> usize
 
 // One pass: each driven state moved, and every pixel the grey of its state.
 fn paint(
-    refresh: Refresh,
+    refresh: DisplayDrive,
     transfers: [Transfer; 4],
     luts: &[u8],
     states: &mut [i64],
@@ -138,7 +138,7 @@ fn paint(
 }
 
 // All pixels, by transfers made once.
-pub(crate) fn repaint(refresh: Refresh, luts: &[u8], states: &mut [i64], pixels: &mut [u8])
+pub(crate) fn repaint(refresh: DisplayDrive, luts: &[u8], states: &mut [i64], pixels: &mut [u8])
     requires { ⌜ Repaintable refresh (now luts) (now states) (now pixels) ⌝ }
     ensures { λ _. ⌜ now (states .exit) ≡ statesBy (λ lut. transferIn refresh (Drive.Lut lut)) (now (luts .entry)) (now (states .entry)) ⌝ }
     ensures { λ _. ⌜ now (pixels .exit) ≡ grays (refresh .swing) (statesBy (λ lut. transferIn refresh (Drive.Lut lut)) (now (luts .entry)) (now (states .entry))) ⌝ }
@@ -148,7 +148,7 @@ pub(crate) fn repaint(refresh: Refresh, luts: &[u8], states: &mut [i64], pixels:
 }
 
 // The border, driven or left.
-pub(crate) fn drive_border(refresh: Refresh, border: u8, panel: Panel) -> Panel
+pub(crate) fn drive_border(refresh: DisplayDrive, border: u8, panel: Panel) -> Panel
     requires { ⌜ Refreshable refresh ⌝ }
     ensures { λ r. ⌜ r ≡ withBorder panel (borderBy (transferIn refresh) (borderDrive border) (panel .border)) ⌝ }
 {

@@ -1,4 +1,4 @@
--- Laws of `levelZ` and `grayZ`: their values at a state below, above and within the swing, and that a level is a state.
+-- Laws of `levelZ` and `grayZ`: their values at a state below, above and within the swing.
 -- Assumes nothing.
 use mathlib.Core.Path.{_≡_, refl, sym, ap, _∙_}
 use mathlib.Core.Bool.{true}
@@ -8,9 +8,9 @@ use native.Mathlib.Nat.{div-eq-of-lt, le-div-iff-mul-le, zero-div}
 use lib.IntN.{ℤ, pos, negsuc, natAbs, _+ℤ_, _*ℤ_}
 use lib.Signed.{leZ, quotZ, _≤ℤ_}
 use Rattle.glass.specs.Greys.{levelZ, grayZ}
-use Rattle.numbers.proofs.Lin.{Le, up, down, whole, add-out, scale-up, scale-down, quot-up, quot-down, up-le, down-le}
+use Rattle.numbers.proofs.Lin.{up, down, whole, add-out, scale-up, scale-down, quot-up, quot-down, up-le, down-le}
 use Rattle.numbers.proofs.Hold.{clamp-low', clamp-high', clamp-mid}
-use Rattle.numbers.proofs.Quot.{gray-lt, level-le}
+use Rattle.numbers.proofs.Quot.{gray-lt}
 
 pub level-is : (g n : ℕ) → pos (n * g / 255) ≡ levelZ g (pos n)
 unfolding levelZ
@@ -45,14 +45,3 @@ gray-high x (negsuc n) h e = absurd (h .le)
 pub gray-mid : (a n : ℕ) → a < n → (510 * a + n) / (2 * n) ≡ grayZ (pos a) (pos n)
 unfolding grayZ
 gray-mid a n h = sym (ap natAbs (clamp-mid (pos ((510 * a + n) / (2 * n))) (pos 0) (pos 255) (omega arith) (omega (arith, gray-lt a n h))))
-
--- a level is a state of the panel
-pub level-low : (g : ℕ) (s : ℤ) → pos 1 ≤ℤ s → Le (pos 0) (levelZ g s)
-unfolding levelZ
-level-low g (pos n) h = omega arith
-level-low g (negsuc n) h = absurd (h .le)
-
-pub level-high : (g : ℕ) (s : ℤ) → g ≤ 255 → pos 1 ≤ℤ s → Le (levelZ g s) s
-unfolding levelZ
-level-high g (pos n) k h = omega (arith, level-le n g k)
-level-high g (negsuc n) k h = absurd (h .le)

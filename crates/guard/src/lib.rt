@@ -13,6 +13,8 @@ pub enum Refusal {
     Table,
     // 13: the state.
     State,
+    // 15: the table of counts.
+    Counts,
 }
 
 pub fn is_accepted(refusal: Refusal) -> bool
@@ -23,6 +25,7 @@ pub fn is_accepted(refusal: Refusal) -> bool
         Refusal::Buffer => false,
         Refusal::Table => false,
         Refusal::State => false,
+        Refusal::Counts => false,
     }
 }
 
@@ -35,6 +38,7 @@ pub fn number(refusal: Refusal) -> u8
         Refusal::Buffer => 11,
         Refusal::Table => 12,
         Refusal::State => 13,
+        Refusal::Counts => 15,
     }
 }
 
@@ -45,11 +49,15 @@ pub fn check(state: Ssd1677, lengths: Lengths) -> Refusal
     let config = state.config;
     let fine = guard_state::state_is_fine(state);
     let fit = guard_lengths::lengths_fit(config.panel, lengths);
+    let counted = guard_lengths::counts_fit(lengths);
     if !fine {
         return Refusal::State;
     }
     if !fit {
         return Refusal::Buffer;
+    }
+    if !counted {
+        return Refusal::Counts;
     }
     Refusal::Accepted
 }

@@ -1,10 +1,8 @@
 -- Two kinds whose numbers agree are equal, and what that says of an active command. Assumes nothing.
-use Prim.Native.Nat.{ℕ}
 use mathlib.Core.Path.{_≡_, refl, sym, ap, _∙_}
 use mathlib.Core.Bool.{Bool, true, false, _&&_}
 use lib.Dec.{eqb}
 use borrow.Author.Tests.{eqb-true, eq-eqb}
-use native.Mathlib.Omega.{arith}
 use Rattle.numbers.specs.Choice.{pick}
 use Rattle.numbers.proofs.Cases.{left, right}
 use Rattle.device.specs.declared.Kind.{Kind}
@@ -69,18 +67,7 @@ pub same-as-itself : (k : Kind) → sameKind k k ≡ true
 unfolding sameKind
 same-as-itself k = agrees (codeOf k)
 
-no : false ≡ true → ⊥
-no e = let z : _≡_ {A = ℕ} 0 1 = cc in omega arith
-
-given-kind : (known : Known) (k : Kind) → gives known k ≡ true → known ≡ Of k
-given-kind (Of x) k e = ap Of (same-is-equal x k e)
-given-kind Unknown k e = absurd (no e)
-
--- an active command that 13 lets pass has the kind that `kind` gives it, and one that has it passes
-pub active-kind : (a : the.Active) → currentFine (Active a) ≡ true → kindOf (a .command) ≡ Of (a .kind)
-unfolding currentFine
-active-kind a e = given-kind (kindOf (a .command)) (a .kind) e
-
+-- an active command that has the kind that `kind` gives it passes 13
 pub active-fine : (a : the.Active) → kindOf (a .command) ≡ Of (a .kind) → currentFine (Active a) ≡ true
 unfolding currentFine
 active-fine a e = ap (λ (x : Known). gives x (a .kind)) e ∙ same-as-itself (a .kind)

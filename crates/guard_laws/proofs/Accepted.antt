@@ -19,14 +19,14 @@ use Rattle.otp.specs.Table.{badTable}
 use Rattle.device.specs.declared.Registers.{Registers}
 use Rattle.device.specs.declared.Ssd1677.{Ssd1677}
 use Rattle.registers.proofs.Bounds.{Bounded}
-use Rattle.guard_lengths.specs.declared.Lent.{Lent}
-use Rattle.guard_lengths.specs.declared.Lent.the-variants.{Of}
+use Rattle.guard_lengths.specs.declared.LentLength.{LentLength}
+use Rattle.guard_lengths.specs.declared.LentLength.the-variants.{Of}
 use Rattle.guard_lengths.specs.declared.Lengths.{Lengths}
 use Rattle.guard.specs.declared.Refusal.{Refusal}
-use Rattle.guard.specs.declared.Refusal.the-variants.{Accepted, Buffer, Table, State}
+use Rattle.guard.specs.declared.Refusal.the-variants.{Accepted, Buffer, Table, State, Counts}
 use Rattle.guard_kinds.specs.Kinds.{currentFine}
 use Rattle.guard_state.specs.State.{panelFine, swingFine, periodsFine, registersFine, countFine, frequencyFine, stateFine}
-use Rattle.guard_lengths.specs.Lengths.{planeBytes, logBytes, pixelsOf, fits, lengthsFit}
+use Rattle.guard_lengths.specs.Lengths.{planeBytes, logBytes, pixelsOf, fits, lengthsFit, countsFit}
 use Rattle.guard.specs.Refusals.{accepts, guarded, guardedWithTable}
 use Rattle.guard_laws.proofs.Joined.{each}
 use Rattle.guard_state.proofs.Periods.{none-of, each-above-zero}
@@ -38,38 +38,50 @@ never e = let z : _≡_ {A = ℕ} 0 1 = cc in omega arith
 not-accepted : (r : Refusal) → accepts r ≡ false → r ≡ Accepted → ⊥
 not-accepted r h e = never (sym h ∙ ap accepts e)
 
-two : (a b : Bool) → pick (not a) State (pick (not b) Buffer Accepted) ≡ Accepted → (a ≡ true) × (b ≡ true)
-two true true e = (refl, refl)
-two true false e = absurd (not-accepted Buffer refl e)
-two false b e = absurd (not-accepted State refl e)
+three : (a b k : Bool) → pick (not a) State (pick (not b) Buffer (pick (not k) Counts Accepted)) ≡ Accepted → (a ≡ true) × (b ≡ true) × (k ≡ true)
+three true true true e = (refl, refl, refl)
+three true true false e = absurd (not-accepted Counts refl e)
+three true false k e = absurd (not-accepted Buffer refl e)
+three false b k e = absurd (not-accepted State refl e)
 
-three : (a b c : Bool) → pick (not a) State (pick (not b) Buffer (pick c Table Accepted)) ≡ Accepted → (a ≡ true) × (b ≡ true) × (c ≡ false)
-three true true true e = absurd (not-accepted Table refl e)
-three true true false e = (refl, refl, refl)
-three true false c e = absurd (not-accepted Buffer refl e)
-three false b c e = absurd (not-accepted State refl e)
+four : (a b k c : Bool) → pick (not a) State (pick (not b) Buffer (pick (not k) Counts (pick c Table Accepted))) ≡ Accepted
+    → (a ≡ true) × (b ≡ true) × (k ≡ true) × (c ≡ false)
+four true true true true e = absurd (not-accepted Table refl e)
+four true true true false e = (refl, refl, refl, refl)
+four true true false c e = absurd (not-accepted Counts refl e)
+four true false k c e = absurd (not-accepted Buffer refl e)
+four false b k c e = absurd (not-accepted State refl e)
 
 module _ (d : Ssd1677) (l : Lengths) (passes : guarded d l ≡ Accepted) where
-  pub accepted-state : stateFine d ≡ true
+  passed : (stateFine d ≡ true) × (lengthsFit (d .config .panel) l ≡ true) × (countsFit l ≡ true)
   unfolding guarded
-  accepted-state = two (stateFine d) (lengthsFit (d .config .panel) l) passes .0
+  passed = three (stateFine d) (lengthsFit (d .config .panel) l) (countsFit l) passes
+
+  pub accepted-state : stateFine d ≡ true
+  accepted-state = passed .0
 
   pub accepted-lengths : lengthsFit (d .config .panel) l ≡ true
-  unfolding guarded
-  accepted-lengths = two (stateFine d) (lengthsFit (d .config .panel) l) passes .1
+  accepted-lengths = passed .1
+
+  pub accepted-counts : l .counts ≡ 256
+  accepted-counts = eqb-true (l .counts) 256 (passed .2)
 
 module _ (d : Ssd1677) (l : Lengths) (otp : List ℕ) (passes : guardedWithTable d l otp ≡ Accepted) where
-  pub table-state : stateFine d ≡ true
+  passed-table : (stateFine d ≡ true) × (lengthsFit (d .config .panel) l ≡ true) × (countsFit l ≡ true) × (badTable otp ≡ false)
   unfolding guardedWithTable
-  table-state = three (stateFine d) (lengthsFit (d .config .panel) l) (badTable otp) passes .0
+  passed-table = four (stateFine d) (lengthsFit (d .config .panel) l) (countsFit l) (badTable otp) passes
+
+  pub table-state : stateFine d ≡ true
+  table-state = passed-table .0
 
   pub table-lengths : lengthsFit (d .config .panel) l ≡ true
-  unfolding guardedWithTable
-  table-lengths = three (stateFine d) (lengthsFit (d .config .panel) l) (badTable otp) passes .1
+  table-lengths = passed-table .1
+
+  pub table-counts : l .counts ≡ 256
+  table-counts = eqb-true (l .counts) 256 (passed-table .2)
 
   pub table-good : badTable otp ≡ false
-  unfolding guardedWithTable
-  table-good = three (stateFine d) (lengthsFit (d .config .panel) l) (badTable otp) passes .2
+  table-good = passed-table .3
 
 -- ---- a panel
 pub record FinePanel (p : PanelGeometry) : Type 0 where
@@ -182,9 +194,9 @@ pub record FineLengths (p : PanelGeometry) (l : Lengths) : Type 0 where
   pub red : (n : ℕ) → l .red ≡ Of n → n ≡ 81600
   pub gates : (n : ℕ) → l .gates ≡ Of n → n ≡ p .height
 
-right-length : (b : Lent) (size : ℕ) → fits b size ≡ true → (n : ℕ) → b ≡ Of n → n ≡ size
+right-length : (b : LentLength) (size : ℕ) → fits b size ≡ true → (n : ℕ) → b ≡ Of n → n ≡ size
 unfolding fits
-right-length b size e n f = eqb-true n size (ap (λ (x : Lent). fits x size) (sym f) ∙ e)
+right-length b size e n f = eqb-true n size (ap (λ (x : LentLength). fits x size) (sym f) ∙ e)
 
 pub fine-lengths : (p : PanelGeometry) (l : Lengths) → lengthsFit p l ≡ true → FineLengths p l
 unfolding lengthsFit

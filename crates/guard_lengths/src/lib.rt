@@ -1,14 +1,17 @@
 // The lengths of what a call is lent.
 ghost use mathlib.Core.Path.{_≡_};
-ghost use Rattle.guard_lengths.specs.Lengths.{fits, lengthsFit, lengthsOf, glassLent, glassLogLent, planesLogLent, allLent};
+ghost use Rattle.guard_lengths.specs.Lengths.{fits, lengthsFit, countsFit, lengthsOf, glassLent, glassLogLent, planesLogLent, allLent};
 use config::PanelGeometry;
 use ram::PLANE_BYTES;
 
 // 1,024 records of 16 bytes.
 const LOG_BYTES: usize = 16_384;
 
+// A count for each grey.
+const GREYS: usize = 256;
+
 // A buffer that only some calls are lent.
-pub enum Lent {
+pub enum LentLength {
     Nothing,
     Of(usize),
 }
@@ -18,27 +21,30 @@ pub struct Lengths {
     pub states: usize,
     pub luts: usize,
     pub pixels: usize,
-    pub log: Lent,
-    pub black_white: Lent,
-    pub red: Lent,
-    pub gates: Lent,
+    pub counts: usize,
+    pub log: LentLength,
+    pub black_white: LentLength,
+    pub red: LentLength,
+    pub gates: LentLength,
 }
 
 fn lengths_of(
     states: usize,
     luts: usize,
     pixels: usize,
-    log: Lent,
-    black_white: Lent,
-    red: Lent,
-    gates: Lent,
+    counts: usize,
+    log: LentLength,
+    black_white: LentLength,
+    red: LentLength,
+    gates: LentLength,
 ) -> Lengths
-    ensures { λ r. ⌜ r ≡ lengthsOf states luts pixels log «black_white» red gates ⌝ }
+    ensures { λ r. ⌜ r ≡ lengthsOf states luts pixels counts log «black_white» red gates ⌝ }
 {
     Lengths {
         states,
         luts,
         pixels,
+        counts,
         log,
         black_white,
         red,
@@ -47,20 +53,26 @@ fn lengths_of(
 }
 
 // Lent to `advance`.
-pub fn glass_lent(states: usize, luts: usize, pixels: usize) -> Lengths
-    ensures { λ r. ⌜ r ≡ glassLent states luts pixels ⌝ }
+pub fn glass_lent(states: usize, luts: usize, pixels: usize, counts: usize) -> Lengths
+    ensures { λ r. ⌜ r ≡ glassLent states luts pixels counts ⌝ }
 {
-    let none = Lent::Nothing;
-    lengths_of(states, luts, pixels, none, none, none, none)
+    let none = LentLength::Nothing;
+    lengths_of(states, luts, pixels, counts, none, none, none, none)
 }
 
 // Lent to `set_reset`.
-pub fn glass_log_lent(states: usize, luts: usize, pixels: usize, log: usize) -> Lengths
-    ensures { λ r. ⌜ r ≡ glassLogLent states luts pixels log ⌝ }
+pub fn glass_log_lent(
+    states: usize,
+    luts: usize,
+    pixels: usize,
+    counts: usize,
+    log: usize,
+) -> Lengths
+    ensures { λ r. ⌜ r ≡ glassLogLent states luts pixels counts log ⌝ }
 {
-    let none = Lent::Nothing;
-    let log = Lent::Of(log);
-    lengths_of(states, luts, pixels, log, none, none, none)
+    let none = LentLength::Nothing;
+    let log = LentLength::Of(log);
+    lengths_of(states, luts, pixels, counts, log, none, none, none)
 }
 
 // Lent to `write_data` and `read_data`.
@@ -68,17 +80,18 @@ pub fn planes_log_lent(
     states: usize,
     luts: usize,
     pixels: usize,
+    counts: usize,
     log: usize,
     black_white: usize,
     red: usize,
 ) -> Lengths
-    ensures { λ r. ⌜ r ≡ planesLogLent states luts pixels log «black_white» red ⌝ }
+    ensures { λ r. ⌜ r ≡ planesLogLent states luts pixels counts log «black_white» red ⌝ }
 {
-    let none = Lent::Nothing;
-    let log = Lent::Of(log);
-    let black_white = Lent::Of(black_white);
-    let red = Lent::Of(red);
-    lengths_of(states, luts, pixels, log, black_white, red, none)
+    let none = LentLength::Nothing;
+    let log = LentLength::Of(log);
+    let black_white = LentLength::Of(black_white);
+    let red = LentLength::Of(red);
+    lengths_of(states, luts, pixels, counts, log, black_white, red, none)
 }
 
 // Lent to `new` and `write_command`.
@@ -86,26 +99,27 @@ pub fn all_lent(
     states: usize,
     luts: usize,
     pixels: usize,
+    counts: usize,
     log: usize,
     black_white: usize,
     red: usize,
     gates: usize,
 ) -> Lengths
-    ensures { λ r. ⌜ r ≡ allLent states luts pixels log «black_white» red gates ⌝ }
+    ensures { λ r. ⌜ r ≡ allLent states luts pixels counts log «black_white» red gates ⌝ }
 {
-    let log = Lent::Of(log);
-    let black_white = Lent::Of(black_white);
-    let red = Lent::Of(red);
-    let gates = Lent::Of(gates);
-    lengths_of(states, luts, pixels, log, black_white, red, gates)
+    let log = LentLength::Of(log);
+    let black_white = LentLength::Of(black_white);
+    let red = LentLength::Of(red);
+    let gates = LentLength::Of(gates);
+    lengths_of(states, luts, pixels, counts, log, black_white, red, gates)
 }
 
-fn fits(lent: Lent, right: usize) -> bool
+fn fits(lent: LentLength, right: usize) -> bool
     ensures { λ r. ⌜ r ≡ fits lent right ⌝ }
 {
     match lent {
-        Lent::Nothing => true,
-        Lent::Of(length) => length == right,
+        LentLength::Nothing => true,
+        LentLength::Of(length) => length == right,
     }
 }
 
@@ -129,4 +143,11 @@ pub fn lengths_fit(panel: PanelGeometry, lengths: Lengths) -> bool
         & black_white_fits
         & red_fits
         & gates_fit
+}
+
+// 15: the table of counts has a place for each grey (#108).
+pub fn counts_fit(lengths: Lengths) -> bool
+    ensures { λ r. ⌜ r ≡ countsFit lengths ⌝ }
+{
+    lengths.counts == GREYS
 }

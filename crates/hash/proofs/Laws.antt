@@ -1,9 +1,8 @@
 -- The hash of a list that grows, and its bound. Assumes nothing.
 use mathlib.Core.Path.{_≡_, refl, sym, ap, subst, _∙_}
-use mathlib.Core.Bool.{Bool, true, false}
-use mathlib.Core.List.{List, [], _∷_, _++_, append-assoc}
-use Prim.Native.Nat.{ℕ, suc, _+_, _-_, _*_, _/_, _%_, _^_, _<_, _≤_}
-use native.Mathlib.Nat.{mod-lt, zero-lt-suc}
+use mathlib.Core.Bool.{true, false}
+use mathlib.Core.List.{List, [], _∷_, _++_}
+use Prim.Native.Nat.{ℕ, suc, _+_, _-_, _/_, _%_, _^_, _<_, _≤_}
 use native.Mathlib.Numerals.{add-one}
 use native.Mathlib.Omega.{arith}
 use lib.IntN.{ℤ, pos, negsuc, natAbs}
@@ -11,7 +10,7 @@ use lib.Signed.{ltZ}
 use lib.ListN.{length, take, getD}
 use lib.Seq.{take-suc, take-length}
 use Rattle.numbers.proofs.Lin.{whole, lt-true}
-use Rattle.hash.specs.Hash.{stepOf, hashFrom, hashOf, wordBytes, patternOf, fourOf, stateBytes}
+use Rattle.hash.specs.Hash.{stepOf, hashFrom, wordBytes, patternOf, fourOf, countBytes, stateBytes}
 
 pub hash-more : (h : ℕ) (s t : List ℕ) → hashFrom h (s ++ t) ≡ hashFrom (hashFrom h s) t
 unfolding hashFrom
@@ -48,6 +47,11 @@ pub words-more : (s : List ℕ) (w : ℕ) → wordBytes (s ++ (w ∷ [])) ≡ wo
 unfolding wordBytes
 words-more [] w = refl
 words-more (v ∷ s) w = ap (λ (t : List ℕ). v % 256 ∷ v / 256 ∷ t) (words-more s w)
+
+pub counts-more : (s : List ℕ) (n : ℕ) → countBytes (s ++ (n ∷ [])) ≡ countBytes s ++ countBytes (n ∷ [])
+unfolding countBytes
+counts-more [] n = refl
+counts-more (m ∷ s) n = ap (λ (t : List ℕ). fourOf m ++ t) (counts-more s n)
 
 pub states-more : (s : List ℤ) (z : ℤ) → stateBytes (s ++ (z ∷ [])) ≡ stateBytes s ++ stateBytes (z ∷ [])
 unfolding stateBytes

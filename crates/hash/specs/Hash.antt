@@ -30,6 +30,11 @@ patternOf (negsuc n) = 2 ^ 64 - 1 - n
 abbrev pub fourOf : ℕ → List ℕ
 fourOf n = n % 256 ∷ n / 256 % 256 ∷ n / 65536 % 256 ∷ n / 16777216 % 256 ∷ []
 
+-- counts: four bytes each, the low byte first
+unfoldable pub countBytes : List ℕ → List ℕ
+countBytes [] = []
+countBytes (count ∷ counts) = fourOf count ++ countBytes counts
+
 -- states: eight bytes each, the low byte first
 unfoldable pub stateBytes : List ℤ → List ℕ
 stateBytes [] = []

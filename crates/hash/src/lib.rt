@@ -1,8 +1,8 @@
-// The hash of docs/replay-format.md, over lists of bytes, of words and of states.
+// The hash of docs/replay-format.md, over lists of bytes, of words, of counts and of states.
 ghost use mathlib.Core.Path.{_≡_};
 ghost use Prim.Native.Nat.{_<_, _/_, _%_};
 ghost use mathlib.Core.List.{[], _∷_};
-ghost use Rattle.hash.specs.Hash.{stepOf, hashFrom, hashOf, wordBytes, patternOf, fourOf, stateBytes};
+ghost use Rattle.hash.specs.Hash.{stepOf, hashFrom, hashOf, wordBytes, patternOf, fourOf, countBytes, stateBytes};
 
 const LARGEST: u64 = 18446744073709551615;
 
@@ -73,6 +73,18 @@ fn four(h: u64, n: u64) -> u64
     let b = step(a, low(n / 256));
     let c = step(b, low(n / 65536));
     step(c, low(n / 16777216))
+}
+
+pub fn of_counts(counts: &[u32]) -> u64
+    ensures { λ r. ⌜ r ≡ hashOf (countBytes (now (counts .entry))) ⌝ }
+{
+    let mut h: u64 = 0;
+    let mut i: usize = 0;
+    while i < counts.len() {
+        h = four(h, counts[i] as u64);
+        i += 1;
+    }
+    h
 }
 
 // Eight bytes, the low byte first.

@@ -20,5 +20,5 @@ unfoldable pub dataWritten : List ℕ → ℕ → ℕ → WithPlanes → Outcome
 dataWritten luts time byte w =
     unless
     (guarded (w .device)
-    (planesLogLent (length (w .states)) (length luts) (length (w .pixels)) (length (w .log)) (length (w .blackWhite)) (length (w .red))))
+    (planesLogLent (length (w .states)) (length luts) (length (w .picture .pixels)) (length (w .picture .counts)) (length (w .log)) (length (w .blackWhite)) (length (w .red))))
     w (dataIn luts time byte w)

@@ -24,6 +24,7 @@ use Rattle.reset.specs.Reset.{restored}
 use Rattle.start.specs.Start.{softReset, vcomSensed, pointed}
 use Rattle.activation.specs.Activation.{WithLuts, withLuts, stagedIn, arrived, bothLeft, activated}
 use Rattle.begin.specs.Begin.{commandMade, run, commandByKind, isHeldOff, begun}
+use Rattle.history.specs.Reckon.{unseen}
 use Rattle.history.proofs.Blind.{plainGlass, plainBuffers, seenBuffers, behind, Blind, Quiet, blind-then, blind-pick}
 use Rattle.history.proofs.Steps.{QuietLog, quiet-logged, quiet-sensed, quiet-pointed}
 use Rattle.history.proofs.Stages.{plainLuts}
@@ -46,8 +47,8 @@ blind-advanced luts time g = by (isOver (clocked time g .device))
 -- ---- 0x20
 joined-plain : (w : WithBuffers) (s : WithLuts) → plainBuffers (bothLeft s (arrived w s)) ≡ plainBuffers (bothLeft (plainLuts s) (arrived (plainBuffers w) (plainLuts s)))
 joined-plain w s =
-    ap (λ (g : WithGlass). withBuffers (g .device) (g .states) (s .luts) (g .pixels) [])
-    (blind-advanced (s .luts) (s .device .now) (withGlass (s .device) (w .states) (w .pixels)))
+    ap (λ (g : WithGlass). withBuffers (g .device) (g .states) (s .luts) (g .picture) [])
+    (blind-advanced (s .luts) (s .device .now) (withGlass (s .device) (w .states) (w .picture)))
 
 pub blind-activated : (k : Lent) → Blind plainBuffers plainBuffers (activated k)
 unfolding activated
@@ -63,8 +64,8 @@ QuietBuffers = Quiet plainBuffers seenBuffers
 pub quiet-log : (f : WithLog → WithLog) → QuietLog f → QuietBuffers (on logInBuffers f)
 quiet-log f q =
     record {
-      blind = λ (w : WithBuffers). ap (λ (k : WithLog). withBuffers (k .device) [] (w .luts) [] (k .log)) (q .blind (withLog (w .device) (w .log)));
-      still = λ (w : WithBuffers). ap (behind (w .states) (w .pixels)) (q .still (withLog (w .device) (w .log)));
+      blind = λ (w : WithBuffers). ap (λ (k : WithLog). withBuffers (k .device) [] (w .luts) unseen (k .log)) (q .blind (withLog (w .device) (w .log)));
+      still = λ (w : WithBuffers). ap (behind (w .states) (w .picture)) (q .still (withLog (w .device) (w .log)));
     }
 
 abbrev pub told : DiagnosticKind → WithBuffers → WithBuffers

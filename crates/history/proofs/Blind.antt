@@ -1,6 +1,5 @@
 -- What a step of the chip does to the core does not look at the glass, the journal or the log, and most steps leave the glass: the two laws,
 -- and how they go through a sequence, a choice and a larger bundle. Assumes nothing.
-use Prim.Native.Nat.{ℕ}
 use mathlib.Core.Path.{_≡_, sym, ap, subst, _∙_}
 use mathlib.Core.Bool.{Bool, true, false}
 use mathlib.Core.List.{List, []}
@@ -8,10 +7,12 @@ use lib.IntN.{ℤ, pos}
 use Rattle.numbers.specs.Choice.{pick}
 use Rattle.glass.specs.declared.RefreshKind.the-variants.{PowerOn}
 use Rattle.config.specs.declared.Ssd1677Config.{Ssd1677Config}
+use Rattle.counts.specs.Counts.{Picture}
 use Rattle.panel.specs.declared.Display.{Display}
 use Rattle.panel.specs.declared.Panel.{Panel}
 use Rattle.device.specs.declared.Ssd1677.{Ssd1677}
 use Rattle.world.specs.World.{WithLog, withLog, WithGlass, withGlass, WithGlassLog, withGlassLog, WithRam, withRam, WithBuffers, withBuffers, WithPlanes, withPlanes}
+use Rattle.history.specs.Reckon.{unseen}
 
 -- ---- what the core keeps, as the same bundle with nothing else in it
 abbrev pub plain : Ssd1677 → Ssd1677
@@ -38,19 +39,19 @@ abbrev pub plainLog : WithLog → WithLog
 plainLog k = withLog (plain (k .device)) []
 
 abbrev pub plainGlass : WithGlass → WithGlass
-plainGlass g = withGlass (plain (g .device)) [] []
+plainGlass g = withGlass (plain (g .device)) [] unseen
 
 abbrev pub plainGlassLog : WithGlassLog → WithGlassLog
-plainGlassLog w = withGlassLog (plain (w .device)) [] [] []
+plainGlassLog w = withGlassLog (plain (w .device)) [] unseen []
 
 abbrev pub plainRam : WithRam → WithRam
 plainRam w = withRam (plain (w .device)) (w .blackWhite) (w .red) []
 
 abbrev pub plainBuffers : WithBuffers → WithBuffers
-plainBuffers w = withBuffers (plain (w .device)) [] (w .luts) [] []
+plainBuffers w = withBuffers (plain (w .device)) [] (w .luts) unseen []
 
 abbrev pub plainPlanes : WithPlanes → WithPlanes
-plainPlanes w = withPlanes (plain (w .device)) [] [] (w .blackWhite) (w .red) []
+plainPlanes w = withPlanes (plain (w .device)) [] unseen (w .blackWhite) (w .red) []
 
 -- ---- what the whole numbers stand on
 pub record Seen : Type 0 where
@@ -58,13 +59,13 @@ pub record Seen : Type 0 where
   pub panel : Panel
   pub display : Display
   pub states : List ℤ
-  pub pixels : List ℕ
+  pub picture : Picture
 
-abbrev pub seenBy : Ssd1677 → List ℤ → List ℕ → Seen
-seenBy d states pixels = record { config = d .config; panel = d .panel; display = d .display; states = states; pixels = pixels }
+abbrev pub seenBy : Ssd1677 → List ℤ → Picture → Seen
+seenBy d states picture = record { config = d .config; panel = d .panel; display = d .display; states = states; picture = picture }
 
 abbrev pub seenDevice : Ssd1677 → Seen
-seenDevice d = seenBy d [] []
+seenDevice d = seenBy d [] unseen
 
 abbrev pub seenLog : WithLog → Seen
 seenLog k = seenDevice (k .device)
@@ -73,17 +74,17 @@ abbrev pub seenRam : WithRam → Seen
 seenRam w = seenDevice (w .device)
 
 abbrev pub seenGlass : WithGlass → Seen
-seenGlass g = seenBy (g .device) (g .states) (g .pixels)
+seenGlass g = seenBy (g .device) (g .states) (g .picture)
 
 abbrev pub seenGlassLog : WithGlassLog → Seen
-seenGlassLog w = seenBy (w .device) (w .states) (w .pixels)
+seenGlassLog w = seenBy (w .device) (w .states) (w .picture)
 
 abbrev pub seenBuffers : WithBuffers → Seen
-seenBuffers w = seenBy (w .device) (w .states) (w .pixels)
+seenBuffers w = seenBy (w .device) (w .states) (w .picture)
 
--- the glass of one with the states and pixels of another
-abbrev pub behind : List ℤ → List ℕ → Seen → Seen
-behind states pixels s = record { config = s .config; panel = s .panel; display = s .display; states = states; pixels = pixels }
+-- the glass of one with the states and the picture of another
+abbrev pub behind : List ℤ → Picture → Seen → Seen
+behind states picture s = record { config = s .config; panel = s .panel; display = s .display; states = states; picture = picture }
 
 -- ---- the two laws
 abbrev pub Blind : {A B : Type 0} → (A → A) → (B → B) → (A → B) → Type 0

@@ -3,15 +3,16 @@
 use Prim.Native.Nat.{ℕ, _≤_}
 use mathlib.Core.Path.{_≡_, refl, sym, ap, subst, _∙_}
 use mathlib.Core.Bool.{true}
-use mathlib.Core.List.{List, [], _∷_}
+use mathlib.Core.List.{List}
 use native.Mathlib.Omega.{arith}
 use denote.Ref.{now}
 use Rattle.config.specs.declared.Ssd1677Config.{Ssd1677Config}
 use Rattle.config.specs.Answer.{isAccepted}
 use Rattle.device.specs.declared.Ssd1677.{Ssd1677}
+use Rattle.counts.specs.Counts.{picture}
 use Rattle.world.specs.World.{World, world, WithGlass, WithGlassLog, WithBuffers, WithPlanes, deviceInWorld, glassInWorld, glassLogInWorld, buffersInWorld, planesInWorld}
 use Rattle.guard.specs.declared.Refusal.{Refusal}
-use Rattle.guard.specs.declared.Refusal.the-variants.{Accepted, Buffer, Table, State}
+use Rattle.guard.specs.declared.Refusal.the-variants.{Accepted, Buffer, Table, State, Counts}
 use Rattle.guard.specs.Refusals.{refusalNumber}
 use Rattle.query.specs.Outcome.{Outcome, outcome}
 use Rattle.query.specs.Queries.{WithCount}
@@ -30,16 +31,16 @@ use Rattle.history.proofs.History.{history}
 -- ---- by call
 pub answers-called : {otp : List ℕ} {w v : World} {call : Call} {reason : Refusal} → Answers otp w call reason v → outcome (refusalNumber reason) v ≡ called otp w call
 answers-called (contracts.advance κs a r s q otp b e g l) =
-    ap (λ (o : Outcome WithGlass). back (glassInWorld .put (world (a .0) (now (a .1 .0)) (now (a .1 .1 .0)) (now (a .1 .1 .1 .0)) b e g l)) o) q
+    ap (λ (o : Outcome WithGlass). back (glassInWorld .put (world (a .0) (now (a .1 .0)) (now (a .1 .1 .0)) (picture (now (a .1 .1 .1 .0)) (now (a .1 .1 .1 .1 .0))) b e g l)) o) q
 answers-called (contracts.set-reset κs a r s q otp b e g) =
-    ap (λ (o : Outcome WithGlassLog). back (glassLogInWorld .put (world (a .0) (now (a .1 .0)) (now (a .1 .1 .0)) (now (a .1 .1 .1 .0)) b e g (now (a .1 .1 .1 .1 .0)))) o) q
+    ap (λ (o : Outcome WithGlassLog). back (glassLogInWorld .put (world (a .0) (now (a .1 .0)) (now (a .1 .1 .0)) (picture (now (a .1 .1 .1 .0)) (now (a .1 .1 .1 .1 .0))) b e g (now (a .1 .1 .1 .1 .1 .0)))) o) q
 answers-called (contracts.write-command κs a r s q) =
     ap
     (λ (o : Outcome WithBuffers).
     back
     (buffersInWorld .put
-    (world (a .0) (now (a .1 .0)) (now (a .1 .1 .0)) (now (a .1 .1 .1 .0)) (now (a .1 .1 .1 .1 .0)) (now (a .1 .1 .1 .1 .1 .0))
-    (now (a .1 .1 .1 .1 .1 .1 .0)) (now (a .1 .1 .1 .1 .1 .1 .1 .0))))
+    (world (a .0) (now (a .1 .0)) (now (a .1 .1 .0)) (picture (now (a .1 .1 .1 .0)) (now (a .1 .1 .1 .1 .0))) (now (a .1 .1 .1 .1 .1 .0)) (now (a .1 .1 .1 .1 .1 .1 .0))
+    (now (a .1 .1 .1 .1 .1 .1 .1 .0)) (now (a .1 .1 .1 .1 .1 .1 .1 .1 .0))))
     o)
     q
 answers-called (contracts.write-data κs a r s q otp g) =
@@ -47,8 +48,8 @@ answers-called (contracts.write-data κs a r s q otp g) =
     (λ (o : Outcome WithPlanes).
     back
     (planesInWorld .put
-    (world (a .0) (now (a .1 .0)) (now (a .1 .1 .0)) (now (a .1 .1 .1 .0)) (now (a .1 .1 .1 .1 .0)) (now (a .1 .1 .1 .1 .1 .0)) g
-    (now (a .1 .1 .1 .1 .1 .1 .0))))
+    (world (a .0) (now (a .1 .0)) (now (a .1 .1 .0)) (picture (now (a .1 .1 .1 .0)) (now (a .1 .1 .1 .1 .0))) (now (a .1 .1 .1 .1 .1 .0)) (now (a .1 .1 .1 .1 .1 .1 .0)) g
+    (now (a .1 .1 .1 .1 .1 .1 .1 .0))))
     o)
     q
 answers-called (contracts.read-data κs a r s q otp g) =
@@ -57,8 +58,8 @@ answers-called (contracts.read-data κs a r s q otp g) =
     back
     (λ (x : WithRead).
     glassLogInWorld .put
-    (world (a .0) (now (a .1 .0)) (now (a .1 .1 .0)) (now (a .1 .1 .1 .0)) (now (a .1 .1 .1 .1 .0)) (now (a .1 .1 .1 .1 .1 .0)) g
-    (now (a .1 .1 .1 .1 .1 .1 .0)))
+    (world (a .0) (now (a .1 .0)) (now (a .1 .1 .0)) (picture (now (a .1 .1 .1 .0)) (now (a .1 .1 .1 .1 .0))) (now (a .1 .1 .1 .1 .1 .0)) (now (a .1 .1 .1 .1 .1 .1 .0)) g
+    (now (a .1 .1 .1 .1 .1 .1 .1 .0)))
     (x .left))
     o)
     q
@@ -70,6 +71,7 @@ not-nought Accepted n e = n refl
 not-nought Buffer n e = omega arith
 not-nought Table n e = omega arith
 not-nought State n e = omega arith
+not-nought Counts n e = omega arith
 
 -- ---- the start
 pub new-started : {c : Ssd1677Config} {otp : List ℕ} {b : Buffers} {error : StartError} {p : Powered} → New c otp b error p

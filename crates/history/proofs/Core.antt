@@ -21,8 +21,8 @@ use Rattle.high.specs.Data.{dataIn}
 use Rattle.driven.specs.Read.{readIn}
 use Rattle.reading.specs.Reading.{readTaken}
 use Rattle.calls.specs.World.{Call, advance, set-reset, write-command, write-data, read-data, set-ambient, take-diagnostics, taken}
-use Rattle.history.specs.Reckon.{Core, coreOf, bare, coreAfter}
-use Rattle.history.proofs.Blind.{plain, plainLog, plainGlass, plainGlassLog, plainRam, plainBuffers, plainPlanes, Blind, blind-then}
+use Rattle.history.specs.Reckon.{coreOf, unseen, bare, coreAfter}
+use Rattle.history.proofs.Blind.{plain, plainLog, plainGlassLog, plainRam, plainBuffers, plainPlanes, Blind, blind-then}
 use Rattle.history.proofs.Steps.{quiet-closed}
 use Rattle.history.proofs.Written.{quiet-data}
 use Rattle.history.proofs.Read.{quiet-read}
@@ -53,7 +53,7 @@ blind-line luts false Asleep w = refl
 
 blind-clock : (luts : List ℕ) (time : ℕ) → Blind plainGlassLog plainGlassLog (on glassInGlassLog (advanced luts time))
 blind-clock luts time w =
-    ap (λ (g : WithGlass). withGlassLog (g .device) (g .states) (g .pixels) []) (blind-advanced luts time (withGlass (w .device) (w .states) (w .pixels)))
+    ap (λ (g : WithGlass). withGlassLog (g .device) (g .states) (g .picture) []) (blind-advanced luts time (withGlass (w .device) (w .states) (w .picture)))
 
 blind-reset : (luts : List ℕ) (time : ℕ) (low : Bool) → Blind plainGlassLog plainGlassLog (lineTaken luts time low)
 unfolding lineTaken
@@ -65,7 +65,7 @@ blind-reset luts time low =
 -- ---- a command byte
 blind-arrived : (time : ℕ) → Blind plainBuffers plainBuffers (movedTo time)
 blind-arrived time w =
-    ap (λ (g : WithGlass). withBuffers (g .device) (g .states) (w .luts) (g .pixels) []) (blind-advanced (w .luts) time (withGlass (w .device) (w .states) (w .pixels)))
+    ap (λ (g : WithGlass). withBuffers (g .device) (g .states) (w .luts) (g .picture) []) (blind-advanced (w .luts) time (withGlass (w .device) (w .states) (w .picture)))
 
 blind-command : (k : Lent) (time command : ℕ) → Blind plainBuffers plainBuffers (commandTaken k time command)
 unfolding commandTaken
@@ -81,15 +81,15 @@ blind-command k time command =
 blind-data : (luts : List ℕ) (time byte : ℕ) → Blind plainPlanes plainPlanes (dataIn luts time byte)
 unfolding dataIn
 blind-data luts time byte w =
-    let g = advanced luts time (withGlass (w .device) (w .states) (w .pixels)) in
-    let h = advanced luts time (withGlass (plain (w .device)) [] []) in
+    let g = advanced luts time (withGlass (w .device) (w .states) (w .picture)) in
+    let h = advanced luts time (withGlass (plain (w .device)) [] unseen) in
     ap put
     (quiet-data byte (g .device .bus .current) .blind (withRam (g .device) (w .blackWhite) (w .red) (w .log))
-    ∙ ap bare-byte (blind-advanced luts time (withGlass (w .device) (w .states) (w .pixels)))
+    ∙ ap bare-byte (blind-advanced luts time (withGlass (w .device) (w .states) (w .picture)))
     ∙ sym (quiet-data byte (h .device .bus .current) .blind (withRam (h .device) (w .blackWhite) (w .red) [])))
   where
     put : WithRam → WithPlanes
-    put m = withPlanes (m .device) [] [] (m .blackWhite) (m .red) (m .log)
+    put m = withPlanes (m .device) [] unseen (m .blackWhite) (m .red) (m .log)
 
     bare-byte : WithGlass → WithRam
     bare-byte g = plainRam (dataTaken byte (withRam (plain (g .device)) (w .blackWhite) (w .red) []) (g .device .bus .current))
@@ -98,15 +98,15 @@ blind-data luts time byte w =
 blind-read : (luts blackWhite red : List ℕ) (time : ℕ) → Blind plainGlassLog plainGlassLog (λ w. readIn luts blackWhite red time w .left)
 unfolding readIn
 blind-read luts blackWhite red time w =
-    let g = advanced luts time (withGlass (w .device) (w .states) (w .pixels)) in
-    let h = advanced luts time (withGlass (plain (w .device)) [] []) in
+    let g = advanced luts time (withGlass (w .device) (w .states) (w .picture)) in
+    let h = advanced luts time (withGlass (plain (w .device)) [] unseen) in
     ap put
     (quiet-read blackWhite red (g .device .bus .power) .blind (withLog (g .device) (w .log))
-    ∙ ap bare-read (blind-advanced luts time (withGlass (w .device) (w .states) (w .pixels)))
+    ∙ ap bare-read (blind-advanced luts time (withGlass (w .device) (w .states) (w .picture)))
     ∙ sym (quiet-read blackWhite red (h .device .bus .power) .blind (withLog (h .device) [])))
   where
     put : WithLog → WithGlassLog
-    put k = withGlassLog (k .device) [] [] (k .log)
+    put k = withGlassLog (k .device) [] unseen (k .log)
 
     bare-read : WithGlass → WithLog
     bare-read g = plainLog (readTaken blackWhite red (withLog (plain (g .device)) []) (g .device .bus .power) .left)

@@ -1,7 +1,7 @@
 -- Cuts over a whole list of calls (#101): from an accepted start on, whatever moment cuts the refresh under way, the nanoseconds up to it are at most
 -- 2^64 − 2; and at 1,000,000,000 cycles a second the reckoning's cut is the cycles themselves. Assumes nothing.
 use Prim.Native.Nat.{ℕ, _-_, _≤_, _<_}
-use mathlib.Core.Path.{_≡_, refl}
+use mathlib.Core.Path.{_≡_}
 use mathlib.Core.Bool.{true, _&&_}
 use mathlib.Core.List.{List, [], _∷_}
 use native.Mathlib.Omega.{arith}

@@ -1,5 +1,5 @@
 -- SCOPE, History: after every list of calls from every accepted start, the reckoning has the core, each lent state is its pixel's whole
--- number, from 0 to S, and each pixel shows the grey of it. The one premise beside acceptance is the starting grey's type, a byte.
+-- number, from 0 to S, each pixel shows the grey of it, and the counts are those of the pixels. The one premise beside acceptance is the starting grey's type, a byte.
 use Prim.Native.Nat.{ℕ, _≤_, _+_, min}
 use mathlib.Core.Path.{_≡_, refl, sym, ap, subst, _∙_}
 use mathlib.Core.Bool.{true}
@@ -20,6 +20,7 @@ use Rattle.history.proofs.Shows.{Marks, Shows, countOver, over}
 use Rattle.history.proofs.Taken.{seen, shows-taken}
 use Rattle.history.proofs.Going.{beside, goes-on, works-in}
 use Rattle.history.proofs.Calls.{accepted-taken, refused-changes-nothing}
+use Rattle.history.proofs.Counted.{counts-each, counts-all}
 use Rattle.history.proofs.Start.{start-shows, start-rests}
 
 -- the reckoning's numbers, and how many refreshes have been worked in
@@ -80,7 +81,16 @@ run-kept r count (refused {w = w} {v = v} {handed = handed} {back = back} {numbe
 agrees : (w : World) (r : Reckoning) (count : ℕ) → Kept w r count → Agrees w r
 agrees w r count k =
     let s = k .shows in
-    record { core = k .core; under-way = k .under-way; swing = s .swing; states = s .states; within = s .within; pixels = s .pixels }
+    record {
+      core = k .core;
+      under-way = k .under-way;
+      swing = s .swing;
+      states = s .states;
+      within = s .within;
+      pixels = s .pixels;
+      counts = counts-each (seen w) (marks r count) s;
+      total = counts-all (seen w) (marks r count) s;
+    }
 
 pub start-kept : (c : Ssd1677Config) (otp : List ℕ) (b : Buffers) → c .optics .«initial_gray» ≤ 255 → isAccepted (started c otp b .answer) ≡ true
     → Kept (worldOf (started c otp b .left)) (firstReckoning (coreOf (worldOf (started c otp b .left)))) 0

@@ -125,10 +125,10 @@ asserted-shows luts w number before h = by (isDriving (w .device)) refl
         -- the cut, converted, is not held
         let is = between-exact (d .config .frequency) (d .display .started) (d .now) (h .ticks) (omega (arith, short)) in
         let r =
-        finish-shows luts (withGlass (v .device) (v .states) (v .pixels)) (d .now) (upTo (nsBetween (d .config .frequency) (d .display .started) (d .now)))
+        finish-shows luts (withGlass (v .device) (v .states) (v .picture)) (d .now) (upTo (nsBetween (d .config .frequency) (d .display .started) (d .now)))
         number (rw is short) h in
         subst (λ (n : ℕ). Shows (seenGlassLog (fallen true)) (over (d .config) (refresh luts (d .display) (upTo n) ∷ []) number)) is r
-    by false e = record { swing = h .swing; some = h .some; ticks = h .ticks; short = h .short; states = h .states; within = h .within; pixels = h .pixels; generation = h .generation }
+    by false e = record { swing = h .swing; some = h .some; ticks = h .ticks; short = h .short; states = h .states; within = h .within; pixels = h .pixels; sized = h .sized; pixels-long = h .pixels-long; counts = h .counts; generation = h .generation }
 
 pub line-shows : (luts : List ℕ) (low : Bool) (w : WithGlassLog) (number : Marks) (power : Power)
     → (w .device .display .running ≡ true → w .device .now < w .device .display .ends) → Shows (seenGlassLog w) number

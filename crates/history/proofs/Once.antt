@@ -65,7 +65,7 @@ byStart now t = pick (t .display .running && leb (t .display .ends) now) (refres
 abbrev pub onceIn : Lent → Ssd1677 → List ℕ → List Worked
 onceIn k d luts = byStart (d .now) (during k (withLuts (unbused d) luts []) (controlOf (d .regs .«update_control_2»)))
 
-staged-once : (k : Lent) (s : WithLuts) → endsIn (staged k s .luts) (staged k s .device .now) (staged k s .device) ≡ onceIn k (s .device) (s .luts)
+pub staged-once : (k : Lent) (s : WithLuts) → endsIn (staged k s .luts) (staged k s .device .now) (staged k s .device) ≡ onceIn k (s .device) (s .luts)
 unfolding staged runSettled
 staged-once k s =
     let c = controlOf (s .device .regs .«update_control_2») in
@@ -98,7 +98,7 @@ module _ (k : Lent) (number : Marks) where
       → Shows (seenBuffers (activated k w)) (over (w .device .config) (endsIn (stagedIn k w .luts) (stagedIn k w .device .now) (stagedIn k w .device)) number)
   unfolding activated staged runSettled
   staged-shows w h =
-      advance-shows (stagedIn k w .luts) (stagedIn k w .device .now) (withGlass (stagedIn k w .device) (w .states) (w .pixels)) number
+      advance-shows (stagedIn k w .luts) (stagedIn k w .device .now) (withGlass (stagedIn k w .device) (w .states) (w .picture)) number
       (record {
         swing = h .swing;
         some = h .some;
@@ -107,6 +107,9 @@ module _ (k : Lent) (number : Marks) where
         states = h .states;
         within = h .within;
         pixels = h .pixels;
+        sized = h .sized;
+        pixels-long = h .pixels-long;
+        counts = h .counts;
         generation = h .generation;
       })
 

@@ -224,7 +224,7 @@ activated-is : (k : Lent) (w : WithBuffers)
 unfolding activated staged runSettled
 activated-is k w =
     let s = stagedIn k w in
-    moved-is (s .luts) (s .luts) (s .device .now) (withGlass (s .device) (w .states) (w .pixels))
+    moved-is (s .luts) (s .luts) (s .device .now) (withGlass (s .device) (w .states) (w .picture))
     ∙ ap (λ (n : ℕ). unreached n (shownBy (s .device .display) (s .luts))) (same-max (w .device .now))
     ∙ ap (unreached (w .device .now)) (staged-is k (withLuts (w .device) (w .luts) (w .log)))
 

@@ -19,7 +19,7 @@ use Rattle.world.specs.World.{World, WithGlassLog, lentOf, glassInWorld, glassL
 use Rattle.calls.specs.World.{Call, advance, set-reset, write-command, write-data, read-data, set-ambient, take-diagnostics, taken}
 use Rattle.history.specs.Reckon.{Core, coreOf, coreAfter}
 use Rattle.history.specs.Runs.{Runs, done, accepted, refused}
-use Rattle.history.specs.Reports.{bareWith, reportsOf, flagAfter, Tally, withReports, afterReports, tallyCall, tally, noReport, reportsIn, takesRecords, Untaken, Tallies}
+use Rattle.history.specs.Reports.{bareWith, reportsOf, flagAfter, Tally, afterReports, tallyCall, tally, noReport, reportsIn, takesRecords, Untaken, Tallies}
 use Rattle.history.proofs.Tells.{journal, journals, grown, Bundle, Tells}
 use Rattle.history.proofs.TellsCalls.{inGlass, inGlassLog, inBuffers, inPlanes, tells-advanced, tells-reset, tells-read-in, tells-data-in, tells-command}
 use Rattle.history.proofs.Core.{core-taken}

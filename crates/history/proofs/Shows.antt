@@ -17,12 +17,14 @@ use Rattle.waveform.specs.Exact.{settingPhases}
 use Rattle.waveform.specs.declared.Until.{Until}
 use Rattle.waveform.specs.declared.Until.the-variants.{Whole, Cut}
 use Rattle.config.specs.declared.Ssd1677Config.{Ssd1677Config}
+use Rattle.counts.specs.Counts.{countsOf}
 use Rattle.panel.specs.declared.Display.{Display}
 use Rattle.panel.specs.Finish as finish
 use Rattle.panel.specs.Pixels.{statesBy}
-use Rattle.panel_laws.proofs.Exactly.{byLut, CutBelowLargest, exactAfter, exact-le, state-exactly, states-length, pixel-shows}
+use Rattle.panel_laws.proofs.Exactly.{byLut, CutBelowLargest, exactAfter, exact-le, state-exactly, states-length, pixels-length, pixel-shows}
 use Rattle.device.specs.declared.Ssd1677.{Ssd1677}
 use Rattle.world.specs.World.{WithGlass}
+use Rattle.guard_lengths.specs.Lengths.{pixelsOf}
 use Rattle.clock.specs.Advance.{isOver, clocked, quieted, glassPublished, endingOf, glassOf, ended, advanced}
 use Rattle.history.specs.Reckon.{Part, all, upTo, lasted, Worked, swingS, drivesBy, numberAfter, numberOver}
 use Rattle.history.proofs.Blind.{Seen, seenGlass}
@@ -36,7 +38,8 @@ pub record Marks : Type 0 where
 abbrev pub Short : ℕ → Display → Type 0
 Short frequency d = (cycles : ℕ) → cycles < d .ends - d .started → lasted frequency cycles < largest 64
 
--- each lent state is its pixel's whole number, from 0 to S, each pixel shows it, and the image's generation is the count, stopping at 2^64 − 1
+-- each lent state is its pixel's whole number, from 0 to S, each pixel shows it and is counted, and the image's generation is the count of refreshes,
+-- stopping at 2^64 − 1
 pub record Shows (s : Seen) (number : Marks) : Type 0 where
   pub swing : s .panel .swing ≡ pos (swingS (s .config))
   pub some : 1 ≤ swingS (s .config)
@@ -44,7 +47,10 @@ pub record Shows (s : Seen) (number : Marks) : Type 0 where
   pub short : Short (s .config .frequency) (s .display)
   pub states : (i : ℕ) → i < length (s .states) → getD (s .states) i (pos 0) ≡ pos (number .of i)
   pub within : (i : ℕ) → i < length (s .states) → number .of i ≤ swingS (s .config)
-  pub pixels : (i : ℕ) → i < length (s .states) → getD (s .pixels) i 0 ≡ grayZ (pos (number .of i)) (pos (swingS (s .config)))
+  pub pixels : (i : ℕ) → i < length (s .states) → getD (s .picture .pixels) i 0 ≡ grayZ (pos (number .of i)) (pos (swingS (s .config)))
+  pub sized : length (s .states) ≡ pixelsOf (s .config .panel)
+  pub pixels-long : length (s .picture .pixels) ≡ length (s .states)
+  pub counts : s .picture .counts ≡ countsOf (s .picture .pixels)
   pub generation : s .panel .image .generation ≡ min (number .count) (largest 64)
 
 -- the count of a list of refreshes after that of others
@@ -125,6 +131,9 @@ module _ (luts : List ℕ) (g : WithGlass) (at : ℕ) (part : Part) (number : Ma
             pixel-shows (g .device .panel .swing) next i l
             ∙ ap (λ (s : ℤ). grayZ (getD next i (pos 0)) s) (h .swing)
             ∙ ap (λ (x : ℤ). grayZ x (pos S)) (state-is i (long i l));
+        sized = states-length (byLut e (g .device .panel .swing)) luts (g .states) ∙ h .sized;
+        pixels-long = pixels-length (g .device .panel .swing) next;
+        counts = refl;
         generation = ap (λ (n : ℕ). min (n + 1) (largest 64)) (h .generation) ∙ omega arith;
       }
 

@@ -22,8 +22,8 @@ use Rattle.device.specs.Parts.{withBus}
 use Rattle.otp.specs.Table.{entryBytes}
 use Rattle.stages.specs.declared.Control.{Control}
 use Rattle.stages.specs.declared.Run.{Run}
-use Rattle.stages.specs.Run.{Step, step, withClock, withAnalog, withFound, withTemperature, withLut, runWithJournal, through, noted, waited}
-use Rattle.stages.specs.Stages.{clockOn, analogOn, byExternal, sensed, temperatureLoaded, modeOf, settingIn, entryFor, lutFound, lutLoaded, loaded}
+use Rattle.stages.specs.Run.{Step, step, withClock, withAnalog, withFound, withTemperature, runWithJournal, through, noted, waited}
+use Rattle.stages.specs.Stages.{clockOn, analogOn, byExternal, sensed, temperatureLoaded, modeOf, entryFor, withEntryFor, lutFound, lutLoaded, loaded}
 use Rattle.activation.specs.Display.{Displayed, displayed}
 use Rattle.activation.specs.Activation.{WithLuts, withLuts}
 use Rattle.history.proofs.Blind.{plain, Blind, blind-then, blind-pick}
@@ -117,7 +117,7 @@ blind-found : (time : ℕ) (mode : DisplayMode) (otp : List ℕ) → BlindStep (
 unfolding lutFound
 blind-found time mode otp =
     pickStep (λ s. eqb (length (entryFor mode otp (s .run .temperature))) entryBytes)
-    (λ s. through (withLut (settingIn (entryFor mode otp (s .run .temperature)))) s)
+    (λ s. through (withEntryFor mode otp (s .run .temperature)) s)
     (λ s. noted time (NoWaveform mode (s .run .temperature)) (through (withFound false) s))
     (λ s. refl)
     (λ s. refl)

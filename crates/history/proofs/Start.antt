@@ -34,7 +34,7 @@ module _ (c : Ssd1677Config) (otp : List ℕ) (b : Buffers) (ok : isAccepted (st
   some : 1 ≤ c .optics .«full_swing»
   some = full-swing c otp (lengthsIn b) (passed c otp b ok)
 
-  long : length (b .pixels) ≡ length (b .states)
+  long : length (b .picture .pixels) ≡ length (b .states)
   long = let fine = lengths c otp (lengthsIn b) (passed c otp b ok) in fine .pixels ∙ sym (fine .states)
 
   -- no refresh is under way
@@ -55,9 +55,15 @@ module _ (c : Ssd1677Config) (otp : List ℕ) (b : Buffers) (ok : isAccepted (st
           states = λ i l. getD-tab (length (b .states)) (λ _. panel.firstState (c .optics)) i (pos 0) (in-states i l) ∙ first-is c;
           within = λ i l. level-le (swingS c) (c .optics .«initial_gray») byte;
           pixels = λ i l.
-              getD-tab (length (b .pixels)) (λ _. grayZ (panel.firstState (c .optics)) (panel.swingOf (c .optics))) i 0 (omega (arith, long, in-states i l))
+              getD-tab (length (b .picture .pixels)) (λ _. grayZ (panel.firstState (c .optics)) (panel.swingOf (c .optics))) i 0 (omega (arith, long, in-states i l))
               ∙ ap (λ (s : ℤ). grayZ (panel.firstState (c .optics)) s) (swing-is (c .optics .«full_swing»))
               ∙ ap (λ (x : ℤ). grayZ x (pos (swingS c))) (first-is c);
+          sized = length-tab (length (b .states)) (λ _. panel.firstState (c .optics)) ∙ lengths c otp (lengthsIn b) (passed c otp b ok) .states;
+          pixels-long =
+              length-tab (length (b .picture .pixels)) (λ _. grayZ (panel.firstState (c .optics)) (panel.swingOf (c .optics)))
+              ∙ long
+              ∙ sym (length-tab (length (b .states)) (λ _. panel.firstState (c .optics)));
+          counts = refl;
           generation = refl;
         }
       where

@@ -32,7 +32,7 @@ use Rattle.history.proofs.Moved.{cutAt, cut-moved, pending-moved}
 use Rattle.history.proofs.Once.{onceIn, atOnce, at-once, reaches, activation-shows}
 
 abbrev pub seen : World → Seen
-seen w = seenBy (w .device) (w .states) (w .pixels)
+seen w = seenBy (w .device) (w .states) (w .picture)
 
 -- first some refreshes, then others
 joins : (s : Seen) (c d : Ssd1677Config) (us vs : List Worked) (number : Marks) → d ≡ c → Shows s (over d vs (over c us number)) → Shows s (over c (us ++ vs) number)
@@ -171,7 +171,7 @@ module _ (otp : List ℕ) (w : World) (number : Marks) (h : Shows (seen w) numbe
   writes time byte =
       subst (λ (s : Seen). Shows s (over c (first time) number))
       (sym
-      (ap (behind (g time .states) (g time .pixels))
+      (ap (behind (g time .states) (g time .picture))
       (quiet-data byte (g time .device .bus .current) .still (withRam (g time .device) (w .blackWhite) (w .red) (w .log)))))
       (moves time)
 
@@ -181,7 +181,7 @@ module _ (otp : List ℕ) (w : World) (number : Marks) (h : Shows (seen w) numbe
   reads time =
       subst (λ (s : Seen). Shows s (over c (first time) number))
       (sym
-      (ap (behind (g time .states) (g time .pixels))
+      (ap (behind (g time .states) (g time .picture))
       (quiet-read (w .blackWhite) (w .red) (g time .device .bus .power) .still (withLog (g time .device) (w .log)))))
       (moves time)
 
@@ -195,5 +195,5 @@ shows-taken otp w number h (write-command time command) = commands otp w number 
 shows-taken otp w number h (write-data time byte) = writes otp w number h time byte
 shows-taken otp w number h (read-data time) = reads otp w number h time
 shows-taken otp w number h (set-ambient register) =
-    record { swing = h .swing; some = h .some; ticks = h .ticks; short = h .short; states = h .states; within = h .within; pixels = h .pixels; generation = h .generation }
+    record { swing = h .swing; some = h .some; ticks = h .ticks; short = h .short; states = h .states; within = h .within; pixels = h .pixels; sized = h .sized; pixels-long = h .pixels-long; counts = h .counts; generation = h .generation }
 shows-taken otp w number h take-diagnostics = h

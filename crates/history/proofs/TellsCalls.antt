@@ -32,6 +32,7 @@ use Rattle.res.specs.Line.{lineTaken}
 use Rattle.low.specs.Command.{movedTo, commandTaken}
 use Rattle.high.specs.Data.{dataIn}
 use Rattle.driven.specs.Read.{readIn}
+use Rattle.history.specs.Reckon.{unseen}
 use Rattle.history.proofs.Blind.{plainGlass, plainGlassLog, plainBuffers, plainPlanes}
 use Rattle.history.proofs.Begun.{blind-advanced, blind-activated}
 use Rattle.history.proofs.Tells.{Bundle, Tells, tells-none, tells-more, tells-by, tells-pick, tells-then}
@@ -76,7 +77,7 @@ thenLine = tells-then inGlassLog inGlassLog inGlassLog
 line-log : (n : ℕ) (f : WithLog → WithLog) → TellsLog n f → TellsLine n (on logInGlassLog f)
 line-log n f t =
     record {
-      blind = λ (w : WithGlassLog). ap (λ (k : WithLog). withGlassLog (k .device) [] [] (k .log)) (t .blind (withLog (w .device) (w .log)));
+      blind = λ (w : WithGlassLog). ap (λ (k : WithLog). withGlassLog (k .device) [] unseen (k .log)) (t .blind (withLog (w .device) (w .log)));
       makes = λ (w : WithGlassLog). t .makes (withLog (w .device) (w .log));
       is = λ (w : WithGlassLog). t .is (withLog (w .device) (w .log));
       adds = λ (w : WithGlassLog). t .adds (withLog (w .device) (w .log));
@@ -118,8 +119,8 @@ line-clock : (luts : List ℕ) (time : ℕ) → TellsLine 0 (on glassInGlassLog 
 line-clock luts time =
     tells-none inGlassLog inGlassLog (on glassInGlassLog (advanced luts time))
     (λ (w : WithGlassLog).
-    ap (λ (g : WithGlass). withGlassLog (g .device) (g .states) (g .pixels) []) (blind-advanced luts time (withGlass (w .device) (w .states) (w .pixels))))
-    (λ (w : WithGlassLog). advanced-same luts time (withGlass (w .device) (w .states) (w .pixels)))
+    ap (λ (g : WithGlass). withGlassLog (g .device) (g .states) (g .picture) []) (blind-advanced luts time (withGlass (w .device) (w .states) (w .picture))))
+    (λ (w : WithGlassLog). advanced-same luts time (withGlass (w .device) (w .states) (w .picture)))
 
 pub tells-reset : (luts : List ℕ) (time : ℕ) (low : Bool) → TellsLine 2 (lineTaken luts time low)
 unfolding lineTaken
@@ -142,19 +143,19 @@ tells-read-in luts blackWhite red time =
 abbrev onRam : (WithRam → WithRam) → WithPlanes → WithPlanes
 onRam f w =
     let m = f (withRam (w .device) (w .blackWhite) (w .red) (w .log)) in
-    withPlanes (m .device) (w .states) (w .pixels) (m .blackWhite) (m .red) (m .log)
+    withPlanes (m .device) (w .states) (w .picture) (m .blackWhite) (m .red) (m .log)
 
 abbrev onClock : List ℕ → ℕ → WithPlanes → WithPlanes
 onClock luts time w =
-    let g = advanced luts time (withGlass (w .device) (w .states) (w .pixels)) in
-    withPlanes (g .device) (g .states) (g .pixels) (w .blackWhite) (w .red) (w .log)
+    let g = advanced luts time (withGlass (w .device) (w .states) (w .picture)) in
+    withPlanes (g .device) (g .states) (g .picture) (w .blackWhite) (w .red) (w .log)
 
 planes-data : (byte : ℕ) (c : Current) → Tells inPlanes inPlanes 4 (onRam (λ (m : WithRam). dataTaken byte m c))
 planes-data byte c =
     let t = tells-data byte c in
     record {
       blind = λ (w : WithPlanes).
-          ap (λ (m : WithRam). withPlanes (m .device) [] [] (m .blackWhite) (m .red) (m .log)) (t .blind (withRam (w .device) (w .blackWhite) (w .red) (w .log)));
+          ap (λ (m : WithRam). withPlanes (m .device) [] unseen (m .blackWhite) (m .red) (m .log)) (t .blind (withRam (w .device) (w .blackWhite) (w .red) (w .log)));
       makes = λ (w : WithPlanes). t .makes (withRam (w .device) (w .blackWhite) (w .red) (w .log));
       is = λ (w : WithPlanes). t .is (withRam (w .device) (w .blackWhite) (w .red) (w .log));
       adds = λ (w : WithPlanes). t .adds (withRam (w .device) (w .blackWhite) (w .red) (w .log));
@@ -166,8 +167,8 @@ tells-data-in luts time byte =
     tells-then inPlanes inPlanes inPlanes 0 4 (onClock luts time) (λ (w : WithPlanes). onRam (λ (m : WithRam). dataTaken byte m (w .device .bus .current)) w)
     (tells-none inPlanes inPlanes (onClock luts time)
     (λ (w : WithPlanes).
-    ap (λ (g : WithGlass). withPlanes (g .device) [] [] (w .blackWhite) (w .red) []) (blind-advanced luts time (withGlass (w .device) (w .states) (w .pixels))))
-    (λ (w : WithPlanes). advanced-same luts time (withGlass (w .device) (w .states) (w .pixels))))
+    ap (λ (g : WithGlass). withPlanes (g .device) [] unseen (w .blackWhite) (w .red) []) (blind-advanced luts time (withGlass (w .device) (w .states) (w .picture))))
+    (λ (w : WithPlanes). advanced-same luts time (withGlass (w .device) (w .states) (w .picture))))
     (tells-by inPlanes inPlanes 4 (λ (w : WithPlanes). w .device .bus .current) (λ (c : Current) (w : WithPlanes). onRam (λ (m : WithRam). dataTaken byte m c) w)
     (λ w. refl) (planes-data byte))
 
@@ -181,7 +182,7 @@ thenBuffers = tells-then inBuffers inBuffers inBuffers
 buffers-log : (n : ℕ) (f : WithLog → WithLog) → TellsLog n f → TellsBuffers n (on logInBuffers f)
 buffers-log n f t =
     record {
-      blind = λ (w : WithBuffers). ap (λ (k : WithLog). withBuffers (k .device) [] (w .luts) [] (k .log)) (t .blind (withLog (w .device) (w .log)));
+      blind = λ (w : WithBuffers). ap (λ (k : WithLog). withBuffers (k .device) [] (w .luts) unseen (k .log)) (t .blind (withLog (w .device) (w .log)));
       makes = λ (w : WithBuffers). t .makes (withLog (w .device) (w .log));
       is = λ (w : WithBuffers). t .is (withLog (w .device) (w .log));
       adds = λ (w : WithBuffers). t .adds (withLog (w .device) (w .log));
@@ -195,7 +196,7 @@ tells-activated k =
       blind = blind-activated k;
       makes = λ (w : WithBuffers). t .makes (withLuts (w .device) (w .luts) []);
       is = λ (w : WithBuffers).
-          advanced-same (stagedIn k w .luts) (stagedIn k w .device .now) (withGlass (stagedIn k w .device) (w .states) (w .pixels))
+          advanced-same (stagedIn k w .luts) (stagedIn k w .device .now) (withGlass (stagedIn k w .device) (w .states) (w .picture))
           ∙ t .is (withLuts (w .device) (w .luts) (w .log));
       adds = λ (w : WithBuffers). t .adds (withLuts (w .device) (w .luts) []);
     }
@@ -251,8 +252,8 @@ module _ (k : Lent) (command : ℕ) where
       thenBuffers 0 17 (movedTo time) (λ (w : WithBuffers). begun k command (on logInBuffers closed w) (on logInBuffers closed w .device .bus .power))
       (tells-none inBuffers inBuffers (movedTo time)
       (λ (w : WithBuffers).
-      ap (λ (g : WithGlass). withBuffers (g .device) (g .states) (w .luts) (g .pixels) []) (blind-advanced (w .luts) time (withGlass (w .device) (w .states) (w .pixels))))
-      (λ (w : WithBuffers). advanced-same (w .luts) time (withGlass (w .device) (w .states) (w .pixels))))
+      ap (λ (g : WithGlass). withBuffers (g .device) (g .states) (w .luts) (g .picture) []) (blind-advanced (w .luts) time (withGlass (w .device) (w .states) (w .picture))))
+      (λ (w : WithBuffers). advanced-same (w .luts) time (withGlass (w .device) (w .states) (w .picture))))
       (thenBuffers 1 16 (on logInBuffers closed) (λ (w : WithBuffers). begun k command w (w .device .bus .power)) (buffers-log 1 closed tells-closed)
       (tells-by inBuffers inBuffers 16 (λ (w : WithBuffers). w .device .bus .power) (λ (power : Power) (w : WithBuffers). begun k command w power) (λ w. refl)
       tells-begun))

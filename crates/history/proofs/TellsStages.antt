@@ -18,8 +18,8 @@ use Rattle.diagnostic.specs.Log.{entries}
 use Rattle.otp.specs.Table.{entryBytes}
 use Rattle.stages.specs.declared.Control.{Control}
 use Rattle.stages.specs.declared.Run.{Run}
-use Rattle.stages.specs.Run.{Step, withClock, withAnalog, withFound, withTemperature, withLut, through, noted, waited}
-use Rattle.stages.specs.Stages.{clockOn, analogOn, byExternal, sensed, temperatureLoaded, modeOf, settingIn, entryFor, lutFound, lutLoaded, loaded}
+use Rattle.stages.specs.Run.{Step, withClock, withAnalog, withFound, withTemperature, through, noted, waited}
+use Rattle.stages.specs.Stages.{clockOn, analogOn, byExternal, sensed, temperatureLoaded, modeOf, entryFor, withEntryFor, lutFound, lutLoaded, loaded}
 use Rattle.history.proofs.Stages.{plainStep}
 use Rattle.history.proofs.Tells.{one, reported-one, adds-one, Bundle, Tells, tells-none, tells-more, tells-by, tells-pick, tells-then}
 
@@ -103,7 +103,7 @@ tells-temperature time wanted sensor config =
 tells-found : (time : ℕ) (mode : DisplayMode) (otp : List ℕ) → TellsStep 1 (lutFound time mode otp)
 unfolding lutFound
 tells-found time mode otp =
-    let loads : Step → Step = λ (s : Step). through (withLut (settingIn (entryFor mode otp (s .run .temperature)))) s in
+    let loads : Step → Step = λ (s : Step). through (withEntryFor mode otp (s .run .temperature)) s in
     pickStep 0 1 (λ s. eqb (length (entryFor mode otp (s .run .temperature))) entryBytes) loads
     (λ s. noted time (NoWaveform mode (s .run .temperature)) (through (withFound false) s))
     (λ s. refl)

@@ -13,6 +13,7 @@ use Rattle.waveform.specs.declared.Drive.the-variants.{Lut}
 use Rattle.waveform.specs.declared.Phase.{Phase}
 use Rattle.waveform.specs.Exact.{allDrives, cutDrives, settingPhases}
 use Rattle.config.specs.declared.Ssd1677Config.{Ssd1677Config}
+use Rattle.counts.specs.Counts.{Picture, picture}
 use Rattle.panel.specs.declared.Display.{Display}
 use Rattle.device.specs.declared.Registers.{Registers}
 use Rattle.device.specs.declared.Bus.{Bus}
@@ -82,14 +83,18 @@ deviceOf c =
       journal = record { count = 0; dropped = 0; «reserved_reported» = false };
     }
 
--- the world of such a device: no states, pixels or log
+-- no picture
+abbrev pub unseen : Picture
+unseen = picture [] []
+
+-- the world of such a device: no states, no picture, no log
 abbrev pub bare : Core → World
 bare c =
     record {
       device = deviceOf c;
       states = [];
       luts = c .luts;
-      pixels = [];
+      picture = unseen;
       blackWhite = c .blackWhite;
       red = c .red;
       gates = c .gates;

@@ -1,9 +1,9 @@
 -- Every list of calls that the contracts allow (SCOPE, History). An accepted call is handed what the last accepted one left, at first
 -- what start left, and the table of the start; a refused one may be handed anything, the run's own state and buffers among it.
-use Prim.Native.Nat.{ℕ, _≤_}
+use Prim.Native.Nat.{ℕ}
 use mathlib.Core.Path.{_≡_}
 use mathlib.Core.List.{List, [], _∷_}
-use Rattle.query.specs.Outcome.{Outcome, outcome}
+use Rattle.query.specs.Outcome.{outcome}
 use Rattle.world.specs.World.{World}
 use Rattle.calls.specs.World.{Call, called}
 

@@ -54,9 +54,14 @@ fn mode(numbers: &[u64]) -> DisplayMode {
     DisplayMode::One
 }
 
+// The place that is told beside a part that holds an entry.
 fn found_in(table: &[u8], length: usize, mode: DisplayMode, register: u16) -> FoundEntry {
     if length <= table.len() {
-        return otp::find_entry(&table[0..length], mode, register);
+        let mut place: u8 = 255;
+        let part = otp::find_waveform(&table[0..length], mode, register, &mut place);
+        if 0 < part.len() {
+            return FoundEntry::At(place as usize);
+        }
     }
     FoundEntry::Nothing
 }

@@ -14,7 +14,9 @@ use panel::Panel;
 use scan::PlaneOption;
 use scan::Scan;
 use waveform::Until;
-ghost use Prim.Native.Nat.{_≤_};
+ghost use mathlib.Core.Path.{_≡_};
+ghost use Prim.Native.Nat.{_≤_, _<_, _^_};
+ghost use lib.ListN.{length};
 
 // Pixels of a panel at most.
 const PIXELS: usize = 1024;
@@ -94,7 +96,11 @@ fn once(
     states: &mut [i64],
     luts: &[u8],
     pixels: &mut [u8],
-) -> Panel {
+    counts: &mut [u32],
+) -> Panel
+    requires { ⌜ length (now counts) ≡ 256 ⌝ }
+    requires { ⌜ length (now states) < 2 ^ 32 ⌝ }
+{
     let display = display(numbers);
     let black = take::truth(numbers, 3);
     let periods = take::periods(numbers, 10);
@@ -113,12 +119,43 @@ fn once(
                         states,
                         luts,
                         pixels,
+                        counts,
                     );
                 }
             }
         }
     }
     panel
+}
+
+// Up to two.
+fn twice(
+    panel: Panel,
+    numbers: &[u64],
+    count: u8,
+    states: &mut [i64],
+    luts: &[u8],
+    pixels: &mut [u8],
+    counts: &mut [u32],
+) -> Panel
+    requires { ⌜ length (now counts) ≡ 256 ⌝ }
+    requires { ⌜ length (now states) < 2 ^ 32 ⌝ }
+{
+    if count == 0 {
+        return panel;
+    }
+    let one = once(
+        panel,
+        numbers,
+        &mut states[..],
+        luts,
+        &mut pixels[..],
+        &mut counts[..],
+    );
+    if count == 1 {
+        return one;
+    }
+    once(one, numbers, states, luts, pixels, counts)
 }
 
 // Up to three.
@@ -128,23 +165,38 @@ fn times(
     states: &mut [i64],
     luts: &[u8],
     pixels: &mut [u8],
-) -> Panel {
+    counts: &mut [u32],
+) -> Panel
+    requires { ⌜ length (now counts) ≡ 256 ⌝ }
+    requires { ⌜ length (now states) < 2 ^ 32 ⌝ }
+{
     let count = take::byte(numbers, 6);
-    if count == 0 {
-        return panel;
-    }
-    let one = once(panel, numbers, &mut states[..], luts, &mut pixels[..]);
-    if count == 1 {
-        return one;
-    }
-    let two = once(one, numbers, &mut states[..], luts, &mut pixels[..]);
-    if count == 2 {
+    let two = twice(
+        panel,
+        numbers,
+        count,
+        &mut states[..],
+        luts,
+        &mut pixels[..],
+        &mut counts[..],
+    );
+    if count <= 2 {
         return two;
     }
-    once(two, numbers, &mut states[..], luts, &mut pixels[..])
+    once(two, numbers, states, luts, pixels, counts)
 }
 
-fn refreshed(numbers: &[u64], states: &mut [i64], luts: &mut [u8], pixels: &mut [u8]) -> Panel {
+// A panel at power-on, and the LUTs of its first refresh.
+fn begun(
+    numbers: &[u64],
+    states: &mut [i64],
+    luts: &mut [u8],
+    pixels: &mut [u8],
+    counts: &mut [u32],
+) -> Panel
+    requires { ⌜ length (now counts) ≡ 256 ⌝ }
+    requires { ⌜ length (now pixels) < 2 ^ 32 ⌝ }
+{
     let geometry = geometry(numbers);
     let fresh = panel_start::new(
         geometry,
@@ -152,9 +204,31 @@ fn refreshed(numbers: &[u64], states: &mut [i64], luts: &mut [u8], pixels: &mut 
         &mut states[..],
         &mut luts[..],
         &mut pixels[..],
+        &mut counts[..],
     );
     wiring::filled(&mut luts[..], geometry, scan(), planes::seed(numbers, 9));
-    times(fresh, numbers, &mut states[..], luts, &mut pixels[..])
+    fresh
+}
+
+fn refreshed(
+    numbers: &[u64],
+    states: &mut [i64],
+    luts: &mut [u8],
+    pixels: &mut [u8],
+    counts: &mut [u32],
+) -> Panel
+    requires { ⌜ length (now counts) ≡ 256 ⌝ }
+    requires { ⌜ length (now states) < 2 ^ 32 ⌝ }
+    requires { ⌜ length (now pixels) < 2 ^ 32 ⌝ }
+{
+    let fresh = begun(
+        numbers,
+        &mut states[..],
+        &mut luts[..],
+        &mut pixels[..],
+        &mut counts[..],
+    );
+    times(fresh, numbers, states, luts, pixels, counts)
 }
 
 fn put(
@@ -179,7 +253,11 @@ fn parts(
     states: &mut [i64],
     luts: &mut [u8],
     pixels: &mut [u8],
-) -> usize {
+    counts: &mut [u32],
+) -> usize
+    requires { ⌜ length (now counts) ≡ 256 ⌝ }
+    requires { ⌜ length (now states) < 2 ^ 32 ⌝ }
+{
     let n = wiring::area(take::word(numbers, 1), take::word(numbers, 0));
     if n <= states.len() {
         if n <= luts.len() {
@@ -189,6 +267,7 @@ fn parts(
                     &mut states[0..n],
                     &mut luts[0..n],
                     &mut pixels[0..n],
+                    &mut counts[..],
                 );
                 return put(text, at, panel, &states[0..n], &pixels[0..n]);
             }
@@ -201,8 +280,17 @@ pub fn answer(text: &mut [u8; text::ROOM], at: usize, name: &[u8], numbers: &[u6
     let mut states = [0i64; PIXELS];
     let mut luts = [0u8; PIXELS];
     let mut pixels = [0u8; PIXELS];
+    let mut counts = [0u32; 256];
     if take::asks(name, b"finish", numbers, 138) {
-        return parts(text, at, numbers, &mut states, &mut luts, &mut pixels);
+        return parts(
+            text,
+            at,
+            numbers,
+            &mut states,
+            &mut luts,
+            &mut pixels,
+            &mut counts,
+        );
     }
     at
 }

@@ -23,6 +23,8 @@ bitsOf field =
 unfoldable pub stateBitsOf : ℕ → ℕ
 stateBitsOf field = pick (ltb field 12) 16 (pick (ltb field 14) 8 (pick (ltb field 31) 64 32))
 
--- the longest that each buffer is lent: states, LUTs and pixels, 0 to 2; planes, 3 and 4; gates, 5; log, 6; table, 7
+-- the longest that each buffer is lent: states, LUTs and pixels, 0 to 2; planes, 3 and 4; gates, 5; log, 6; table, 7; counts, 8
 unfoldable pub longestOf : ℕ → ℕ
-longestOf buffer = pick (ltb buffer 3) 652800 (pick (ltb buffer 5) 81601 (pick (ltb buffer 6) 680 (pick (ltb buffer 7) 16385 10000)))
+longestOf buffer =
+    pick (ltb buffer 3) 652800
+    (pick (ltb buffer 5) 81601 (pick (ltb buffer 6) 680 (pick (ltb buffer 7) 16385 (pick (ltb buffer 8) 10000 257))))

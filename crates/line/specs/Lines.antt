@@ -14,7 +14,7 @@ use Rattle.line.specs.Fields.{bitsOf, stateBitsOf, longestOf}
 use Rattle.line.specs.declared.columns.Columns.{Columns}
 use Rattle.line.specs.declared.columns.Columns.the-variants.{Of, NotALine, NotANumber}
 use Rattle.line.specs.declared.Line.{Line}
-use Rattle.line.specs.declared.Line.the-variants.{Event, Query, Dump, Repeat, Ambient, Case, Field, Otp, Start, TakeDiagnostics, Lent, State, Picture, Bad}
+use Rattle.line.specs.declared.Line.the-variants.{Event, Query, Dump, Repeat, Ambient, Case, Field, Otp, Start, TakeDiagnostics, Lent, State, Picture, Counts, Bad}
 
 -- three columns that each hold a number
 unfoldable pub threeOf : Column → Column → Column → Columns
@@ -55,9 +55,10 @@ rows number value =
     row 12 (within value 10000 (within number 256 (Otp value number))) ∷
     row 13 (within number 1 (within value 1 Start)) ∷
     row 14 (within number 1 (within value 1 TakeDiagnostics)) ∷
-    row 15 (within value 8 (within number (longestOf value + 1) (Lent value number))) ∷
+    row 15 (within value 9 (within number (longestOf value + 1) (Lent value number))) ∷
     row 16 (within value 32 (within number (2 ^ stateBitsOf value) (State value number))) ∷
     row 17 (within number 1 (within value 1 Picture)) ∷
+    row 18 (within number 1 (within value 1 Counts)) ∷
     []
 
 -- what three numbers ask for

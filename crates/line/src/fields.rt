@@ -84,7 +84,7 @@ pub fn largest_of_state(field: usize) -> u64
     4294967295
 }
 
-// The longest that a buffer is lent: planes and log by a byte too long, so that this can be refused too.
+// The longest that a buffer is lent: planes and log by a byte too long and the counts by one, so that this can be refused too.
 pub fn longest(buffer: usize) -> u64
     ensures { λ r. ⌜ r ≡ longestOf buffer ⌝ }
 {
@@ -100,5 +100,8 @@ pub fn longest(buffer: usize) -> u64
     if buffer < 7 {
         return 16385;
     }
-    10000
+    if buffer < 8 {
+        return 10000;
+    }
+    257
 }

@@ -35,6 +35,8 @@ pub enum Line {
     State(usize, u64),
     // The panel's picture as text.
     Picture,
+    // The counts of greys, and the entry of the last waveform loaded.
+    Counts,
     // None of these: the run ends.
     Bad,
 }

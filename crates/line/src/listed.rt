@@ -91,9 +91,9 @@ fn otp(byte: u64, place: u64) -> Line
 }
 
 fn lent(length: u64, buffer: u64) -> Line
-    ensures { λ r. ⌜ r ≡ within buffer 8 (within length (longestOf buffer + 1) (Line.Lent buffer length)) ⌝ }
+    ensures { λ r. ⌜ r ≡ within buffer 9 (within length (longestOf buffer + 1) (Line.Lent buffer length)) ⌝ }
 {
-    if buffer < 8 {
+    if buffer < 9 {
         let place = buffer as usize;
         let most = fields::longest(place);
         if length <= most {
@@ -139,6 +139,7 @@ pub(crate) fn listed(number: u64, kind: u64, value: u64) -> Line
         15 => lent(number, value),
         16 => state(number, value),
         17 => zero(number, zero(value, Line::Picture)),
+        18 => zero(number, zero(value, Line::Counts)),
         _ => Line::Bad,
     }
 }

@@ -5,6 +5,7 @@ ghost use lib.Dec.{eqb, ltb};
 ghost use Prim.Native.Nat.{_/_, _%_};
 ghost use Rattle.listed.specs.Listed.{driverListed, sourcesListed, temperatureListed, planeOption, optionsListed, hasCode3, lutListed, windowListed, listed};
 use device::Registers;
+use numbers::low_nibble;
 use ram::RAM_GATES;
 use ram::RAM_SOURCES;
 use voltage::gate_code_is_listed;
@@ -58,7 +59,7 @@ fn temperature(index: u16, byte: u8) -> bool
     if index == 0 {
         return true;
     }
-    byte & 0x0F == 0
+    low_nibble(byte) == 0
 }
 
 // A nibble of 0x21.
@@ -73,7 +74,7 @@ fn update_control_1(index: u16, byte: u8) -> bool
     ensures { λ r. ⌜ r ≡ optionsListed index byte ⌝ }
 {
     if index == 0 {
-        return plane_option(byte >> 4) & plane_option(byte & 0x0F);
+        return plane_option(byte >> 4) & plane_option(low_nibble(byte));
     }
     true
 }

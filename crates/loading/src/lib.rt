@@ -9,6 +9,7 @@ use config::ExternalSensor;
 use config::Ssd1677Config;
 use diagnostic::DiagnosticKind;
 use diagnostic::Stage;
+use otp::ENTRY_BYTES;
 use stages::Control;
 use stages::Run;
 use stages::mode_of;
@@ -109,21 +110,23 @@ fn setting_of(entry: &[u8]) -> [u8; 112]
     ensures { λ r. ⌜ r ≡ settingIn (now (entry .entry)) ⌝ }
 {
     let mut lut = [0u8; 112];
-    bytes::copy(&entry[6..118], &mut lut);
+    bytes::copy(&entry[6..ENTRY_BYTES], &mut lut);
     lut
 }
 
-// The waveform of the mode and the temperature register, or 35.
+// The waveform of the mode and the temperature register, with its place in the table, or 35.
 fn load_lut(run: Run, log: &mut [u8], time: u64, mode: DisplayMode, otp: &[u8]) -> Run
     requires { ⌜ length (now log) ≡ 16384 ⌝ }
     ensures { λ r. ⌜ step r (now (log .exit)) ≡ lutFound time mode (now (otp .entry)) (step run (now (log .entry))) ⌝ }
 {
     let temperature = run.temperature;
-    let entry = otp::find_waveform(otp, mode, temperature);
+    let mut place: u8 = 255;
+    let entry = otp::find_waveform(otp, mode, temperature, &mut place);
     let mut next = run;
-    if entry.len() == 118 {
+    if entry.len() == ENTRY_BYTES {
         let lut = setting_of(entry);
         next.lut = lut;
+        next.waveform = place;
         return next;
     }
     next.waveform_found = false;

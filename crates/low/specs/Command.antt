@@ -22,6 +22,6 @@ unfoldable pub commandWritten : Lent → ℕ → ℕ → WithBuffers → Outcome
 commandWritten k time command w =
     unless
     (guardedWithTable (w .device)
-    (allLent (length (w .states)) (length (w .luts)) (length (w .pixels)) (length (w .log)) (length (k .blackWhite)) (length (k .red)) (length (k .gates)))
+    (allLent (length (w .states)) (length (w .luts)) (length (w .picture .pixels)) (length (w .picture .counts)) (length (w .log)) (length (k .blackWhite)) (length (k .red)) (length (k .gates)))
     (k .otp))
     w (commandTaken k time command w)

@@ -3,7 +3,7 @@ use Prim.Native.Nat.{ℕ, _≤_, _<_}
 use mathlib.Core.Path.{_≡_}
 use mathlib.Core.Bool.{Bool, true, false, _&&_, not}
 use lib.Dec.{leb}
-use borrow.Author.Tests.{lt-ltb, le-ltb, le-leb, lt-leb}
+use borrow.Author.Tests.{lt-ltb, le-ltb}
 use Rattle.device.specs.declared.Bus.{Bus}
 use Rattle.device.specs.declared.Deadline.{Deadline}
 use Rattle.device.specs.declared.Deadline.the-variants.{Never, At}

@@ -1,6 +1,6 @@
 -- At 1,000,000,000 cycles a second a cycle is a nanosecond, and moments, spans and BUSY are what they were before there was a frequency
 -- (#101). Assumes nothing.
-use mathlib.Core.Path.{_≡_, refl, ap}
+use mathlib.Core.Path.{_≡_}
 use Prim.Native.Nat.{ℕ, _+_, _-_, _≤_, min}
 use native.Mathlib.Omega.{arith}
 use lib.Dec.{ltb}

@@ -21,7 +21,7 @@ pub fn ns_between(frequency: u32, from: u64, to: u64) -> u64
 }
 
 // Whether the end of BUSY has come; there may be none.
-pub fn has_come(busy_until: Deadline, moment: u64) -> bool
+fn has_come(busy_until: Deadline, moment: u64) -> bool
     ensures { λ r. ⌜ r ≡ hasCome «busy_until» moment ⌝ }
 {
     match busy_until {

@@ -2,16 +2,16 @@
 -- Assumes nothing.
 use mathlib.Core.Path.{_≡_, refl, sym, ap, subst, _∙_}
 use mathlib.Core.Bool.{Bool, true, false, not, cond}
-use Prim.Native.Nat.{ℕ, _+_, _^_, _≤_, _<_, min}
+use Prim.Native.Nat.{ℕ, _^_, _≤_, _<_, min}
 use native.Mathlib.Omega.{arith}
 use lib.Dec.{leb}
 use borrow.Author.Tests.{leb-true, leb-false}
-use lib.IntN.{ℤ, pos, negsuc, negℤ, _+ℤ_, _-ℤ_, _*ℤ_}
-use lib.Signed.{mag, leZ, ltZ, _≤ℤ_, _<ℤ_}
+use lib.IntN.{ℤ, pos, negℤ, _+ℤ_}
+use lib.Signed.{mag, ltZ, _≤ℤ_}
 use mir.Syntax.{w64}
 use mir.Val.{SFits}
 use Rattle.numbers.specs.Saturation.{largest, clampZ, satZ, least, most}
-use Rattle.numbers.proofs.Lin.{Le, Lt, eq-in, add-out, neg-out, whole, ranged, back, got, rd, is-lt, not-lt, lt-true, lt-false}
+use Rattle.numbers.proofs.Lin.{Le, Lt, eq-in, add-out, neg-out, whole, ranged, back, got, rd, is-lt, not-lt}
 
 pub clamp-low : (x lo hi : ℤ) → Lt x lo → clampZ x lo hi ≡ lo
 unfolding clampZ

@@ -3,8 +3,8 @@
 --     Painted         what it knows then; painted-none, painted-more and painted-all are its beginning, its turn and its end
 -- Assumes nothing.
 use mathlib.Core.Path.{_≡_, refl, sym, ap, subst, _∙_}
-use mathlib.Core.List.{List, [], _∷_, _++_, append-nil}
-use Prim.Native.Nat.{ℕ, zero, suc, _+_, _-_, _<_, _≤_, zero-le, suc-le-suc}
+use mathlib.Core.List.{List, [], _∷_, _++_}
+use Prim.Native.Nat.{ℕ, zero, suc, _+_, _<_, _≤_, zero-le, suc-le-suc}
 use native.Mathlib.Nat.{not-suc-le-zero, le-of-suc-le-suc}
 use native.Mathlib.Numerals.{add-one}
 use native.Mathlib.Omega.{arith}

@@ -1,13 +1,14 @@
 -- What `foundEntry` finds: the last covering entry of the mode, by the low twelve bits of the register, and at −2048 an entry that begins there. Assumes nothing.
 use mathlib.Core.Path.{_≡_, refl, sym, ap, _∙_}
-use mathlib.Core.Bool.{Bool, true, false, _&&_, _||_}
+use mathlib.Core.Bool.{Bool, true, false, _&&_, _||_, not}
 use mathlib.Core.List.{List}
 use Prim.Native.Nat.{ℕ, _%_, _<_}
 use native.Mathlib.Omega.{arith}
-use lib.Dec.{eqb}
+use lib.Dec.{eqb, ltb}
 use lib.IntN.{negsuc}
+use lib.ListN.{length}
 use lib.Signed.{ltZ, leZ}
-use borrow.Author.Tests.{eqb-true, eqb-false}
+use borrow.Author.Tests.{eqb-true, eqb-false, ltb-false}
 use Rattle.numbers.specs.Choice.{pick}
 use Rattle.numbers.proofs.Lin.{whole, is-le, not-le, not-lt}
 use Rattle.config.specs.declared.DisplayMode.{DisplayMode}
@@ -16,8 +17,8 @@ use Rattle.config.specs.Temperature.{sixteenthsOf}
 use Rattle.config.proofs.Registers.{ranged, low-bits, above-coldest}
 use Rattle.otp.specs.declared.FoundEntry.{FoundEntry}
 use Rattle.otp.specs.declared.FoundEntry.the-variants.{At, Nothing}
-use Rattle.otp.specs.Table.{entryCount, modeAt, lowerAt, upperAt, badTable}
-use Rattle.otp.specs.Search.{lastOf, Last}
+use Rattle.otp.specs.Table.{entryBytes, mostEntries, entryCount, modeAt, lowerAt, upperAt, badEntry, badTable}
+use Rattle.otp.specs.Search.{anyOf, lastOf, Last}
 use Rattle.otp.specs.Waveform.{isColdest, covers, foundEntry}
 use Rattle.otp.proofs.Search.{last-is, none-is, last-same}
 
@@ -39,6 +40,18 @@ module _ (otp : List ℕ) (mode : DisplayMode) (register : ℕ) where
       by : (t : Bool) → pick t Nothing (lastOf (covers otp mode register) (entryCount otp)) ≡ At entry → Last (covers otp mode register) (entryCount otp) entry
       by true f = absurd (let z : _≡_ {A = ℕ} 0 1 = cc in omega arith)
       by false f = last-is (covers otp mode register) (entryCount otp) entry f
+
+  -- and its number lies below 64, the most entries of a table that 12 lets pass
+  pub found-few : (entry : ℕ) → foundEntry otp mode register ≡ At entry → entry < mostEntries
+  unfolding foundEntry badTable
+  found-few entry e = by (not (eqb (length otp % entryBytes) 0)) (ltb mostEntries (entryCount otp)) refl e (found-is entry e .within)
+    where
+      by : (a b : Bool) → ltb mostEntries (entryCount otp) ≡ b
+          → pick (a || b || anyOf (badEntry otp) (entryCount otp)) Nothing (lastOf (covers otp mode register) (entryCount otp)) ≡ At entry
+          → entry < entryCount otp → entry < mostEntries
+      by true b h f l = absurd (let z : _≡_ {A = ℕ} 0 1 = cc in omega arith)
+      by false true h f l = absurd (let z : _≡_ {A = ℕ} 0 1 = cc in omega arith)
+      by false false h f l = let few = ltb-false mostEntries (entryCount otp) h in omega arith
 
   -- where none is found in a table that 12 lets pass, none covers the temperature
   pub none-found : badTable otp ≡ false → foundEntry otp mode register ≡ Nothing → (entry : ℕ) → entry < entryCount otp → covers otp mode register entry ≡ false

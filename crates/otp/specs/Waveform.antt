@@ -36,3 +36,8 @@ foundEntry otp mode register = pick (badTable otp) Nothing (lastOf (covers otp m
 abbrev pub partOf : List ℕ → FoundEntry → List ℕ
 partOf otp (At entry) = take entryBytes (drop (entryBytes * entry) otp)
 partOf otp Nothing = []
+
+-- the number of an entry, and 255 for none (SCOPE, OTP table; #108)
+abbrev pub placeOf : FoundEntry → ℕ
+placeOf (At entry) = entry
+placeOf Nothing = 255

@@ -8,7 +8,7 @@ ghost use Rattle.config.specs.Answer.{firstOf, answerOf};
 ghost use Rattle.config.specs.Temperature.{sixteenthsOf};
 ghost use Rattle.otp.specs.Table.{entryCount, badEntry, badTable, tableTest};
 ghost use Rattle.otp.specs.Search.{anyOf, lastOf};
-ghost use Rattle.otp.specs.Waveform.{isColdest, reaches, covers, foundEntry, partOf};
+ghost use Rattle.otp.specs.Waveform.{isColdest, reaches, covers, foundEntry, partOf, placeOf};
 use config::ConfigError;
 use config::DisplayMode;
 use config::Temperature;
@@ -127,7 +127,7 @@ fn last_covering(otp: &[u8], mode: DisplayMode, register: u16) -> FoundEntry
 
 // The waveform the controller loads for the mode at the temperature: the last setting of that mode whose range holds it ("The last match
 // will be selected", datasheet §6.9).
-pub fn find_entry(otp: &[u8], mode: DisplayMode, register: u16) -> FoundEntry
+fn find_entry(otp: &[u8], mode: DisplayMode, register: u16) -> FoundEntry
     ensures { λ r. ⌜ r ≡ foundEntry (now (otp .entry)) mode register ⌝ }
 {
     if is_bad_table(otp) {
@@ -136,13 +136,23 @@ pub fn find_entry(otp: &[u8], mode: DisplayMode, register: u16) -> FoundEntry
     last_covering(otp, mode, register)
 }
 
-// The same, as that part of the table; with no such entry an empty part.
-pub fn find_waveform(otp: &[u8], mode: DisplayMode, register: u16) -> &[u8]
-    ensures { λ r. ⌜ now r ≡ partOf (now (otp .entry)) (foundEntry (now (otp .entry)) mode register) ⌝ }
+// In place of an entry's number where there is none; no entry has it, for 12 refuses more than 64 of them (#108).
+const NO_PLACE: u8 = 255;
+
+// The last entry that covers, as its part of the table, with the entry's number left in `place`; with no such entry an empty part and 255.
+pub fn find_waveform<'a>(
+    otp: &'a [u8],
+    mode: DisplayMode,
+    register: u16,
+    place: &mut u8,
+) -> &'a [u8]
+    ensures { λ r. ⌜ (now r ≡ partOf (now (otp .entry)) (foundEntry (now (otp .entry)) mode register)) × (now (place .exit) ≡ placeOf (foundEntry (now (otp .entry)) mode register)) ⌝ }
 {
     let FoundEntry::At(entry) = find_entry(otp, mode, register) else {
+        *place = NO_PLACE;
         return &otp[0..0];
     };
+    *place = entry as u8;
     let at = ENTRY_BYTES * entry;
     let end = at + ENTRY_BYTES;
     &otp[at..end]

@@ -2,7 +2,7 @@
 use mathlib.Core.Path.{_≡_}
 use mathlib.Core.Bool.{Bool, true, false}
 use mathlib.Core.List.{List}
-use Prim.Native.Nat.{ℕ, _+_, _<_, min}
+use Prim.Native.Nat.{ℕ, _+_, _^_, _<_, min}
 use lib.IntN.{ℤ, pos}
 use lib.Signed.{_≤ℤ_}
 use lib.ListN.{length, getD}
@@ -16,6 +16,7 @@ use Rattle.waveform.specs.declared.Until.{Until}
 use Rattle.waveform.specs.declared.Until.the-variants.{Whole, Cut}
 use Rattle.waveform.specs.Setting.{waveformOf}
 use Rattle.waveform.specs.Walks.{transferOf}
+use Rattle.counts.specs.Counts.{countsOf, Picture, picture}
 use Rattle.panel.specs.declared.Border.{Border}
 use Rattle.panel.specs.declared.Border.the-variants.{Driven, Left}
 use Rattle.panel.specs.declared.Display.{Display}
@@ -23,15 +24,15 @@ use Rattle.panel.specs.declared.Panel.{Panel}
 use Rattle.panel.specs.Border.{borderDrive}
 use Rattle.panel.specs.Pixels.{statesBy, grays}
 
--- the panel with the lent states and pixels
+-- the panel with the lent states and the picture
 pub record Glass : Type 0 where
   pub panel : Panel
   pub states : List ℤ
-  pub pixels : List ℕ
+  pub picture : Picture
 
 -- the three as one
-abbrev pub glass : Panel → List ℤ → List ℕ → Glass
-glass p s x = record { panel = p; states = s; pixels = x }
+abbrev pub glass : Panel → List ℤ → Picture → Glass
+glass p s x = record { panel = p; states = s; picture = x }
 
 -- the end of a display: whether positive drives black, the period of each frame-rate code, when, and how much of the display counts
 pub record Ending : Type 0 where
@@ -45,10 +46,12 @@ pub record Ending : Type 0 where
 abbrev pub ending : Display → Bool → List ℕ → ℕ → Until → Ending
 ending d black periods at until = record { display = d; black = black; periods = periods; at = at; until = until }
 
--- what the callers of `finish` have: buffers of one length, a swing from 1 on, and frames that last
-pub record Finishable (periods : List ℕ) (swing : ℤ) (states : List ℤ) (luts pixels : List ℕ) : Type 0 where
+-- what the callers of `finish` have: buffers of one length, so few that 32 bits count them, 256 counts, a swing from 1 on, and frames that last
+pub record Finishable (periods : List ℕ) (swing : ℤ) (states : List ℤ) (luts pixels counts : List ℕ) : Type 0 where
   pub luts-long : length luts ≡ length states
   pub pixels-long : length pixels ≡ length states
+  pub counts-long : length counts ≡ 256
+  pub few : length states < 2 ^ 32
   pub some : pos 1 ≤ℤ swing
   pub lasting : (code : ℕ) → code < 16 → 0 < getD periods code 0
 
@@ -92,12 +95,13 @@ published d at until p =
 abbrev pub withBorder : Panel → ℤ → Panel
 withBorder p state = record { swing = p .swing; border = state; image = p .image }
 
--- all of it: the driven states moved, all pixels refilled, the border driven or left, the image published
+-- all of it: the driven states moved, all pixels refilled and counted, the border driven or left, the image published
 unfoldable pub finished : Ending → List ℕ → Glass → Glass
 finished e luts g =
     let p = g .panel in
     let transfer = transferBy e (p .swing) in
     let states = statesBy (λ lut. transfer (Lut lut)) luts (g .states) in
+    let px = grays (p .swing) states in
     glass (published (e .display) (e .at) (e .until) (withBorder p (borderBy transfer (borderDrive (e .display .border)) (p .border))))
     states
-    (grays (p .swing) states)
+    (picture px (countsOf px))

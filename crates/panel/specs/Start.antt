@@ -9,6 +9,7 @@ use Rattle.glass.specs.declared.Optics.{Optics}
 use Rattle.glass.specs.declared.RefreshKind.the-variants.{PowerOn}
 use Rattle.glass.specs.Greys.{levelZ, grayZ}
 use Rattle.config.specs.declared.PanelGeometry.{PanelGeometry}
+use Rattle.counts.specs.Counts.{countsOf, Picture, picture}
 use Rattle.panel.specs.declared.Panel.{Panel}
 use Rattle.panel.specs.Pixels.{undriven}
 
@@ -43,16 +44,18 @@ pub record Fresh : Type 0 where
   pub panel : Panel
   pub states : List ℤ
   pub luts : List ℕ
-  pub pixels : List ℕ
+  pub picture : Picture
 
 -- the four as one
-abbrev pub fresh : Panel → List ℤ → List ℕ → List ℕ → Fresh
-fresh p s l x = record { panel = p; states = s; luts = l; pixels = x }
+abbrev pub fresh : Panel → List ℤ → List ℕ → Picture → Fresh
+fresh p s l x = record { panel = p; states = s; luts = l; picture = x }
 
--- every state that of the initial grey, no pixel driven, every pixel the grey of its state; buffers of so many states, LUTs and pixels
+-- every state that of the initial grey, no pixel driven, every pixel the grey of its state, and counted; buffers of so many states, LUTs and
+-- pixels
 unfoldable pub powerOn : PanelGeometry → Optics → ℕ → ℕ → ℕ → Fresh
 powerOn g o states luts pixels =
+    let px = tab pixels (λ _. grayZ (firstState o) (swingOf o)) in
     fresh (panelAtPowerOn g o)
     (tab states (λ _. firstState o))
     (tab luts (λ _. undriven))
-    (tab pixels (λ _. grayZ (firstState o) (swingOf o)))
+    (picture px (countsOf px))

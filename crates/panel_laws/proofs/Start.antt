@@ -11,6 +11,7 @@ use Rattle.numbers.proofs.Lin.{le-in, whole}
 use Rattle.glass.specs.declared.Optics.{Optics}
 use Rattle.glass.specs.Greys.{grayZ}
 use Rattle.config.specs.declared.PanelGeometry.{PanelGeometry}
+use Rattle.counts.specs.Counts.{countsOf, picture}
 use Rattle.panel.specs.declared.Panel.{Panel}
 use Rattle.panel.specs.Start.{panelAtPowerOn, fresh, powerOn}
 
@@ -18,7 +19,7 @@ use Rattle.panel.specs.Start.{panelAtPowerOn, fresh, powerOn}
 pub some-swing : (n : ℕ) → 1 ≤ n → pos 1 ≤ℤ satZ (pos n)
 some-swing n h = le-in _ _ (above (pos n) least most (pos 1) (omega whole) (omega whole))
 
-pub filled : (g : PanelGeometry) (o : Optics) (n l m : ℕ) (p : Panel) (border swing : ℤ) (gray : ℕ) (states : List ℤ) (luts pixels : List ℕ)
+pub filled : (g : PanelGeometry) (o : Optics) (n l m : ℕ) (p : Panel) (border swing : ℤ) (gray : ℕ) (states : List ℤ) (luts pixels counts : List ℕ)
     → p ≡ panelAtPowerOn g o
     → border ≡ p .border
     → swing ≡ p .swing
@@ -26,6 +27,7 @@ pub filled : (g : PanelGeometry) (o : Optics) (n l m : ℕ) (p : Panel) (border 
     → states ≡ tab n (λ _. border)
     → luts ≡ tab l (λ _. 255)
     → pixels ≡ tab m (λ _. gray)
-    → fresh p states luts pixels ≡ powerOn g o n l m
+    → counts ≡ countsOf (tab m (λ _. gray))
+    → fresh p states luts (picture pixels counts) ≡ powerOn g o n l m
 unfolding powerOn panelAtPowerOn
-filled g o n l m p border swing gray states luts pixels e₁ e₂ e₃ e₄ e₅ e₆ e₇ = rw (e₇, e₆, e₅, e₄, e₃, e₂, e₁)
+filled g o n l m p border swing gray states luts pixels counts e₁ e₂ e₃ e₄ e₅ e₆ e₇ e₈ = rw (e₈, e₇, e₆, e₅, e₄, e₃, e₂, e₁)

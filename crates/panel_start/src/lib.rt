@@ -6,9 +6,10 @@ use glass::RefreshKind;
 use panel::Panel;
 use panel::UNDRIVEN;
 ghost use mathlib.Core.Path.{_≡_};
-ghost use Prim.Native.Nat.{_≤_};
+ghost use Prim.Native.Nat.{_≤_, _<_, _^_};
 ghost use lib.ListN.{length};
 ghost use Rattle.numbers.specs.Lists.{tab};
+ghost use Rattle.counts.specs.Counts.{picture};
 ghost use Rattle.panel.specs.Start.{fresh, panelAtPowerOn, powerOn};
 
 fn at_power_on(geometry: PanelGeometry, optics: Optics) -> Panel
@@ -42,21 +43,25 @@ fn fill_states(states: &mut [i64], state: i64)
     }
 }
 
-// The glass at power-on, and its buffers, however long.
+// The glass at power-on, and its buffers: 256 counts, and so few pixels that 32 bits count them.
 pub fn new(
     geometry: PanelGeometry,
     optics: Optics,
     states: &mut [i64],
     luts: &mut [u8],
     pixels: &mut [u8],
+    counts: &mut [u32],
 ) -> Panel
     requires { ⌜ 1 ≤ optics .«full_swing» ⌝ }
-    ensures { λ r. ⌜ fresh r (now (states .exit)) (now (luts .exit)) (now (pixels .exit)) ≡ powerOn geometry optics (length (now (states .entry))) (length (now (luts .entry))) (length (now (pixels .entry))) ⌝ }
+    requires { ⌜ length (now counts) ≡ 256 ⌝ }
+    requires { ⌜ length (now pixels) < 2 ^ 32 ⌝ }
+    ensures { λ r. ⌜ fresh r (now (states .exit)) (now (luts .exit)) (picture (now (pixels .exit)) (now (counts .exit))) ≡ powerOn geometry optics (length (now (states .entry))) (length (now (luts .entry))) (length (now (pixels .entry))) ⌝ }
 {
     let panel = at_power_on(geometry, optics);
     let gray = glass::gray(panel.border, panel.swing);
     fill_states(&mut states[..], panel.border);
     ram::fill(&mut luts[..], UNDRIVEN);
+    counts::fill(&mut counts[..], gray, pixels.len() as u32);
     ram::fill(&mut pixels[..], gray);
     panel
 }

@@ -1,6 +1,6 @@
 -- What a parameter byte leaves (`KeptRam` of acts): configuration, clock, glass and display, the current command, the lengths, and registers and
 -- log within the bounds of 13. Assumes nothing.
-use Prim.Native.Nat.{ℕ, _+_, _*_, _/_, _≤_}
+use Prim.Native.Nat.{ℕ, _≤_}
 use native.Mathlib.Omega.{arith}
 use mathlib.Core.Path.{_≡_, refl}
 use mathlib.Core.Bool.{Bool, true, false}

@@ -83,15 +83,15 @@ module _ (w : World) (r : Reckoning) (p : PanelGeometry) (agrees : Agrees w r) (
             && (le-leb 1 (image .height) (omega (arith, high, fine .height)) i && le-leb (image .height) 680 (omega (arith, high, fine .gates)) i);
         full = sized .pixels-long ∙ sym area;
         greys = λ y x k l.
-            getD-append-add (pgmHeader (image .width) (image .height)) (w .pixels) (pixelAt (image .width) y x) 0
+            getD-append-add (pgmHeader (image .width) (image .height)) (w .picture .pixels) (pixelAt (image .width) y x) 0
             ∙ agrees .pixels (pixelAt (image .width) y x)
             (omega (arith, place-within (image .width) (image .height) y x k l, sized .states-long, area));
       }
 
 -- so the file is written, wherever there is room for it
 pub panel-written : (w : World) (r : Reckoning) → Pictured w r → (out : List ℕ) → length (panelFile w) ≤ length out
-    → fileWritten (imageOf w .width) (imageOf w .height) (w .pixels) out ≡ answered (fileOf (length (panelFile w))) (overFront (panelFile w) out)
-panel-written w r pictured out room = file-written (imageOf w .width) (imageOf w .height) (w .pixels) out (pictured .in-range) (pictured .full) room
+    → fileWritten (imageOf w .width) (imageOf w .height) (w .picture .pixels) out ≡ answered (fileOf (length (panelFile w))) (overFront (panelFile w) out)
+panel-written w r pictured out room = file-written (imageOf w .width) (imageOf w .height) (w .picture .pixels) out (pictured .in-range) (pictured .full) room
 
 -- ---- the theorem: after every list of calls from every accepted start, as `history` has it
 pub panel-file : (c : Ssd1677Config) (otp : List ℕ) (b : Buffers) → c .optics .«initial_gray» ≤ 255 → isAccepted (started c otp b .answer) ≡ true

@@ -57,16 +57,16 @@ module _ (p : PanelGeometry) where
   SizedBy d states pixels = Sized p (d .config .panel) (d .panel .image) states pixels
 
   abbrev SizedGlass : WithGlass → Type 0
-  SizedGlass g = SizedBy (g .device) (g .states) (g .pixels)
+  SizedGlass g = SizedBy (g .device) (g .states) (g .picture .pixels)
 
   abbrev SizedLog : WithGlassLog → Type 0
-  SizedLog w = SizedBy (w .device) (w .states) (w .pixels)
+  SizedLog w = SizedBy (w .device) (w .states) (w .picture .pixels)
 
   abbrev SizedBuffers : WithBuffers → Type 0
-  SizedBuffers w = SizedBy (w .device) (w .states) (w .pixels)
+  SizedBuffers w = SizedBy (w .device) (w .states) (w .picture .pixels)
 
   abbrev pub SizedWorld : World → Type 0
-  SizedWorld w = SizedBy (w .device) (w .states) (w .pixels)
+  SizedWorld w = SizedBy (w .device) (w .states) (w .picture .pixels)
 
   -- ---- the end of a display
   finish-sized : (luts : List ℕ) (at : ℕ) (until : Until) (g : WithGlass) → SizedGlass g
@@ -117,12 +117,12 @@ module _ (p : PanelGeometry) where
   -- ---- a command byte
   activated-sized : (k : Lent) (w : WithBuffers) → SizedBuffers w → SizedBuffers (activated k w)
   unfolding activated staged runSettled
-  activated-sized k w h = advance-sized (stagedIn k w .luts) (stagedIn k w .device .now) (withGlass (stagedIn k w .device) (w .states) (w .pixels)) h
+  activated-sized k w h = advance-sized (stagedIn k w .luts) (stagedIn k w .device .now) (withGlass (stagedIn k w .device) (w .states) (w .picture)) h
 
   begun-sized : (k : Lent) (command : ℕ) (w : WithBuffers) (power : Power) → SizedBuffers w → SizedBuffers (begun k command w power)
   unfolding logged commandMade restored
   begun-sized k command w power h =
-      begun-keeps SizedBuffers (λ kind w h. h) (λ command kind w e h. h) (λ w h. h) (λ ns w h. h) activated-sized k command w h power
+      begun-keeps k SizedBuffers (λ kind w h. h) (λ command kind w e h. h) (λ w h. h) (λ ns w h. h) (activated-sized k) command w h power
 
   -- ---- every call
   module _ (otp : List ℕ) (w : World) (h : SizedWorld w) where
@@ -143,11 +143,11 @@ module _ (p : PanelGeometry) where
         let a = on logInBuffers closed (movedTo time (buffersInWorld .get w)) in
         begun-sized (lentOf otp w) command a (a .device .bus .power) (moves time)
     sized-taken (write-data time byte) =
-        subst (λ (s : Seen). Sized p (s .config .panel) (s .panel .image) (g time .states) (g time .pixels))
+        subst (λ (s : Seen). Sized p (s .config .panel) (s .panel .image) (g time .states) (g time .picture .pixels))
         (sym (quiet-data byte (g time .device .bus .current) .still (withRam (g time .device) (w .blackWhite) (w .red) (w .log))))
         (moves time)
     sized-taken (read-data time) =
-        subst (λ (s : Seen). Sized p (s .config .panel) (s .panel .image) (g time .states) (g time .pixels))
+        subst (λ (s : Seen). Sized p (s .config .panel) (s .panel .image) (g time .states) (g time .picture .pixels))
         (sym (quiet-read (w .blackWhite) (w .red) (g time .device .bus .power) .still (withLog (g time .device) (w .log))))
         (moves time)
     sized-taken (set-ambient register) = h

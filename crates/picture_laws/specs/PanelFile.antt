@@ -22,7 +22,7 @@ pixelAt width y x = y * width + x
 
 -- the lent pixels as a file
 abbrev pub panelFile : World → List ℕ
-panelFile w = pgmFile (imageOf w .width) (imageOf w .height) (w .pixels)
+panelFile w = pgmFile (imageOf w .width) (imageOf w .height) (w .picture .pixels)
 
 -- its grey byte in row y and column x
 abbrev pub greyByte : World → ℕ → ℕ → ℕ
@@ -34,6 +34,6 @@ pub record Pictured (w : World) (r : Reckoning) : Type 0 where
   pub wide : imageOf w .width ≡ w .device .config .panel .width
   pub high : imageOf w .height ≡ w .device .config .panel .height
   pub in-range : inRange (imageOf w .width) (imageOf w .height) ≡ true
-  pub full : length (w .pixels) ≡ imageOf w .width * imageOf w .height
+  pub full : length (w .picture .pixels) ≡ imageOf w .width * imageOf w .height
   pub greys : (y x : ℕ) → y < imageOf w .height → x < imageOf w .width
       → greyByte w y x ≡ grayZ (pos (r .number (pixelAt (imageOf w .width) y x))) (pos (swingS (w .device .config)))

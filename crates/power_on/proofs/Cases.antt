@@ -1,16 +1,15 @@
 -- What each return of the code hands over, over plain variables. Assumes nothing.
 use Prim.Native.Nat.{ℕ}
-use mathlib.Core.Path.{_≡_, refl, sym, ap, _∙_}
+use mathlib.Core.Path.{_≡_, ap, _∙_}
 use mathlib.Core.Bool.{Bool, true, false, not}
 use mathlib.Core.List.{List, [], _∷_}
 use lib.ListN.{length}
-use Rattle.numbers.specs.Choice.{pick}
 use Rattle.numbers.specs.Lists.{tab}
 use Rattle.config.specs.declared.ConfigError.{ConfigError}
 use Rattle.config.specs.declared.ConfigError.the-variants.{Accepted}
 use Rattle.config.specs.declared.PanelGeometry.{PanelGeometry}
 use Rattle.config.specs.declared.Ssd1677Config.{Ssd1677Config}
-use Rattle.config.specs.Answer.{Answer, accepted, refused, isAccepted, firstOf, answerOf}
+use Rattle.config.specs.Answer.{Answer, accepted, refused, isAccepted, Test, firstOf, answerOf}
 use Rattle.config.proofs.Answers.{stops, goes-on}
 use Rattle.otp.specs.Table.{startTests}
 use Rattle.gates.specs.Gates.{gatesStored}
@@ -26,38 +25,53 @@ use Rattle.device.specs.declared.Deadline.the-variants.{Never}
 use Rattle.device.specs.declared.Ssd1677.{Ssd1677}
 use Rattle.registers.specs.Reset.{resetOf}
 use Rattle.guard_lengths.specs.declared.Lengths.{Lengths}
-use Rattle.guard_lengths.specs.Lengths.{lengthsFit}
+use Rattle.guard_lengths.specs.Lengths.{lengthsFit, countsFit}
 use Rattle.power_on.specs.declared.StartError.{StartError}
-use Rattle.power_on.specs.declared.StartError.the-variants.{Parameters, Buffer}
-use Rattle.power_on.specs.Start.{bufferTest, allTests, startAnswerOf, noDisplay, chipWith, poweredOn, unstarted, Buffers, buffers, lengthsIn, Clean, clean, cleared, filled, Powered, powered, poweredUp, start, started}
+use Rattle.power_on.specs.declared.StartError.the-variants.{Parameters, Buffer, Counts}
+use Rattle.power_on.specs.Start.{bufferTest, countsTest, allTests, startAnswerOf, noDisplay, chipWith, poweredOn, unstarted, Buffers, buffers, lengthsIn, Clean, clean, cleared, filled, Powered, powered, poweredUp, start, started}
 
 -- ---- the tests
-module _ (p : PanelGeometry) (l : Lengths) (fit : Bool) (is : fit ≡ lengthsFit p l) where
-  fits : fit ≡ true → accepted ≡ firstOf (bufferTest p l ∷ [])
+module _ (p : PanelGeometry) (l : Lengths) (fit counted : Bool) (is : fit ≡ lengthsFit p l) (counts-is : counted ≡ countsFit l) where
+  fits : fit ≡ true → counted ≡ true → accepted ≡ firstOf (bufferTest p l ∷ countsTest l ∷ [])
   unfolding firstOf
-  fits h = rw (← is, h)
+  fits h k = rw (← is, h, ← counts-is, k)
 
-  fits-not : fit ≡ false → refused 11 0 ≡ firstOf (bufferTest p l ∷ [])
+  fits-not : fit ≡ false → refused 11 0 ≡ firstOf (bufferTest p l ∷ countsTest l ∷ [])
   unfolding firstOf
   fits-not h = rw (← is, h)
 
-module _ (c : Ssd1677Config) (otp : List ℕ) (l : Lengths) (error : ConfigError) (fit : Bool) (is : answerOf error ≡ firstOf (startTests c otp))
-    (fits-is : fit ≡ lengthsFit (c .panel) l) where
-  pub passes : isAccepted (answerOf error) ≡ true → fit ≡ true → startAnswerOf (Parameters Accepted) ≡ firstOf (allTests c otp l)
+  counts-not : fit ≡ true → counted ≡ false → refused 15 0 ≡ firstOf (bufferTest p l ∷ countsTest l ∷ [])
+  unfolding firstOf
+  counts-not h k = rw (← is, h, ← counts-is, k)
+
+module _ (c : Ssd1677Config) (otp : List ℕ) (l : Lengths) (error : ConfigError) (fit counted : Bool) (is : answerOf error ≡ firstOf (startTests c otp))
+    (fits-is : fit ≡ lengthsFit (c .panel) l) (counts-is : counted ≡ countsFit l) where
+  abbrev lent : List Test
+  lent = bufferTest (c .panel) l ∷ countsTest l ∷ []
+
+  pub passes : isAccepted (answerOf error) ≡ true → fit ≡ true → counted ≡ true → startAnswerOf (Parameters Accepted) ≡ firstOf (allTests c otp l)
   unfolding startAnswerOf answerOf
-  passes h f = goes-on (startTests c otp) (bufferTest (c .panel) l ∷ []) (answerOf error) accepted is h (fits (c .panel) l fit fits-is f)
+  passes h f k = goes-on (startTests c otp) lent (answerOf error) accepted is h (fits (c .panel) l fit counted fits-is counts-is f k)
+
+  pub refuses-counts : isAccepted (answerOf error) ≡ true → fit ≡ true → counted ≡ false → startAnswerOf Counts ≡ firstOf (allTests c otp l)
+  unfolding startAnswerOf
+  refuses-counts h f k = goes-on (startTests c otp) lent (answerOf error) (refused 15 0) is h (counts-not (c .panel) l fit counted fits-is counts-is f k)
 
   pub refuses-buffer : isAccepted (answerOf error) ≡ true → fit ≡ false → startAnswerOf Buffer ≡ firstOf (allTests c otp l)
   unfolding startAnswerOf
-  refuses-buffer h f = goes-on (startTests c otp) (bufferTest (c .panel) l ∷ []) (answerOf error) (refused 11 0) is h (fits-not (c .panel) l fit fits-is f)
+  refuses-buffer h f = goes-on (startTests c otp) lent (answerOf error) (refused 11 0) is h (fits-not (c .panel) l fit counted fits-is counts-is f)
 
   pub refuses-parameters : isAccepted (answerOf error) ≡ false → startAnswerOf (Parameters error) ≡ firstOf (allTests c otp l)
   unfolding startAnswerOf
-  refuses-parameters h = stops (startTests c otp) (bufferTest (c .panel) l ∷ []) (answerOf error) is h
+  refuses-parameters h = stops (startTests c otp) lent (answerOf error) is h
 
 pub of-parameters : (b : Bool) (x : StartError) (e : ConfigError) → b ≡ isAccepted (answerOf e) → x ≡ Parameters e → b ≡ isAccepted (startAnswerOf x)
 unfolding startAnswerOf
 of-parameters b x e p q = rw q p
+
+pub of-counts : (x : StartError) → x ≡ Counts → false ≡ isAccepted (startAnswerOf x)
+unfolding startAnswerOf
+of-counts x q = rw q
 
 pub of-buffer : (x : StartError) → x ≡ Buffer → false ≡ isAccepted (startAnswerOf x)
 unfolding startAnswerOf
@@ -85,13 +99,13 @@ unfolding cleared
 clears n m k b r l e f g = rw (e, f, g)
 
 pub powers-up : (c : Ssd1677Config) (b : Buffers) (x : Fresh) (e : Clean) (g : List ℕ) (d : Ssd1677)
-    → x ≡ powerOn (c .panel) (c .optics) (length (b .states)) (length (b .luts)) (length (b .pixels))
+    → x ≡ powerOn (c .panel) (c .optics) (length (b .states)) (length (b .luts)) (length (b .picture .pixels))
     → e ≡ cleared (length (b .blackWhite)) (length (b .red)) (length (b .log))
     → g ≡ gatesStored (c .panel) (c .panel .height) (b .gates)
     → Scanned (c .panel .«native_scan») (c .panel .height)
     → length (b .gates) ≡ c .panel .height
     → d ≡ chipWith c (x .panel)
-    → powered d (buffers (x .states) (x .luts) (x .pixels) (e .blackWhite) (e .red) g (e .log)) ≡ poweredUp c b
+    → powered d (buffers (x .states) (x .luts) (x .picture) (e .blackWhite) (e .red) g (e .log)) ≡ poweredUp c b
 unfolding poweredUp poweredOn filled powerOn
 powers-up c b x e g d p q r scanned long s = rw (s, r ∙ gates-table (c .panel) scanned (b .gates) long, q, p)
 

@@ -1,18 +1,18 @@
--- The start (mod.rs, `new`): refused with 1, 2, 3, 4, 5, 14, 12, 6, 11 in this order, or the chip at power-on.
+-- The start (mod.rs, `new`): refused with 1, 2, 3, 4, 5, 14, 12, 6, 11, 15 in this order, or the chip at power-on.
 use Prim.Native.Nat.{ℕ}
-use mathlib.Core.Bool.{Bool, true, false, not}
+use mathlib.Core.Bool.{false, not}
 use mathlib.Core.List.{List, [], _∷_, _++_}
 use lib.IntN.{ℤ, pos}
 use lib.ListN.{length, replicate}
 use Rattle.numbers.specs.Choice.{pick}
 use Rattle.numbers.specs.Lists.{tab}
 use Rattle.glass.specs.declared.RefreshKind.the-variants.{PowerOn}
-use Rattle.config.specs.declared.ConfigError.{ConfigError}
 use Rattle.config.specs.declared.PanelGeometry.{PanelGeometry}
 use Rattle.config.specs.declared.Ssd1677Config.{Ssd1677Config}
 use Rattle.config.specs.Answer.{Answer, accepted, refused, isAccepted, Test, firstOf, answerOf}
 use Rattle.otp.specs.Table.{startTests}
 use Rattle.gates_laws.specs.OneToOne.{gateOfRow}
+use Rattle.counts.specs.Counts.{Picture}
 use Rattle.panel.specs.declared.Display.{Display}
 use Rattle.panel.specs.declared.Panel.{Panel}
 use Rattle.panel.specs.Start.{panelAtPowerOn, powerOn}
@@ -23,42 +23,47 @@ use Rattle.device.specs.declared.Ssd1677.{Ssd1677}
 use Rattle.world.specs.World.{World, world}
 use Rattle.registers.specs.Reset.{resetOf}
 use Rattle.guard_lengths.specs.declared.Lengths.{Lengths}
-use Rattle.guard_lengths.specs.Lengths.{lengthsFit, allLent}
+use Rattle.guard_lengths.specs.Lengths.{lengthsFit, countsFit, allLent}
 use Rattle.power_on.specs.declared.StartError.{StartError}
 use Rattle.power_on.specs.declared.StartRefusal.{StartRefusal}
-use Rattle.power_on.specs.declared.StartError.the-variants.{Parameters, Buffer}
+use Rattle.power_on.specs.declared.StartError.the-variants.{Parameters, Buffer, Counts}
 
 -- all that is lent to a start but the table
 pub record Buffers : Type 0 where
   pub states : List ℤ
   pub luts : List ℕ
-  pub pixels : List ℕ
+  pub picture : Picture
   pub blackWhite : List ℕ
   pub red : List ℕ
   pub gates : List ℕ
   pub log : List ℕ
 
 -- the seven as one
-abbrev pub buffers : List ℤ → List ℕ → List ℕ → List ℕ → List ℕ → List ℕ → List ℕ → Buffers
-buffers s u p b r g l = record { states = s; luts = u; pixels = p; blackWhite = b; red = r; gates = g; log = l }
+abbrev pub buffers : List ℤ → List ℕ → Picture → List ℕ → List ℕ → List ℕ → List ℕ → Buffers
+buffers s u p b r g l = record { states = s; luts = u; picture = p; blackWhite = b; red = r; gates = g; log = l }
 
 -- the lengths of what is lent
 abbrev pub lengthsIn : Buffers → Lengths
 lengthsIn b =
-    allLent (length (b .states)) (length (b .luts)) (length (b .pixels)) (length (b .log)) (length (b .blackWhite)) (length (b .red)) (length (b .gates))
+    allLent (length (b .states)) (length (b .luts)) (length (b .picture .pixels)) (length (b .picture .counts)) (length (b .log)) (length (b .blackWhite)) (length (b .red)) (length (b .gates))
 
 -- 11: a buffer's length is not the one of the panel
 abbrev pub bufferTest : PanelGeometry → Lengths → Test
 bufferTest p l = record { number = 11; value = 0; refuses = not (lengthsFit p l) }
 
--- 1 to 5, 14, 12, 6, 11 (SCOPE, Refusals)
+-- 15: the table of counts has not a place for each grey (#108)
+abbrev pub countsTest : Lengths → Test
+countsTest l = record { number = 15; value = 0; refuses = not (countsFit l) }
+
+-- 1 to 5, 14, 12, 6, 11, 15 (SCOPE, Refusals)
 abbrev pub allTests : Ssd1677Config → List ℕ → Lengths → List Test
-allTests c otp l = startTests c otp ++ bufferTest (c .panel) l ∷ []
+allTests c otp l = startTests c otp ++ bufferTest (c .panel) l ∷ countsTest l ∷ []
 
 -- the number and value of each case
 unfoldable pub startAnswerOf : StartError → Answer
 startAnswerOf (Parameters error) = answerOf error
 startAnswerOf Buffer = refused 11 0
+startAnswerOf Counts = refused 15 0
 
 -- an answer as its number and its value: 0 and 0 for an accepted start
 abbrev pub refusalOf : Answer → StartRefusal
@@ -119,9 +124,9 @@ cleared b r l = clean (tab b (λ _. 0)) (tab r (λ _. 0)) (tab l (λ _. 0))
 -- buffers at power-on: planes and log 0x00, chosen LUTs 255, the gate of each row of the glass, the rest as `Panel::new` (SCOPE, Buffers)
 unfoldable pub filled : Ssd1677Config → Buffers → Buffers
 filled c b =
-    let glass = powerOn (c .panel) (c .optics) (length (b .states)) (length (b .luts)) (length (b .pixels)) in
+    let glass = powerOn (c .panel) (c .optics) (length (b .states)) (length (b .luts)) (length (b .picture .pixels)) in
     let empty = cleared (length (b .blackWhite)) (length (b .red)) (length (b .log)) in
-    buffers (glass .states) (glass .luts) (glass .pixels) (empty .blackWhite) (empty .red)
+    buffers (glass .states) (glass .luts) (glass .picture) (empty .blackWhite) (empty .red)
     (tab (c .panel .height) (gateOfRow (c .panel)))
     (empty .log)
 
@@ -138,7 +143,7 @@ powered d b = record { device = d; buffers = b }
 abbrev pub worldOf : Powered → World
 worldOf p =
     let b = p .buffers in
-    world (p .device) (b .states) (b .luts) (b .pixels) (b .blackWhite) (b .red) (b .gates) (b .log)
+    world (p .device) (b .states) (b .luts) (b .picture) (b .blackWhite) (b .red) (b .gates) (b .log)
 
 -- the chip and its buffers at power-on
 unfoldable pub poweredUp : Ssd1677Config → Buffers → Powered
@@ -157,6 +162,6 @@ start a p = record { answer = a; left = p }
 abbrev pub startBy : Ssd1677Config → Buffers → Answer → Start
 startBy c b a = start a (pick (isAccepted a) (poweredUp c b) (powered (unstarted c) b))
 
--- new: the first test that refuses decides (SCOPE, Refusals: 1 to 5, 14, 12, 6, 11)
+-- new: the first test that refuses decides (SCOPE, Refusals: 1 to 5, 14, 12, 6, 11, 15)
 unfoldable pub started : Ssd1677Config → List ℕ → Buffers → Start
 started c otp b = startBy c b (firstOf (allTests c otp (lengthsIn b)))

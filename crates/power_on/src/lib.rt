@@ -1,9 +1,10 @@
 // The chip at power-on (mod.rs, `new`): the configuration, the table and the lent buffers are tested, then all of it is set up.
 ghost use mathlib.Core.Path.{_≡_};
-ghost use Prim.Native.Nat.{_≤_};
+ghost use Prim.Native.Nat.{_≤_, _<_, _^_};
 ghost use lib.ListN.{length};
 ghost use Rattle.config.specs.Answer.{isAccepted, firstOf, answerOf};
 ghost use Rattle.gates_laws.specs.OneToOne.{Scanned};
+ghost use Rattle.counts.specs.Counts.{picture};
 ghost use Rattle.power_on.specs.Start.{allTests, startAnswerOf, noDisplay, chipWith, unstarted, clean, cleared, buffers, powered, poweredUp, start, started, refusalOf};
 use config::ConfigError;
 use config::Ssd1677Config;
@@ -26,6 +27,8 @@ pub enum StartError {
     Parameters(ConfigError),
     // 11: a buffer's length.
     Buffer,
+    // 15: the length of the table of counts.
+    Counts,
 }
 
 // The chip that was started, or the one that a refused start hands back and every call refuses.
@@ -94,6 +97,10 @@ pub fn number_of(error: StartError) -> StartRefusal
             number: 11,
             value: 0,
         },
+        StartError::Counts => StartRefusal {
+            number: 15,
+            value: 0,
+        },
     }
 }
 
@@ -103,9 +110,13 @@ fn check(config: Ssd1677Config, otp: &[u8], lengths: Lengths) -> StartError
 {
     let error = validate::validate(config, otp);
     let fit = guard_lengths::lengths_fit(config.panel, lengths);
+    let counted = guard_lengths::counts_fit(lengths);
     if config::is_accepted(error) {
         if fit {
-            return StartError::Parameters(ConfigError::Accepted);
+            if counted {
+                return StartError::Parameters(ConfigError::Accepted);
+            }
+            return StartError::Counts;
         }
         return StartError::Buffer;
     }
@@ -118,6 +129,7 @@ fn is_accepted(error: StartError) -> bool
     match error {
         StartError::Parameters(parameters) => config::is_accepted(parameters),
         StartError::Buffer => false,
+        StartError::Counts => false,
     }
 }
 
@@ -207,39 +219,42 @@ fn power_up(
     states: &mut [i64],
     luts: &mut [u8],
     pixels: &mut [u8],
+    counts: &mut [u32],
     black_white: &mut [u8],
     red: &mut [u8],
     gates: &mut [u16],
     log: &mut [u8],
 ) -> Ssd1677
-    requires { ⌜ (1 ≤ config .optics .«full_swing») × Scanned (config .panel .«native_scan») (config .panel .height) × (length (now gates) ≡ config .panel .height) ⌝ }
-    ensures { λ r. ⌜ powered r (buffers (now (states .exit)) (now (luts .exit)) (now (pixels .exit)) (now («black_white» .exit)) (now (red .exit)) (now (gates .exit)) (now (log .exit))) ≡ poweredUp config (buffers (now (states .entry)) (now (luts .entry)) (now (pixels .entry)) (now («black_white» .entry)) (now (red .entry)) (now (gates .entry)) (now (log .entry))) ⌝ }
+    requires { ⌜ (1 ≤ config .optics .«full_swing») × Scanned (config .panel .«native_scan») (config .panel .height) × (length (now gates) ≡ config .panel .height) × (length (now counts) ≡ 256) × (length (now pixels) < 2 ^ 32) ⌝ }
+    ensures { λ r. ⌜ powered r (buffers (now (states .exit)) (now (luts .exit)) (picture (now (pixels .exit)) (now (counts .exit))) (now («black_white» .exit)) (now (red .exit)) (now (gates .exit)) (now (log .exit))) ≡ poweredUp config (buffers (now (states .entry)) (now (luts .entry)) (picture (now (pixels .entry)) (now (counts .entry))) (now («black_white» .entry)) (now (red .entry)) (now (gates .entry)) (now (log .entry))) ⌝ }
 {
-    let panel = panel_start::new(config.panel, config.optics, states, luts, pixels);
+    let panel = panel_start::new(config.panel, config.optics, states, luts, pixels, counts);
     clear(black_white, red, log);
     scan::gate_of_row(gates, config.panel);
     chip_with(config, panel)
 }
 
 // The chip at power-on, under a configuration and a table. Planes and log are lent to be filled with 0x00, chosen LUTs with 255, states,
-// pixels and gates as the glass needs them.
+// pixels, their counts and gates as the glass needs them.
 pub fn new(
     config: Ssd1677Config,
     states: &mut [i64],
     luts: &mut [u8],
     pixels: &mut [u8],
+    counts: &mut [u32],
     black_white: &mut [u8],
     red: &mut [u8],
     gates: &mut [u16],
     log: &mut [u8],
     otp: &[u8],
 ) -> Started
-    ensures { λ r. ⌜ start (startAnswerOf (r .error)) (powered (r .state) (buffers (now (states .exit)) (now (luts .exit)) (now (pixels .exit)) (now («black_white» .exit)) (now (red .exit)) (now (gates .exit)) (now (log .exit)))) ≡ started config (now (otp .entry)) (buffers (now (states .entry)) (now (luts .entry)) (now (pixels .entry)) (now («black_white» .entry)) (now (red .entry)) (now (gates .entry)) (now (log .entry))) ⌝ }
+    ensures { λ r. ⌜ start (startAnswerOf (r .error)) (powered (r .state) (buffers (now (states .exit)) (now (luts .exit)) (picture (now (pixels .exit)) (now (counts .exit))) (now («black_white» .exit)) (now (red .exit)) (now (gates .exit)) (now (log .exit)))) ≡ started config (now (otp .entry)) (buffers (now (states .entry)) (now (luts .entry)) (picture (now (pixels .entry)) (now (counts .entry))) (now («black_white» .entry)) (now (red .entry)) (now (gates .entry)) (now (log .entry))) ⌝ }
 {
     let lengths = guard_lengths::all_lent(
         states.len(),
         luts.len(),
         pixels.len(),
+        counts.len(),
         log.len(),
         black_white.len(),
         red.len(),
@@ -247,7 +262,17 @@ pub fn new(
     );
     let error = check(config, otp, lengths);
     if is_accepted(error) {
-        let state = power_up(config, states, luts, pixels, black_white, red, gates, log);
+        let state = power_up(
+            config,
+            states,
+            luts,
+            pixels,
+            counts,
+            black_white,
+            red,
+            gates,
+            log,
+        );
         return Started { error, state };
     }
     let state = unstarted(config);

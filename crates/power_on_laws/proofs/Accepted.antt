@@ -53,10 +53,10 @@ module _ (c : Ssd1677Config) (otp : List ℕ) (b : Buffers) (ok : isAccepted (st
   -- the first picture: with S from 510 on, every pixel shows the starting grey
   pub first-picture : c .optics .«initial_gray» ≤ 255
       → fineSwing ≤ min (c .optics .«full_swing») 9223372036854775807
-      → started c otp b .left .buffers .pixels ≡ tab (pixelsOf (c .panel)) (λ _. c .optics .«initial_gray»)
+      → started c otp b .left .buffers .picture .pixels ≡ tab (pixelsOf (c .panel)) (λ _. c .optics .«initial_gray»)
   unfolding poweredUp filled panel.powerOn
   first-picture byte wide =
-      ap (λ (p : Powered). p .buffers .pixels) (left-is c otp b ok)
+      ap (λ (p : Powered). p .buffers .picture .pixels) (left-is c otp b ok)
       ∙ ap (λ (n : ℕ). tab n (λ _. grayZ (panel.firstState (c .optics)) (panel.swingOf (c .optics)))) (lengths c otp (lengthsIn b) (passed c otp b ok) .pixels)
       ∙ ap (λ (g : ℕ). tab (pixelsOf (c .panel)) (λ _. g)) shown
     where

@@ -11,7 +11,7 @@ use guard::Refusal;
 use query::check_state;
 
 // The parameters that the chip was built with.
-pub struct Parameters {
+pub struct ConfigAnswer {
     pub refusal: Refusal,
     pub config: Ssd1677Config,
 }
@@ -29,12 +29,12 @@ pub struct Dropped {
 }
 
 // The parameters that the chip was built with.
-pub fn config(state: Ssd1677) -> Parameters
+pub fn config(state: Ssd1677) -> ConfigAnswer
     ensures { λ r. ⌜ outcome (refusalNumber (r .refusal)) (r .config) ≡ configAsked state ⌝ }
 {
     let refusal = check_state(state);
     let config = state.config;
-    Parameters { refusal, config }
+    ConfigAnswer { refusal, config }
 }
 
 // The header of the image that the glass shows since the last refresh (generation 0 before any); its pixels are the lent buffer.

@@ -1,5 +1,4 @@
--- The cells of a plane: every index is below its 81,600 bytes, and each byte has its own.
--- Assumes nothing.
+-- The cells of a plane: what a counter at a byte is, and that each byte has its own. Assumes nothing.
 use mathlib.Core.Path.{_≡_, refl}
 use mathlib.Core.Bool.{Bool, true, false, _&&_}
 use Prim.Native.Nat.{ℕ, _+_, _*_, _/_, _<_}
@@ -28,9 +27,6 @@ cell c i e = by (ltb (c .x / 8) 120) refl (ltb (c .y) 680) refl e
     by true p true q h = record { column = ltb-true (c .x / 8) 120 p; row = ltb-true (c .y) 680 q; place = cc }
     by true p false q h = absurd (never h)
     by false p t q h = absurd (never h)
-
-pub index-below : (c : Counter) (i : ℕ) → indexOf c ≡ At i → i < 81600
-index-below c i e = let k = cell c i e in omega arith
 
 pub one-to-one : (c d : Counter) (i : ℕ) → indexOf c ≡ At i → indexOf d ≡ At i → (c .x / 8 ≡ d .x / 8) × (c .y ≡ d .y)
 one-to-one c d i e f =

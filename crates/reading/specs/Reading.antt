@@ -1,6 +1,6 @@
 -- A byte that the MCU reads, once the clock has moved (mod.rs, `read_data` and `read_byte`).
 use Prim.Native.Nat.{ℕ}
-use mathlib.Core.Bool.{Bool, true, false}
+use mathlib.Core.Bool.{Bool, true}
 use mathlib.Core.List.{List}
 use lib.Dec.{eqb}
 use Rattle.numbers.specs.Choice.{pick}

@@ -22,7 +22,7 @@ use Rattle.world.specs.World.{WithLog}
 use Rattle.chip.specs.Report.{logged}
 use Rattle.acts_laws.proofs.Kept.{logged-kept}
 use Rattle.data_laws.proofs.Kept.{Rests, rests-all, rests-then, rests-made, rests-stepped}
-use Rattle.data.specs.Data.{currentSet, outOfRange}
+use Rattle.data.specs.Data.{outOfRange}
 use Rattle.reading.specs.Reading.{WithByte, withByte, oneReadMore, readingOn, nothingRead, registerRead, chosen, moved, ramFound, ramRead, byteRead, readByKind, byCurrent, readTaken}
 
 -- what stays of the state and its log, the supplies, BUSY and the power, whatever becomes of the current command

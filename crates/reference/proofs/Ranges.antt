@@ -1,7 +1,6 @@
--- Where each setting is found: as the ranges of the table say, at every register; and start refuses nothing of it. Assumes nothing.
+-- Where each setting is found: as the ranges of the table say, at every register. Assumes nothing.
 use mathlib.Core.Path.{_≡_, refl, _∙_}
 use mathlib.Core.Bool.{Bool, true, false, _&&_, _||_}
-use mathlib.Core.List.{[], _∷_}
 use Prim.Native.Nat.{ℕ, _%_}
 use lib.Dec.{eqb}
 use lib.IntN.{ℤ, pos, negsuc}
@@ -10,24 +9,16 @@ use borrow.Author.Tests.{eqb-false}
 use Rattle.numbers.specs.Choice.{pick}
 use Rattle.numbers.specs.Lists.{tab}
 use Rattle.numbers.proofs.Lin.{Le, whole, is-le, not-le, is-lt}
-use Rattle.voltage.specs.Codes.{voltage}
 use Rattle.config.specs.declared.DisplayMode.{DisplayMode}
 use Rattle.config.specs.declared.DisplayMode.the-variants.{One, Two}
-use Rattle.config.specs.Lowest.{lowest}
-use Rattle.config.specs.Answer.{accepted, firstOf}
 use Rattle.config.specs.Mode.{modeNumber}
 use Rattle.config.specs.Temperature.{warmest, sixteenthsOf, registerOf}
 use Rattle.config.proofs.Registers.{ranged, above-coldest}
 use Rattle.otp.specs.declared.FoundEntry.the-variants.{At, Nothing}
-use Rattle.otp.specs.Table.{entryCount, modeAt, lowerAt, upperAt, badEntry, badTable, unlistedVoltage, tableTest, voltagesTest}
+use Rattle.otp.specs.Table.{entryCount, modeAt, lowerAt, upperAt, badEntry, badTable}
 use Rattle.otp.specs.Search.{anyOf, lastOf}
 use Rattle.otp.specs.Waveform.{isColdest, reaches, covers, foundEntry}
 use Rattle.reference.specs.Reference.{celsius, referenceTable, settingFor}
-
--- 12 and 6 refuse nothing
-pub table-accepted : firstOf (tableTest referenceTable ∷ voltagesTest referenceTable ∷ []) ≡ accepted
-unfolding firstOf badTable anyOf badEntry lowest unlistedVoltage voltage referenceTable tab registerOf
-table-accepted = refl
 
 table-fine : badTable referenceTable ≡ false
 unfolding badTable anyOf badEntry referenceTable tab registerOf

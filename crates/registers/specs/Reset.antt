@@ -11,7 +11,7 @@ use Rattle.device.specs.declared.Registers.{Registers}
 abbrev pub resetLut : List ℕ
 resetLut = set (set (set (replicate 112 0) 106 0x41) 107 0xA8) 108 0x32
 
--- every register after a reset; the temperature is the format's highest, 7FFh, and 49h of 0x29 an assumption (mod.rs)
+-- every register after a reset; the temperature is the format's highest, 7FFh, and 49h of 0x29 an assumption (mod.rs); no waveform is loaded (#108)
 unfoldable pub resetOf : List ℕ → Registers
 resetOf user =
     record {
@@ -30,4 +30,5 @@ resetOf user =
       «user_id» = user;
       border = 0xC0;
       «read_ram_red» = false;
+      waveform = 255;
     }

@@ -86,4 +86,5 @@ stored r command index byte =
       «user_id» = onCommand 0x38 command (bytesPut 10 (r .«user_id») index byte) (r .«user_id»);
       border = onCommand 0x3C command byte (r .border);
       «read_ram_red» = onCommand 0x41 command (bitOf byte 0) (r .«read_ram_red»);
+      waveform = onCommand 0x32 command 255 (r .waveform);
     }

@@ -37,5 +37,6 @@ pub fn reset(user_id: [u8; 10]) -> Registers
         user_id,
         border: 0xC0,
         read_ram_red: false,
+        waveform: 255,
     }
 }

@@ -45,6 +45,7 @@ fn chip_sized(
     states: &mut [i64],
     luts: &mut [u8],
     pixels: &mut [u8],
+    counts: &mut [u32],
     black_white: &mut [u8],
     red: &mut [u8],
     gates: &mut [u16],
@@ -66,6 +67,7 @@ fn chip_sized(
         states,
         luts,
         pixels,
+        counts,
         &mut black_white[0..black_white_bytes],
         &mut red[0..red_bytes],
         &mut gates[0..rows],
@@ -84,6 +86,7 @@ fn sized(
     states: &mut [i64],
     luts: &mut [u8],
     pixels: &mut [u8],
+    counts: &mut [u32],
     black_white: &mut [u8],
     red: &mut [u8],
     gates: &mut [u16],
@@ -98,6 +101,7 @@ fn sized(
     let state_count = length(lent[0], area, states.len());
     let lut_count = length(lent[1], area, luts.len());
     let pixel_count = length(lent[2], area, pixels.len());
+    let grey_count = length(lent[8], run::COUNTS - 1, counts.len());
     chip_sized(
         now,
         line,
@@ -105,6 +109,7 @@ fn sized(
         &mut states[0..state_count],
         &mut luts[0..lut_count],
         &mut pixels[0..pixel_count],
+        &mut counts[0..grey_count],
         black_white,
         red,
         gates,
@@ -122,6 +127,7 @@ pub fn take(
     states: &mut [i64; run::PIXELS],
     luts: &mut [u8; run::PIXELS],
     pixels: &mut [u8; run::PIXELS],
+    counts: &mut [u32; run::COUNTS],
     black_white: &mut [u8; run::PLANE],
     red: &mut [u8; run::PLANE],
     gates: &mut [u16; run::ROWS],
@@ -148,6 +154,7 @@ pub fn take(
         states,
         luts,
         pixels,
+        counts,
         black_white,
         red,
         gates,

@@ -34,6 +34,7 @@ fn each(
     states: &mut [i64; run::PIXELS],
     luts: &mut [u8; run::PIXELS],
     pixels: &mut [u8; run::PIXELS],
+    counts: &mut [u32; run::COUNTS],
     black_white: &mut [u8; run::PLANE],
     red: &mut [u8; run::PLANE],
     gates: &mut [u16; run::ROWS],
@@ -53,6 +54,7 @@ fn each(
             states,
             luts,
             pixels,
+            counts,
             black_white,
             red,
             gates,
@@ -72,6 +74,7 @@ fn chunk(
     states: &mut [i64; run::PIXELS],
     luts: &mut [u8; run::PIXELS],
     pixels: &mut [u8; run::PIXELS],
+    counts: &mut [u32; run::COUNTS],
     black_white: &mut [u8; run::PLANE],
     red: &mut [u8; run::PLANE],
     gates: &mut [u16; run::ROWS],
@@ -89,6 +92,7 @@ fn chunk(
         states,
         luts,
         pixels,
+        counts,
         black_white,
         red,
         gates,
@@ -111,6 +115,7 @@ fn nothing() -> Ssd1677 {
     let mut states = [0i64; 1];
     let mut luts = [0u8; 1];
     let mut pixels = [0u8; 1];
+    let mut counts = [0u32; 1];
     let mut black_white = [0u8; 1];
     let mut red = [0u8; 1];
     let mut gates = [0u16; 1];
@@ -120,6 +125,7 @@ fn nothing() -> Ssd1677 {
         &mut states,
         &mut luts,
         &mut pixels,
+        &mut counts,
         &mut black_white,
         &mut red,
         &mut gates,
@@ -133,6 +139,7 @@ fn all(
     states: &mut [i64; run::PIXELS],
     luts: &mut [u8; run::PIXELS],
     pixels: &mut [u8; run::PIXELS],
+    counts: &mut [u32; run::COUNTS],
     black_white: &mut [u8; run::PLANE],
     red: &mut [u8; run::PLANE],
     gates: &mut [u16; run::ROWS],
@@ -153,6 +160,7 @@ fn all(
             states,
             luts,
             pixels,
+            counts,
             black_white,
             red,
             gates,
@@ -173,6 +181,7 @@ fn main() {
     let mut states = [0i64; run::PIXELS];
     let mut luts = [0u8; run::PIXELS];
     let mut pixels = [0u8; run::PIXELS];
+    let mut counts = [0u32; run::COUNTS];
     let mut black_white = [0u8; run::PLANE];
     let mut red = [0u8; run::PLANE];
     let mut gates = [0u16; run::ROWS];
@@ -185,6 +194,7 @@ fn main() {
         &mut states,
         &mut luts,
         &mut pixels,
+        &mut counts,
         &mut black_white,
         &mut red,
         &mut gates,

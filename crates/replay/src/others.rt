@@ -73,8 +73,33 @@ fn pictured(now: Run, pixels: &[u8], text: &mut [u8; text::ROOM]) -> Run {
     Run { progress, state }
 }
 
+fn counts_said(
+    progress: Progress,
+    text: &mut [u8; text::ROOM],
+    number: u8,
+    counts: &[u32],
+    waveform: u8,
+) -> Progress {
+    if number == 0 {
+        let hash_at = text::word(text, progress.at, b"counts");
+        let waveform_at = say::field(text, hash_at, hash::of_counts(counts));
+        let end_at = say::byte_field(text, waveform_at, waveform);
+        return say::said(progress, say::end(text, end_at));
+    }
+    calls::refused(progress, text, number)
+}
+
+// The counts of greys, and the entry of the last waveform loaded.
+fn counted(now: Run, counts: &[u32], text: &mut [u8; text::ROOM]) -> Run {
+    let state = now.state;
+    let regs = state.regs;
+    let number = guard::number(query::check_state(state));
+    let progress = counts_said(now.progress, text, number, counts, regs.waveform);
+    Run { progress, state }
+}
+
 // A line that takes no buffer to change.
-fn small(now: Run, line: Line, pixels: &[u8], text: &mut [u8; text::ROOM]) -> Run {
+fn small(now: Run, line: Line, pixels: &[u8], counts: &[u32], text: &mut [u8; text::ROOM]) -> Run {
     let progress = now.progress;
     match line {
         Line::Query(time) => queried(now, text, time),
@@ -87,6 +112,7 @@ fn small(now: Run, line: Line, pixels: &[u8], text: &mut [u8; text::ROOM]) -> Ru
             Run { progress, state }
         }
         Line::Picture => pictured(now, pixels, text),
+        Line::Counts => counted(now, counts, text),
         _ => now,
     }
 }
@@ -98,6 +124,7 @@ pub fn other(
     states: &mut [i64],
     luts: &mut [u8],
     pixels: &mut [u8],
+    counts: &mut [u32],
     black_white: &mut [u8],
     red: &mut [u8],
     gates: &mut [u16],
@@ -113,6 +140,7 @@ pub fn other(
             states,
             luts,
             pixels,
+            counts,
             black_white,
             red,
             gates,
@@ -126,7 +154,7 @@ pub fn other(
         return now;
     }
     let Line::Dump = line else {
-        return small(now, line, pixels, text);
+        return small(now, line, pixels, counts, text);
     };
     dump::dump(
         now,

@@ -116,6 +116,7 @@ pub fn prepare(
         Line::Lent(buffer, length) => lend(progress, buffer, length),
         Line::State(_, _) => progress,
         Line::Picture => progress,
+        Line::Counts => progress,
         Line::Bad => bad(progress, text),
     }
 }

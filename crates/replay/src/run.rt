@@ -7,18 +7,21 @@ pub const PIXELS: usize = 652800;
 
 pub const ROWS: usize = 680;
 
-// A plane and the log's 1,024 records of 16 bytes, with one byte more, so that they can be lent too long.
+// A plane and the log's 1,024 records of 16 bytes, with one byte more, and the counts of 256 greys, with one more, so that they can be lent
+// too long.
 pub const PLANE: usize = 81601;
 
 pub const LOG: usize = 16385;
+
+pub const COUNTS: usize = 257;
 
 // Places that a line can name.
 pub const OTP: usize = 10000;
 
 pub const FIELDS: usize = 54;
 
-// Buffers that a line can name: the seven of the device and the table.
-pub const BUFFERS: usize = 8;
+// Buffers that a line can name: the seven of the device without its counts, the table, and the counts.
+pub const BUFFERS: usize = 9;
 
 // A buffer that no line names is lent as long as the panel asks.
 pub const RIGHT: usize = 18446744073709551615;

@@ -17,4 +17,4 @@ lineTaken luts time low w = let a = on glassInGlassLog (advanced luts time) w in
 -- set_reset
 unfoldable pub lineMoved : List ℕ → ℕ → Bool → WithGlassLog → Outcome WithGlassLog
 lineMoved luts time low w =
-    unless (guarded (w .device) (glassLogLent (length (w .states)) (length luts) (length (w .pixels)) (length (w .log)))) w (lineTaken luts time low w)
+    unless (guarded (w .device) (glassLogLent (length (w .states)) (length luts) (length (w .picture .pixels)) (length (w .picture .counts)) (length (w .log)))) w (lineTaken luts time low w)

@@ -1,16 +1,10 @@
 -- What each return of the code hands over, over plain variables. Assumes nothing.
-use Prim.Native.Nat.{ℕ, _+_, _*_, _%_}
-use mathlib.Core.Path.{_≡_, refl}
+use Prim.Native.Nat.{ℕ}
+use mathlib.Core.Path.{_≡_}
 use mathlib.Core.Bool.{Bool, true, false}
 use mathlib.Core.List.{List}
-use Rattle.numbers.proofs.Cases.{took, passed}
-use Rattle.counter.specs.Counter.{withinOf}
 use Rattle.waveform.specs.declared.Until.the-variants.{Cut}
-use Rattle.diagnostic.specs.declared.DiagnosticKind.{DiagnosticKind}
-use Rattle.diagnostic.specs.declared.DiagnosticKind.the-variants.{CounterOutsideWindow, WithoutClock, WithoutAnalog, ResetDuringDisplay}
-use Rattle.diagnostic.specs.declared.Stage.{Stage}
-use Rattle.diagnostic.specs.declared.Stage.the-variants.{VcomSense}
-use Rattle.diagnostic.specs.Log.{Entries, reported}
+use Rattle.diagnostic.specs.declared.DiagnosticKind.the-variants.{ResetDuringDisplay}
 use Rattle.panel.specs.declared.Display.{Display}
 use Rattle.panel.specs.Finish.{Glass, finished}
 use Rattle.device.specs.declared.Ssd1677.{Ssd1677}
@@ -19,7 +13,7 @@ use Rattle.device.specs.declared.Bus.{Bus}
 use Rattle.device.specs.declared.Power.{Power}
 use Rattle.device.specs.declared.Power.the-variants.{Running, Asleep, InReset}
 use Rattle.device.specs.declared.Current.the-variants.{Idle}
-use Rattle.device.specs.Parts.{withBus, withDisplay, withJournal, withPowers}
+use Rattle.device.specs.Parts.{withBus, withDisplay, withPowers}
 use Rattle.device.specs.Parts as part
 use Rattle.world.specs.World.{WithLog, withLog, WithGlass, withGlass, WithGlassLog, withGlassLog}
 use Rattle.registers.specs.Reset.{resetOf}
@@ -38,24 +32,24 @@ pub shortens : (luts : List ℕ) (g : WithGlass) (into : ℕ) (after : Glass) (o
     → into ≡ nsBetween (g .device .config .frequency) (g .device .display .started) (g .device .now)
     → after ≡ finished (endingOf (g .device) (g .device .now) (Cut into)) luts (glassOf g)
     → off ≡ stopped (g .device .display) → r ≡ part.withPanelAndDisplay (g .device) (after .panel) off
-    → withGlass r (after .states) (after .pixels) ≡ displayCut luts g
+    → withGlass r (after .states) (after .picture) ≡ displayCut luts g
 unfolding displayCut
 shortens luts g into after off r e₁ e₂ e₃ e₄ = rw (← e₁, ← e₂, e₄, e₃)
 
 module _ (luts : List ℕ) (w : WithGlassLog) where
   pub cuts : (k : WithLog) (g : WithGlass) → isDriving (w .device) ≡ true → k ≡ logged ResetDuringDisplay (withLog (w .device) (w .log))
-      → g ≡ displayCut luts (withGlass (k .device) (w .states) (w .pixels)) → withGlassLog (g .device) (g .states) (g .pixels) (k .log) ≡ cut luts w
+      → g ≡ displayCut luts (withGlass (k .device) (w .states) (w .picture)) → withGlassLog (g .device) (g .states) (g .picture) (k .log) ≡ cut luts w
   unfolding cut
   cuts k g h e₁ e₂ = rw (h, e₂, e₁)
 
   pub drops : (off : Display) (r : Ssd1677) → isDriving (w .device) ≡ false → off ≡ stopped (w .device .display)
-      → r ≡ withDisplay (w .device) off → withGlassLog r (w .states) (w .pixels) (w .log) ≡ cut luts w
+      → r ≡ withDisplay (w .device) off → withGlassLog r (w .states) (w .picture) (w .log) ≡ cut luts w
   unfolding cut
   drops off r h e₁ e₂ = rw (h, e₂, e₁)
 
   pub asserts : (k : WithLog) (b : WithGlassLog) (d r : Ssd1677) → k ≡ closed (withLog (w .device) (w .log))
-      → b ≡ cut luts (withGlassLog (k .device) (w .states) (w .pixels) (k .log)) → d ≡ restored (b .device) → r ≡ inReset d
-      → withGlassLog r (b .states) (b .pixels) (b .log) ≡ asserted luts w
+      → b ≡ cut luts (withGlassLog (k .device) (w .states) (w .picture) (k .log)) → d ≡ restored (b .device) → r ≡ inReset d
+      → withGlassLog r (b .states) (b .picture) (b .log) ≡ asserted luts w
   unfolding asserted
   asserts k b d r e₁ e₂ e₃ e₄ = rw (e₄, e₃, e₂, e₁)
 
@@ -88,6 +82,6 @@ module _ (luts : List ℕ) (low : Bool) (w v : WithGlassLog) (p : Power) where
   keeps-asleep e f = rw (e, f)
 
 pub rises : (luts : List ℕ) (low : Bool) (w : WithGlassLog) (p : Power) (r : Ssd1677) → low ≡ false → p ≡ InReset → r ≡ released (w .device)
-    → withGlassLog r (w .states) (w .pixels) (w .log) ≡ byLine luts low w p
+    → withGlassLog r (w .states) (w .picture) (w .log) ≡ byLine luts low w p
 unfolding byLine
 rises luts low w p r e f g = rw (e, f, g)

@@ -1,6 +1,7 @@
 // The reset line, and what a reset restores (mod.rs, `set_reset`, `restore_registers`).
 ghost use mathlib.Core.Path.{_≡_};
 ghost use lib.ListN.{length};
+ghost use Rattle.counts.specs.Counts.{picture};
 ghost use Rattle.world.specs.World.{withGlass, withGlassLog};
 ghost use Rattle.clock.specs.Advance.{Ready};
 ghost use Rattle.reset.specs.Reset.{restored, displayCut, cut, inReset, asserted, released, byLine};
@@ -29,9 +30,15 @@ pub fn restore_registers(state: Ssd1677) -> Ssd1677
 }
 
 // The display is applied up to now and its image published.
-fn finish_cut(state: Ssd1677, states: &mut [i64], luts: &[u8], pixels: &mut [u8]) -> Ssd1677
-    requires { ⌜ Ready state (now states) (now luts) (now pixels) ⌝ }
-    ensures { λ r. ⌜ withGlass r (now (states .exit)) (now (pixels .exit)) ≡ displayCut (now (luts .entry)) (withGlass state (now (states .entry)) (now (pixels .entry))) ⌝ }
+fn finish_cut(
+    state: Ssd1677,
+    states: &mut [i64],
+    luts: &[u8],
+    pixels: &mut [u8],
+    counts: &mut [u32],
+) -> Ssd1677
+    requires { ⌜ Ready state (now states) (now luts) (now pixels) (now counts) ⌝ }
+    ensures { λ r. ⌜ withGlass r (now (states .exit)) (picture (now (pixels .exit)) (now (counts .exit))) ≡ displayCut (now (luts .entry)) (withGlass state (now (states .entry)) (picture (now (pixels .entry)) (now (counts .entry)))) ⌝ }
 {
     let display = state.display;
     let config = state.config;
@@ -50,6 +57,7 @@ fn finish_cut(state: Ssd1677, states: &mut [i64], luts: &[u8], pixels: &mut [u8]
         &mut states[..],
         luts,
         &mut pixels[..],
+        &mut counts[..],
     );
     let off = clock::stop(display);
     part::set_glass(state, finished, off)
@@ -62,15 +70,16 @@ fn cut_display(
     states: &mut [i64],
     luts: &[u8],
     pixels: &mut [u8],
+    counts: &mut [u32],
     log: &mut [u8],
 ) -> Ssd1677
-    requires { ⌜ Ready state (now states) (now luts) (now pixels) × (length (now log) ≡ 16384) ⌝ }
-    ensures { λ r. ⌜ withGlassLog r (now (states .exit)) (now (pixels .exit)) (now (log .exit)) ≡ cut (now (luts .entry)) (withGlassLog state (now (states .entry)) (now (pixels .entry)) (now (log .entry))) ⌝ }
+    requires { ⌜ Ready state (now states) (now luts) (now pixels) (now counts) × (length (now log) ≡ 16384) ⌝ }
+    ensures { λ r. ⌜ withGlassLog r (now (states .exit)) (picture (now (pixels .exit)) (now (counts .exit))) (now (log .exit)) ≡ cut (now (luts .entry)) (withGlassLog state (now (states .entry)) (picture (now (pixels .entry)) (now (counts .entry))) (now (log .entry))) ⌝ }
 {
     let display = state.display;
     if display.running & (display.started <= state.now) {
         let noted = chip::report(state, log, DiagnosticKind::ResetDuringDisplay);
-        return finish_cut(noted, states, luts, pixels);
+        return finish_cut(noted, states, luts, pixels, counts);
     }
     let off = clock::stop(display);
     part::set_display(state, off)
@@ -94,13 +103,14 @@ fn assert_reset(
     states: &mut [i64],
     luts: &[u8],
     pixels: &mut [u8],
+    counts: &mut [u32],
     log: &mut [u8],
 ) -> Ssd1677
-    requires { ⌜ Ready state (now states) (now luts) (now pixels) × (length (now log) ≡ 16384) ⌝ }
-    ensures { λ r. ⌜ withGlassLog r (now (states .exit)) (now (pixels .exit)) (now (log .exit)) ≡ asserted (now (luts .entry)) (withGlassLog state (now (states .entry)) (now (pixels .entry)) (now (log .entry))) ⌝ }
+    requires { ⌜ Ready state (now states) (now luts) (now pixels) (now counts) × (length (now log) ≡ 16384) ⌝ }
+    ensures { λ r. ⌜ withGlassLog r (now (states .exit)) (picture (now (pixels .exit)) (now (counts .exit))) (now (log .exit)) ≡ asserted (now (luts .entry)) (withGlassLog state (now (states .entry)) (picture (now (pixels .entry)) (now (counts .entry))) (now (log .entry))) ⌝ }
 {
     let ended = chip::close::close_command(state, log);
-    let stopped = cut_display(ended, states, luts, pixels, log);
+    let stopped = cut_display(ended, states, luts, pixels, counts, log);
     let restored = restore_registers(stopped);
     enter_reset(restored)
 }
@@ -128,11 +138,12 @@ pub fn set_line(
     states: &mut [i64],
     luts: &[u8],
     pixels: &mut [u8],
+    counts: &mut [u32],
     log: &mut [u8],
     low: bool,
 ) -> Ssd1677
-    requires { ⌜ Ready state (now states) (now luts) (now pixels) × (length (now log) ≡ 16384) ⌝ }
-    ensures { λ r. ⌜ withGlassLog r (now (states .exit)) (now (pixels .exit)) (now (log .exit)) ≡ byLine (now (luts .entry)) low (withGlassLog state (now (states .entry)) (now (pixels .entry)) (now (log .entry))) (state .bus .power) ⌝ }
+    requires { ⌜ Ready state (now states) (now luts) (now pixels) (now counts) × (length (now log) ≡ 16384) ⌝ }
+    ensures { λ r. ⌜ withGlassLog r (now (states .exit)) (picture (now (pixels .exit)) (now (counts .exit))) (now (log .exit)) ≡ byLine (now (luts .entry)) low (withGlassLog state (now (states .entry)) (picture (now (pixels .entry)) (now (counts .entry))) (now (log .entry))) (state .bus .power) ⌝ }
 {
     let bus = state.bus;
     let power = bus.power;
@@ -145,13 +156,13 @@ pub fn set_line(
         }
         Power::Running => {
             if low {
-                return assert_reset(state, states, luts, pixels, log);
+                return assert_reset(state, states, luts, pixels, counts, log);
             }
             state
         }
         Power::Asleep => {
             if low {
-                return assert_reset(state, states, luts, pixels, log);
+                return assert_reset(state, states, luts, pixels, counts, log);
             }
             state
         }

@@ -11,7 +11,7 @@ use lib.Signed.{_≤ℤ_}
 use lib.ListN.{length, getD}
 use borrow.Author.Tests.{le-leb, lt-leb}
 use Rattle.numbers.specs.Choice.{pick}
-use Rattle.numbers.specs.Saturation.{largest, most}
+use Rattle.numbers.specs.Saturation.{most}
 use Rattle.numbers.proofs.Lin.{whole, le-out}
 use Rattle.glass.specs.Greys.{grayZ}
 use Rattle.waveform.specs.declared.Until.the-variants.{Whole, Cut}
@@ -123,10 +123,10 @@ module _ (luts : List ℕ) (time : ℕ) (w : WithGlassLog) (S : ℕ) (h : Cuttab
       ∙ ap (λ (n : ℕ). statesBy (byLut (endingOf d t (Cut n)) (d .panel .swing)) luts (w .states)) converted
       ∙ ap (λ (s : ℤ). statesBy (byLut (cutEnding d t) s) luts (w .states)) (h .swing)
 
-  pixels-are : lineTaken luts time true w .pixels ≡ grays (pos S) next
+  pixels-are : lineTaken luts time true w .picture .pixels ≡ grays (pos S) next
   unfolding inReset restored displayCut logged closed finished published next
   pixels-are =
-      ap (λ (x : WithGlassLog). x .pixels) fell
+      ap (λ (x : WithGlassLog). x .picture .pixels) fell
       ∙ ap (λ (n : ℕ). grays (d .panel .swing) (statesBy (byLut (endingOf d t (Cut n)) (d .panel .swing)) luts (w .states))) converted
       ∙ ap (λ (s : ℤ). grays s (statesBy (byLut (cutEnding d t) s) luts (w .states))) (h .swing)
 
@@ -144,6 +144,6 @@ module _ (luts : List ℕ) (time : ℕ) (w : WithGlassLog) (S : ℕ) (h : Cuttab
     cut-exactly = ap (λ (s : List ℤ). getD s i (pos 0)) states-are ∙ next-is
 
     -- and its pixel shows the grey of it
-    pub cut-shows : getD (lineTaken luts time true w .pixels) i 0 ≡ grayZ (pos (exactAfter (cutEnding d t) S (getD luts i 0) x)) (pos S)
+    pub cut-shows : getD (lineTaken luts time true w .picture .pixels) i 0 ≡ grayZ (pos (exactAfter (cutEnding d t) S (getD luts i 0) x)) (pos S)
     cut-shows =
         ap (λ (p : List ℕ). getD p i 0) pixels-are ∙ pixel-shows (pos S) next i next-long ∙ ap (λ (s : ℤ). grayZ s (pos S)) next-is

@@ -1,9 +1,8 @@
--- Laws of the LUT of a pixel: a bit that lies in the RAM, the pixel of a row and a column, and which LUTs there are.
+-- Laws of the LUT of a pixel: a bit that lies in the RAM, the pixel of a row and a column, and the source of a column.
 -- Assumes nothing.
-use mathlib.Core.Path.{_≡_, refl}
+use mathlib.Core.Path.{_≡_}
 use mathlib.Core.Bool.{Bool, true, false}
 use mathlib.Core.List.{List}
-use mathlib.Core.Logic.{_⊎_, inl, inr}
 use Prim.Native.Nat.{ℕ, _+_, _-_, _*_, _/_, _%_, _<_, _≤_}
 use native.Mathlib.Omega.{arith}
 use lib.Arith.{digits-mod, digits-div}
@@ -11,15 +10,12 @@ use lib.ListN.{length, getD}
 use borrow.Author.Tests.{lt-ltb}
 use Rattle.numbers.specs.Choice.{pick, bitOf}
 use Rattle.config.specs.declared.PanelGeometry.{PanelGeometry}
-use Rattle.ram.specs.declared.Pixel.{Pixel}
 use Rattle.ram.specs.declared.Pixel.the-variants as pixel
 use Rattle.ram.specs.Plane.{indexOf, readAt, bitAt}
 use Rattle.gates.specs.declared.Row.{Row}
-use Rattle.gates.specs.declared.Row.the-variants.{Is, Nothing}
 use Rattle.scan.specs.declared.Scan.{Scan}
 use Rattle.gates.specs.Gates.{rowOfGate}
-use Rattle.panel.specs.Pixels.{undriven}
-use Rattle.scan.specs.Luts.{applied, lutOfBits, lutOfPixels, sourceOf, lutInRow, lutOf}
+use Rattle.scan.specs.Luts.{sourceOf, lutInRow, lutOf}
 
 pub bit-there : (plane : List ℕ) (x row : ℕ) → length plane ≡ 81600 → x < 960 → row < 680
     → bitAt plane x row ≡ pixel.Is (bitOf (getD plane (row * 120 + x / 8) 0) (7 - x % 8))
@@ -42,24 +38,3 @@ source-lt g x l driven = by (g .«columns_reversed»)
     by : (b : Bool) → g .«first_source» + pick b (g .width - 1 - x) x < 960
     by true = omega arith
     by false = omega arith
-
--- a pixel's LUT is one of 0 to 3, or the pixel is undriven
-pub chosen-or-undriven : (gates red blackWhite : List ℕ) (g : PanelGeometry) (s : Scan) (i : ℕ)
-    → (lutOf gates red blackWhite g s i ≤ 3) ⊎ (lutOf gates red blackWhite g s i ≡ undriven)
-unfolding lutOf lutInRow lutOfPixels lutOfBits
-chosen-or-undriven gates red blackWhite g s i = by-row (rowOfGate (getD gates (i / g .width) 0) (s .order) (s .lines)) (sourceOf g (i % g .width))
-  where
-    by-bits : (a b : Bool) → 2 * pick a 1 0 + pick b 1 0 ≤ 3
-    by-bits true true = omega arith
-    by-bits true false = omega arith
-    by-bits false true = omega arith
-    by-bits false false = omega arith
-
-    by-pixels : (p q : Pixel) → (lutOfPixels s p q ≤ 3) ⊎ (lutOfPixels s p q ≡ undriven)
-    by-pixels (pixel.Is a) (pixel.Is b) = inl (by-bits (applied (s .red) a) (applied (s .«black_white») b))
-    by-pixels (pixel.Is a) pixel.Nothing = inr refl
-    by-pixels pixel.Nothing q = inr refl
-
-    by-row : (row : Row) (source : ℕ) → (lutInRow row red blackWhite s source ≤ 3) ⊎ (lutInRow row red blackWhite s source ≡ undriven)
-    by-row (Is row) source = by-pixels (bitAt red source row) (bitAt blackWhite source row)
-    by-row Nothing source = inr refl

@@ -27,7 +27,8 @@ impl PlaneOption {
     pub fn from_nibble(nibble: u8) -> PlaneOption
         ensures { λ r. ⌜ r ≡ optionOf nibble ⌝ }
     {
-        match nibble & 0x0F {
+        let low = numbers::low_nibble(nibble);
+        match low {
             0b0100 => PlaneOption::Zero,
             0b1000 => PlaneOption::Inverse,
             _ => PlaneOption::Normal,

@@ -2,11 +2,10 @@
 use drive_sheet::Sheet;
 use waveform::GroupCodes;
 ghost use mathlib.Core.Path.{_≡_};
-ghost use mathlib.Core.List.{[], _∷_, _++_};
 ghost use Prim.Native.Nat.{_+_, _<_, _≤_};
 ghost use lib.ListN.{length};
 ghost use Rattle.waveform.specs.Phases.{joined};
-ghost use Rattle.column.specs.Columns.{buffer, appended, natural};
+ghost use Rattle.column.specs.Columns.{buffer, appended};
 ghost use Rattle.sheet_text.specs.Text.{digitsText, codesText, framesText, groupLine, groupLines, gateLine, voltageLine, voltageLines, sheetText};
 
 // Text over the bytes at a place; answers the place past it.

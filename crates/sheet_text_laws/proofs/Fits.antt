@@ -6,14 +6,13 @@ use Prim.Native.Nat.{ℕ, zero, suc, _+_, _-_, _*_, _/_, _%_, _^_, _<_, _≤_}
 use native.Mathlib.Omega.{arith}
 use lib.Dec.{eqb, leb}
 use lib.IntN.{ℤ, pos, negsuc, negℤ, natAbs}
-use lib.Signed.{ltZ, _≤ℤ_}
+use lib.Signed.{ltZ}
 use lib.ListN.{getD}
 use borrow.Author.Tests.{ne-eqb, le-leb, leb-true}
 use Rattle.numbers.specs.Choice.{pick}
 use Rattle.numbers.specs.Lists.{tab}
 use Rattle.numbers.proofs.Lin.{le-in}
 use Rattle.numbers.proofs.Painted.{getD-tab}
-use Rattle.otp.specs.Search.{anyOf}
 use Rattle.waveform.specs.declared.GroupCodes.{GroupCodes}
 use Rattle.column.specs.Columns.{hasDigit, symbolAt, columnOf, natural, whole}
 use Rattle.column.specs.Reading.{valueOf}
@@ -23,7 +22,7 @@ use Rattle.drive_sheet.specs.Bytes.{noGroupCodes, groupAt, codeAt}
 use Rattle.sheet_text.specs.Text.{sheetText}
 use Rattle.sheet_text.specs.Reading.{valueAt, minusAt, wholeAt, groupDrawn, sheetIn, badLineOf, drawingOf}
 use Rattle.sheet_text_laws.specs.Fits.{GroupFits, ColumnFits, SheetFits}
-use Rattle.sheet_text_laws.proofs.Holds.{Holds, at-place, column-back}
+use Rattle.sheet_text_laws.proofs.Holds.{Holds, column-back}
 use Rattle.sheet_text_laws.proofs.Signs.{any-false, any-same, minusIn}
 use Rattle.sheet_text_laws.proofs.Places.{repeats-in, rate-in, code-in, group-holds, vsh1-holds, vsh2-holds, vsl-holds, vcom-holds}
 use Rattle.sheet_text_laws.proofs.Text.{read-is-text}

@@ -2,7 +2,7 @@
 use mathlib.Core.Path.{_≡_, refl, sym, ap, _∙_}
 use mathlib.Core.Bool.{Bool, true, false, _&&_, _||_, true≢false}
 use mathlib.Core.Logic.{⊎-elim}
-use mathlib.Core.List.{List, [], _∷_}
+use mathlib.Core.List.{List}
 use Prim.Native.Nat.{ℕ, zero, suc, _+_, _-_, _*_, _/_, _%_, _^_, _<_, _≤_}
 use native.Mathlib.Nat.{le-of-suc-le-suc, eq-or-lt-of-le}
 use native.Mathlib.Omega.{arith}
@@ -16,7 +16,6 @@ use Rattle.numbers.proofs.Lin.{le-out}
 use Rattle.otp.specs.Search.{anyOf}
 use Rattle.column.specs.Columns.{hasDigit, symbolAt, columnOf, natural, whole}
 use Rattle.column.specs.Reading.{same, valueFrom, valueOf, readOf}
-use Rattle.column.specs.declared.read.Column.{Column}
 use Rattle.column.specs.declared.read.Column.the-variants.{Number, Other}
 use Rattle.column.proofs.Columns.{column-at}
 use Rattle.column.proofs.Reading.{written-read}

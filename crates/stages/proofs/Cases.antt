@@ -15,8 +15,8 @@ use Rattle.diagnostic.specs.declared.DiagnosticKind.the-variants.{NoWaveform, N
 use Rattle.diagnostic.specs.Log.{Entries, entries, reported}
 use Rattle.stages.specs.declared.Control.{Control}
 use Rattle.stages.specs.declared.Run.{Run}
-use Rattle.stages.specs.Run.{Step, step, through, stepWithEntries, withNs, withLut, withFound, withTemperature, noted, waited}
-use Rattle.stages.specs.Stages.{clockOn, analogOn, byExternal, temperatureLoaded, modeOf, entryFor, settingIn, lutFound, lutLoaded, loaded}
+use Rattle.stages.specs.Run.{Step, step, through, stepWithEntries, withNs, withLut, withFound, withTemperature, withWaveform, noted, waited}
+use Rattle.stages.specs.Stages.{clockOn, analogOn, byExternal, temperatureLoaded, modeOf, entryFor, placeFor, settingIn, lutFound, lutLoaded, loaded}
 
 pub notes : (time : ℕ) (kind : DiagnosticKind) (s : Step) (e : Entries) → e ≡ reported (entries (s .run .journal) (s .log)) time kind
     → stepWithEntries s e ≡ noted time kind s
@@ -35,9 +35,10 @@ module _ (time ns : ℕ) (x : ExternalSensor) (s z : Step) where
   reads-none e f = rw e f
 
 module _ (time : ℕ) (mode : DisplayMode) (otp : List ℕ) (s : Step) (e : List ℕ) (is : e ≡ entryFor mode otp (s .run .temperature)) where
-  pub finds : (l : List ℕ) → length e ≡ 118 → l ≡ settingIn e → through (withLut l) s ≡ lutFound time mode otp s
+  pub finds : (l : List ℕ) (k : ℕ) → length e ≡ 118 → l ≡ settingIn e → k ≡ placeFor mode otp (s .run .temperature)
+      → through (λ (r : Run). withWaveform k (withLut l r)) s ≡ lutFound time mode otp s
   unfolding lutFound
-  finds l h f = rw (← is, eq-eqb _ _ h, f)
+  finds l k h f g = rw (← is, eq-eqb _ _ h, f, g)
 
   pub finds-none : (z : Step) → (length e ≡ 118 → ⊥) → z ≡ noted time (NoWaveform mode (s .run .temperature)) (through (withFound false) s)
       → z ≡ lutFound time mode otp s

@@ -35,31 +35,35 @@ step r l = record { run = r; log = l }
 
 -- the clock on or off
 abbrev pub withClock : Bool → Run → Run
-withClock new r = record { clock = new; analog = r .analog; ns = r .ns; «waveform_found» = r .«waveform_found»; temperature = r .temperature; lut = r .lut; journal = r .journal }
+withClock new r = record { clock = new; analog = r .analog; ns = r .ns; «waveform_found» = r .«waveform_found»; temperature = r .temperature; lut = r .lut; journal = r .journal; waveform = r .waveform }
 
 -- the analog supplies on or off
 abbrev pub withAnalog : Bool → Run → Run
-withAnalog new r = record { clock = r .clock; analog = new; ns = r .ns; «waveform_found» = r .«waveform_found»; temperature = r .temperature; lut = r .lut; journal = r .journal }
+withAnalog new r = record { clock = r .clock; analog = new; ns = r .ns; «waveform_found» = r .«waveform_found»; temperature = r .temperature; lut = r .lut; journal = r .journal; waveform = r .waveform }
 
 -- another time so far
 abbrev pub withNs : ℕ → Run → Run
-withNs new r = record { clock = r .clock; analog = r .analog; ns = new; «waveform_found» = r .«waveform_found»; temperature = r .temperature; lut = r .lut; journal = r .journal }
+withNs new r = record { clock = r .clock; analog = r .analog; ns = new; «waveform_found» = r .«waveform_found»; temperature = r .temperature; lut = r .lut; journal = r .journal; waveform = r .waveform }
 
 -- whether a waveform was found
 abbrev pub withFound : Bool → Run → Run
-withFound new r = record { clock = r .clock; analog = r .analog; ns = r .ns; «waveform_found» = new; temperature = r .temperature; lut = r .lut; journal = r .journal }
+withFound new r = record { clock = r .clock; analog = r .analog; ns = r .ns; «waveform_found» = new; temperature = r .temperature; lut = r .lut; journal = r .journal; waveform = r .waveform }
 
 -- another temperature register
 abbrev pub withTemperature : ℕ → Run → Run
-withTemperature new r = record { clock = r .clock; analog = r .analog; ns = r .ns; «waveform_found» = r .«waveform_found»; temperature = new; lut = r .lut; journal = r .journal }
+withTemperature new r = record { clock = r .clock; analog = r .analog; ns = r .ns; «waveform_found» = r .«waveform_found»; temperature = new; lut = r .lut; journal = r .journal; waveform = r .waveform }
 
 -- another LUT register
 abbrev pub withLut : List ℕ → Run → Run
-withLut new r = record { clock = r .clock; analog = r .analog; ns = r .ns; «waveform_found» = r .«waveform_found»; temperature = r .temperature; lut = new; journal = r .journal }
+withLut new r = record { clock = r .clock; analog = r .analog; ns = r .ns; «waveform_found» = r .«waveform_found»; temperature = r .temperature; lut = new; journal = r .journal; waveform = r .waveform }
 
 -- another journal
 abbrev pub runWithJournal : Journal → Run → Run
-runWithJournal new r = record { clock = r .clock; analog = r .analog; ns = r .ns; «waveform_found» = r .«waveform_found»; temperature = r .temperature; lut = r .lut; journal = new }
+runWithJournal new r = record { clock = r .clock; analog = r .analog; ns = r .ns; «waveform_found» = r .«waveform_found»; temperature = r .temperature; lut = r .lut; journal = new; waveform = r .waveform }
+
+-- another record of the waveform loaded
+abbrev pub withWaveform : ℕ → Run → Run
+withWaveform new r = record { clock = r .clock; analog = r .analog; ns = r .ns; «waveform_found» = r .«waveform_found»; temperature = r .temperature; lut = r .lut; journal = r .journal; waveform = new }
 
 -- a change of the run that leaves the log
 abbrev pub through : (Run → Run) → Step → Step

@@ -13,10 +13,10 @@ use Rattle.config.specs.declared.ExternalSensor.the-variants.{Absent, Reads}
 use Rattle.diagnostic.specs.declared.DiagnosticKind.the-variants.{WithoutClock, NoWaveform, NoExternalSensor}
 use Rattle.diagnostic.specs.declared.Stage.the-variants.{AnalogOn, TemperatureLoad, LutLoad}
 use Rattle.otp.specs.Table.{entryBytes}
-use Rattle.otp.specs.Waveform.{foundEntry, partOf}
+use Rattle.otp.specs.Waveform.{foundEntry, partOf, placeOf}
 use Rattle.stages.specs.declared.Control.{Control}
 use Rattle.stages.specs.declared.Run.{Run}
-use Rattle.stages.specs.Run.{Step, through, withClock, withAnalog, withFound, withTemperature, withLut, noted, waited}
+use Rattle.stages.specs.Run.{Step, through, withClock, withAnalog, withFound, withTemperature, withLut, withWaveform, noted, waited}
 
 -- bit 7: a clock that is off starts
 unfoldable pub clockOn : Bool → ℕ → Run → Run
@@ -65,11 +65,19 @@ settingIn entry = take 112 (drop 6 entry)
 abbrev pub entryFor : DisplayMode → List ℕ → ℕ → List ℕ
 entryFor mode otp register = partOf otp (foundEntry otp mode register)
 
--- the entry's setting becomes the LUT register; without one 35, and nothing will be displayed (datasheet §6.9)
+-- the number of that entry, 255 for none
+abbrev pub placeFor : DisplayMode → List ℕ → ℕ → ℕ
+placeFor mode otp register = placeOf (foundEntry otp mode register)
+
+-- the entry's setting becomes the LUT register, and its number the record of the waveform loaded (#108)
+abbrev pub withEntryFor : DisplayMode → List ℕ → ℕ → Run → Run
+withEntryFor mode otp register r = withWaveform (placeFor mode otp register) (withLut (settingIn (entryFor mode otp register)) r)
+
+-- so it is where there is one; without one 35, nothing will be displayed (datasheet §6.9), and the LUT register and its record stay
 unfoldable pub lutFound : ℕ → DisplayMode → List ℕ → Step → Step
 lutFound time mode otp s =
     pick (eqb (length (entryFor mode otp (s .run .temperature))) entryBytes)
-    (through (withLut (settingIn (entryFor mode otp (s .run .temperature)))) s)
+    (through (withEntryFor mode otp (s .run .temperature)) s)
     (noted time (NoWaveform mode (s .run .temperature)) (through (withFound false) s))
 
 -- bit 4: the LUT is loaded, if the clock is on, and the load takes its time whatever it finds; else 33

@@ -44,6 +44,8 @@ pub struct Run {
     pub temperature: u16,
     pub lut: [u8; 112],
     pub journal: Journal,
+    // The OTP entry of the last waveform loaded, 255 for none.
+    pub waveform: u8,
 }
 
 pub fn note(run: Run, log: &mut [u8], time: u64, kind: DiagnosticKind) -> Run

@@ -17,8 +17,8 @@ use Rattle.diagnostic.specs.Log.{Entries, entries, reported}
 use Rattle.otp.specs.Table.{entryBytes}
 use Rattle.stages.specs.declared.Control.{Control}
 use Rattle.stages.specs.declared.Run.{Run}
-use Rattle.stages.specs.Run.{Step, through, withClock, withAnalog, withFound, withTemperature, withLut, noted, waited}
-use Rattle.stages.specs.Stages.{clockOn, analogOn, byExternal, sensed, temperatureLoaded, modeOf, settingIn, entryFor, lutFound, lutLoaded, loaded}
+use Rattle.stages.specs.Run.{Step, through, withClock, withAnalog, withFound, withTemperature, noted, waited}
+use Rattle.stages.specs.Stages.{clockOn, analogOn, byExternal, sensed, temperatureLoaded, modeOf, entryFor, withEntryFor, lutFound, lutLoaded, loaded}
 
 -- what holds of both arms holds of the choice
 pub either : {A : Type 0} (P : A → Type 0) (b : Bool) (x y : A) → P x → P y → P (pick b x y)
@@ -90,8 +90,8 @@ module _ (Q : ℕ → Entries → Type 0)
     found-holds : (mode : DisplayMode) (otp : List ℕ) (s : Step) → Holds s → Holds (lutFound time mode otp s)
     unfolding lutFound
     found-holds mode otp s h =
-        let entry = entryFor mode otp (s .run .temperature) in
-        either Holds (eqb (length entry) entryBytes) (through (withLut (settingIn entry)) s)
+        either Holds (eqb (length (entryFor mode otp (s .run .temperature))) entryBytes)
+        (through (withEntryFor mode otp (s .run .temperature)) s)
         (noted time (NoWaveform mode (s .run .temperature)) (through (withFound false) s))
         h
         (noted-holds time (NoWaveform mode (s .run .temperature)) (through (withFound false) s) h)

@@ -37,11 +37,13 @@ pub fn source_voltage(index: u16) -> u16
     108
 }
 
-// A byte of the LUT register: 0x32 (VS, TP, RP, frame rates), 0x03 (VGH), 0x04 (VSH1, VSH2, VSL), 0x2C (DCVCOM).
-pub fn waveform_byte(regs: Registers, at: u16, byte: u8) -> Registers
-    ensures { λ r. ⌜ r ≡ withLoaded regs (regs .temperature) (bytesPut 112 (regs .lut) at byte) ⌝ }
+// A byte of the LUT register: 0x32 (VS, TP, RP, frame rates), 0x03 (VGH), 0x04 (VSH1, VSH2, VSL), 0x2C (DCVCOM). With it the record of
+// the waveform loaded, which a byte of 0x32 clears.
+pub fn waveform_byte(regs: Registers, at: u16, byte: u8, waveform: u8) -> Registers
+    ensures { λ r. ⌜ r ≡ withLoaded regs (regs .temperature) (bytesPut 112 (regs .lut) at byte) waveform ⌝ }
 {
     let mut next = regs;
+    next.waveform = waveform;
     if at < 112 {
         let i = at as usize;
         next.lut[i] = byte;

@@ -2,13 +2,13 @@
 use mathlib.Core.Path.{_≡_, refl, sym, ap, subst, _∙_}
 use mathlib.Core.Bool.{Bool, true, false, cond}
 use mathlib.Core.List.{List, [], _∷_, _++_}
-use Prim.Native.Nat.{ℕ, zero, suc, _+_, _-_, _*_, _/_, _%_, _^_, _<_, _≤_}
+use Prim.Native.Nat.{ℕ, zero, suc, _+_, _-_, _/_, _%_, _^_, _<_, _≤_}
 use native.Mathlib.Nat.{pow-suc, one-le-pow, pow-le-pow-right, zero-lt-suc}
 use native.Mathlib.Numerals.{add-one}
 use native.Mathlib.Omega.{arith}
 use lib.Dec.{leb, ltb}
 use lib.ListN.{length, take, getD}
-use lib.Seq.{take-suc, take-length}
+use lib.Seq.{take-suc}
 use borrow.Author.Tests.{leb-true, leb-false, lt-ltb, le-ltb}
 use Rattle.io.specs.Digits.{glyph, digits, Fewest}
 use Rattle.numbers.specs.Choice.{pick}

@@ -7,7 +7,7 @@ use native.Mathlib.Omega.{arith}
 use lib.Dec.{eqb}
 use lib.IntN.{ℤ}
 use lib.ListN.{length, getD}
-use borrow.Author.Tests.{eqb-true}
+use borrow.Author.Tests.{eqb-true, eq-eqb}
 use Rattle.numbers.specs.Choice.{pick}
 use Rattle.numbers.specs.Rows.{lookup}
 use Rattle.numbers.proofs.Cases.{left, right}
@@ -20,6 +20,7 @@ use Rattle.device.specs.declared.Current.{Current}
 use Rattle.device.specs.declared.Current.the-variants as current
 use Rattle.device.specs.declared.Ssd1677.{Ssd1677}
 use Rattle.device.specs.Parts.{withNow, withCurrent, withPointed}
+use Rattle.counts.specs.Counts.{Picture}
 use Rattle.world.specs.World.{World, world, withRam, WithPlanes, withPlanes, planesInWorld}
 use Rattle.registers.proofs.Bounds.{Bounded}
 use Rattle.clock.specs.Advance.{isQuiet}
@@ -32,7 +33,7 @@ use Rattle.guard_lengths.specs.Lengths.{lengthsFit, planesLogLent}
 use Rattle.guard_kinds.specs.Kinds.{currentFine}
 use Rattle.guard_state.specs.State.{panelFine, swingFine, periodsFine, registersFine, countFine, frequencyFine, stateFine}
 use Rattle.guard_laws.proofs.Joined.{each}
-use Rattle.guard_laws.proofs.Accepted.{fine-registers, accepted-state, accepted-lengths}
+use Rattle.guard_laws.proofs.Accepted.{fine-registers, accepted-state, accepted-lengths, accepted-counts}
 use Rattle.guard_laws.proofs.Kept.{registers-pass, state-passes}
 use Rattle.guard.specs.declared.Refusal.{Refusal}
 use Rattle.guard.specs.declared.Refusal.the-variants.{Accepted}
@@ -100,9 +101,9 @@ module _ (d : Ssd1677) (a : Active) (is : d .bus .current ≡ current.Active a) 
       }))
       (passed 4) (still-current (s .received)) (passed 6)
 
-accepted : (d : Ssd1677) (l : Lengths) → stateFine d ≡ true → lengthsFit (d .config .panel) l ≡ true → guarded d l ≡ Accepted
+accepted : (d : Ssd1677) (l : Lengths) → stateFine d ≡ true → lengthsFit (d .config .panel) l ≡ true → l .counts ≡ 256 → guarded d l ≡ Accepted
 unfolding guarded
-accepted d l e f = rw (e, f)
+accepted d l e f k = rw (e, f, eq-eqb (l .counts) 256 k)
 
 -- ---- a byte of a burst is a call
 
@@ -113,19 +114,20 @@ data-event kind time value e = rw e
 
 -- the command's own plane, of two: `white` says that it is the black-white one
 module _ (d : Ssd1677) (a : Active) (is : d .bus .current ≡ current.Active a) (fine : stateFine d ≡ true) (streams : isStream (a .kind) ≡ true)
-    (white : Bool) (plane-is : eqb (a .command) 0x24 ≡ white) (other : List ℕ) (states : List ℤ) (luts pixels gates log : List ℕ) where
+    (white : Bool) (plane-is : eqb (a .command) 0x24 ≡ white) (other : List ℕ) (states : List ℤ) (luts : List ℕ) (shown : Picture) (gates log : List ℕ)
+    (counted : length (shown .counts) ≡ 256) where
   -- the planes' lengths are such as 11 accepts
   Fit : List ℕ → Type 0
   Fit p =
       lengthsFit (d .config .panel)
-      (planesLogLent (length states) (length luts) (length pixels) (length log) (length (pick white p other)) (length (pick white other p)))
+      (planesLogLent (length states) (length luts) (length (shown .pixels)) (length (shown .counts)) (length log) (length (pick white p other)) (length (pick white other p)))
       ≡ true
 
   abbrev planes : Reached → List ℕ → WithPlanes
-  planes s p = withPlanes (reachedBy d a s) states pixels (pick white p other) (pick white other p) log
+  planes s p = withPlanes (reachedBy d a s) states shown (pick white p other) (pick white other p) log
 
   abbrev at : Reached → List ℕ → World
-  at s p = world (reachedBy d a s) states luts pixels (pick white p other) (pick white other p) gates log
+  at s p = world (reachedBy d a s) states luts shown (pick white p other) (pick white other p) gates log
 
   -- the byte is put, the counter steps and the byte counts
   put-one : (time byte : ℕ) (s : Reached) (p : List ℕ) → wroteAt p (s .counter) ≡ true
@@ -169,8 +171,8 @@ module _ (d : Ssd1677) (a : Active) (is : d .bus .current ≡ current.Active a) 
       → outcome 0 (planes (onward (courseOf d) time s) (writtenAt p (s .counter) byte)) ≡ dataWritten luts time byte (planes s p)
   unfolding Fit
   written-one time byte s p ten fit quiet there =
-      let l = planesLogLent (length states) (length luts) (length pixels) (length log) (length (pick white p other)) (length (pick white other p)) in
-      let ok = accepted (reachedBy d a s) l (fine-reached d a is fine s ten) fit in
+      let l = planesLogLent (length states) (length luts) (length (shown .pixels)) (length (shown .counts)) (length log) (length (pick white p other)) (length (pick white other p)) in
+      let ok = accepted (reachedBy d a s) l (fine-reached d a is fine s ten) fit counted in
       ap (λ (r : Refusal). outcome (refusalNumber r) (planes (onward (courseOf d) time s) (writtenAt p (s .counter) byte))) (sym ok)
       ∙ data-rests luts time byte (planes s p) l (guarded (reachedBy d a s) l) (accepts (guarded (reachedBy d a s) l)) refl refl refl
       (withNow (reachedBy d a s) (max (s .latest) time)) true
@@ -205,10 +207,10 @@ module _ (d : Ssd1677) (a : Active) (is : d .bus .current ≡ current.Active a) 
       where
         by : (t : Bool)
             → lengthsFit (d .config .panel)
-            (planesLogLent (length states) (length luts) (length pixels) (length log) (length (pick t p other)) (length (pick t other p)))
+            (planesLogLent (length states) (length luts) (length (shown .pixels)) (length (shown .counts)) (length log) (length (pick t p other)) (length (pick t other p)))
             ≡ true
             → lengthsFit (d .config .panel)
-            (planesLogLent (length states) (length luts) (length pixels) (length log)
+            (planesLogLent (length states) (length luts) (length (shown .pixels)) (length (shown .counts)) (length log)
             (length (pick t (writtenAt p c byte) other))
             (length (pick t other (writtenAt p c byte))))
             ≡ true
@@ -275,7 +277,7 @@ module _ (kinds times values : List ℕ) (count i : ℕ) (within : i ≤ count) 
 
   pub stays : Goes (bursted i d blackWhite red)
   unfolding EndsAlike
-  stays = record { from-here = omega arith; to-count = within; alike = λ gates otp luts pixels log states e. refl }
+  stays = record { from-here = omega arith; to-count = within; alike = λ gates otp luts shown log states e. refl }
 
   -- where a command's bytes end
   abbrev ends : Active → List ℕ → Ran
@@ -294,7 +296,7 @@ module _ (kinds times values : List ℕ) (count i : ℕ) (within : i ≤ count) 
 
       goes-alike : EndsAlike kinds times values count lengths (bursted i d blackWhite red) burst
       unfolding EndsAlike Alike Fit
-      goes-alike gates otp luts pixels log states e =
+      goes-alike gates otp luts shown log states e =
           let m = ends a plane .made in
           let all : i + (count - i) - m ≡ count - m = omega (arith, within) in
           let step = made otp (eventAt kinds times values) in
@@ -302,15 +304,16 @@ module _ (kinds times values : List ℕ) (count i : ℕ) (within : i ≤ count) 
           ap (λ (l : Lengths). lengthsFit (d .config .panel) l)
           (sym
           (e
-          ∙ ap (λ (p : List ℕ). planesLogLent (length states) (length luts) (length pixels) (length log) (length p) (length red)) first
-          ∙ ap (λ (p : List ℕ). planesLogLent (length states) (length luts) (length pixels) (length log) (length (pick white plane other)) (length p)) second))
+          ∙ ap (λ (p : List ℕ). planesLogLent (length states) (length luts) (length (shown .pixels)) (length (shown .counts)) (length log) (length p) (length red)) first
+          ∙ ap (λ (p : List ℕ). planesLogLent (length states) (length luts) (length (shown .pixels)) (length (shown .counts)) (length log) (length (pick white plane other)) (length p)) second))
           ∙ accepted-lengths d lengths passes in
-          ap (λ (k : ℕ). feeding step k m (world (burst .device) states luts pixels (burst .blackWhite) (burst .red) gates log)) (sym all)
-          ∙ burst-alike d a is fine streams white plane-is other states luts pixels gates log otp kinds times values (count - i) i (startOf d a) plane
+          let counted = ap (λ (l : Lengths). l .counts) (sym e) ∙ accepted-counts d lengths passes in
+          ap (λ (k : ℕ). feeding step k m (world (burst .device) states luts shown (burst .blackWhite) (burst .red) gates log)) (sym all)
+          ∙ burst-alike d a is fine streams white plane-is other states luts shown gates log counted otp kinds times values (count - i) i (startOf d a) plane
           (counter-ten d a is fine) fit
-          ∙ ap (λ (x : Ssd1677). feeding step (count - i) i (world x states luts pixels (pick white plane other) (pick white other plane) gates log)) (starts d a is)
-          ∙ ap (λ (p : List ℕ). feeding step (count - i) i (world d states luts pixels p (pick white other plane) gates log)) (sym first)
-          ∙ ap (λ (p : List ℕ). feeding step (count - i) i (world d states luts pixels blackWhite p gates log)) (sym second)
+          ∙ ap (λ (x : Ssd1677). feeding step (count - i) i (world x states luts shown (pick white plane other) (pick white other plane) gates log)) (starts d a is)
+          ∙ ap (λ (p : List ℕ). feeding step (count - i) i (world d states luts shown p (pick white other plane) gates log)) (sym first)
+          ∙ ap (λ (p : List ℕ). feeding step (count - i) i (world d states luts shown blackWhite p gates log)) (sym second)
 
       burst-goes : Goes burst
       burst-goes =

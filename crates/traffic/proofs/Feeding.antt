@@ -8,7 +8,7 @@ use lib.Dec.{eqb}
 use Rattle.numbers.specs.Choice.{pick}
 use Rattle.query.specs.Outcome.{Outcome, outcome}
 use Rattle.guard.specs.declared.Refusal.{Refusal}
-use Rattle.guard.specs.declared.Refusal.the-variants.{Accepted, Buffer, Table, State}
+use Rattle.guard.specs.declared.Refusal.the-variants.{Accepted, Buffer, Table, State, Counts}
 use Rattle.guard.specs.Refusals.{refusalNumber, accepts}
 use Rattle.ram.specs.declared.Byte.{Byte}
 use Rattle.event.specs.declared.Event.{Event}
@@ -42,6 +42,7 @@ module _ {A : Type 0} (step : ℕ → A → Outcome A) where
   fed-more count i f w Buffer h a e g = absurd (never a)
   fed-more count i f w Table h a e g = absurd (never a)
   fed-more count i f w State h a e g = absurd (never a)
+  fed-more count i f w Counts h a e g = absurd (never a)
 
   -- a refused step is the last
   pub fed-last : (count i : ℕ) (f : Fed A) (w : A) {v : A} (refusal : Refusal) → i < count → accepts refusal ≡ false
@@ -50,6 +51,7 @@ module _ {A : Type 0} (step : ℕ → A → Outcome A) where
   fed-last count i f w Buffer h a e g = ap (goesOn (count - (i + 1)) i) e ∙ sym (next count i w h) ∙ g
   fed-last count i f w Table h a e g = ap (goesOn (count - (i + 1)) i) e ∙ sym (next count i w h) ∙ g
   fed-last count i f w State h a e g = ap (goesOn (count - (i + 1)) i) e ∙ sym (next count i w h) ∙ g
+  fed-last count i f w Counts h a e g = ap (goesOn (count - (i + 1)) i) e ∙ sym (next count i w h) ∙ g
 
   -- all were accepted
   pub fed-all : (count i : ℕ) (f : Fed A) (w : A) → count - i ≡ 0 → feeding step (count - i) i w ≡ f → fed 0 i w ≡ f
@@ -64,6 +66,7 @@ module _ {A : Type 0} (step : ℕ → A → Outcome A) where
   ended-on count Buffer i w a = absurd (never a)
   ended-on count Table i w a = absurd (never a)
   ended-on count State i w a = absurd (never a)
+  ended-on count Counts i w a = absurd (never a)
 
   -- after a refused one none is
   pub ended-there : (count : ℕ) (refusal : Refusal) (i : ℕ) (w : A) → accepts refusal ≡ false
@@ -73,6 +76,7 @@ module _ {A : Type 0} (step : ℕ → A → Outcome A) where
   ended-there count Buffer i w a = refl
   ended-there count Table i w a = refl
   ended-there count State i w a = refl
+  ended-there count Counts i w a = refl
 
   -- a step, accepted or refused, with those that are made by then
   pub step-made : (count i m : ℕ) (w : A) {v : A} (refusal : Refusal) → i < count → m ≡ pick (accepts refusal) (i + 1) i → outcome (refusalNumber refusal) v ≡ step i w

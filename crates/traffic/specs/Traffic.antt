@@ -11,6 +11,7 @@ use Rattle.event.specs.Events.{eventOf}
 use Rattle.guard_lengths.specs.declared.Lengths.{Lengths}
 use Rattle.guard_lengths.specs.Lengths.{planesLogLent}
 use Rattle.query.specs.Outcome.{Outcome, outcome}
+use Rattle.counts.specs.Counts.{Picture}
 use Rattle.world.specs.World.{World, world}
 use Rattle.dispatch.specs.Dispatch.{Told, dispatched}
 use Rattle.burst.specs.Burst.{Bursted}
@@ -54,9 +55,9 @@ made otp event i w = unread (dispatched otp w (event i))
 -- the rest of the events, fed from one place with its state and planes, ends as from another, whatever else is lent with the lengths of a data byte's call
 unfoldable pub EndsAlike : List ℕ → List ℕ → List ℕ → ℕ → Lengths → Bursted → Bursted → Type 0
 EndsAlike kinds times values count lengths one other =
-    (gates otp luts pixels log : List ℕ) (states : List ℤ)
-    → lengths ≡ planesLogLent (length states) (length luts) (length pixels) (length log) (length (one .blackWhite)) (length (one .red))
+    (gates otp luts : List ℕ) (shown : Picture) (log : List ℕ) (states : List ℤ)
+    → lengths ≡ planesLogLent (length states) (length luts) (length (shown .pixels)) (length (shown .counts)) (length log) (length (one .blackWhite)) (length (one .red))
     → feeding (made otp (eventAt kinds times values)) (count - other .made) (other .made)
-    (world (other .device) states luts pixels (other .blackWhite) (other .red) gates log)
+    (world (other .device) states luts shown (other .blackWhite) (other .red) gates log)
     ≡ feeding (made otp (eventAt kinds times values)) (count - one .made) (one .made)
-    (world (one .device) states luts pixels (one .blackWhite) (one .red) gates log)
+    (world (one .device) states luts shown (one .blackWhite) (one .red) gates log)

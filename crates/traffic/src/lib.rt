@@ -5,10 +5,12 @@ ghost use Prim.Native.Nat.{_+_, _-_, _^_, _≤_, _<_, min};
 ghost use lib.ListN.{length};
 ghost use Rattle.numbers.specs.Choice.{pick};
 ghost use Rattle.guard.specs.Refusals.{refusalNumber, accepts};
+ghost use Rattle.counts.specs.Counts.{picture};
 ghost use Rattle.world.specs.World.{world};
 ghost use Rattle.burst.specs.Burst.{bursted};
 ghost use Rattle.traffic.specs.Traffic.{eventAt, shortest, fed, made, feeding, ended, EndsAlike};
 use burst::Burst;
+use burst::DATA;
 use device::Ssd1677;
 use guard::Refusal;
 use guard_lengths::Lengths;
@@ -45,7 +47,7 @@ fn stream(
     ensures { λ r. ⌜ (from ≤ r .made) × (r .made ≤ count) ⌝ }
     ensures { λ r. ⌜ EndsAlike (now (kinds .entry)) (now (times .entry)) (now (values .entry)) count lengths (bursted from state (now («black_white» .entry)) (now (red .entry))) (bursted (r .made) (r .state) (now («black_white» .exit)) (now (red .exit))) ⌝ }
 {
-    if kinds[from] == 2 {
+    if kinds[from] == DATA {
         let refusal = guard::check(state, lengths);
         if guard::is_accepted(refusal) {
             return burst::write_burst(state, black_white, red, kinds, times, values, from, count);
@@ -72,6 +74,7 @@ fn one(
     states: &mut [i64],
     luts: &mut [u8],
     pixels: &mut [u8],
+    counts: &mut [u32],
     black_white: &mut [u8],
     red: &mut [u8],
     gates: &[u16],
@@ -85,7 +88,7 @@ fn one(
 ) -> Fed
     requires { ⌜ (at ≤ count) × (count ≤ length (now kinds)) × (count ≤ length (now times)) × (count ≤ length (now values)) ⌝ }
     ensures { λ r. ⌜ (accepts (r .refusal) ≡ true → r .made ≡ min count (at + 1)) ⌝ }
-    ensures { λ r. ⌜ ended (made (now (otp .entry)) (eventAt (now (kinds .entry)) (now (times .entry)) (now (values .entry)))) count (fed (refusalNumber (r .refusal)) (r .made) (world (r .state) (now (states .exit)) (now (luts .exit)) (now (pixels .exit)) (now («black_white» .exit)) (now (red .exit)) (now (gates .entry)) (now (log .exit)))) ≡ feeding (made (now (otp .entry)) (eventAt (now (kinds .entry)) (now (times .entry)) (now (values .entry)))) (count - at) at (world state (now (states .entry)) (now (luts .entry)) (now (pixels .entry)) (now («black_white» .entry)) (now (red .entry)) (now (gates .entry)) (now (log .entry))) ⌝ }
+    ensures { λ r. ⌜ ended (made (now (otp .entry)) (eventAt (now (kinds .entry)) (now (times .entry)) (now (values .entry)))) count (fed (refusalNumber (r .refusal)) (r .made) (world (r .state) (now (states .exit)) (now (luts .exit)) (picture (now (pixels .exit)) (now (counts .exit))) (now («black_white» .exit)) (now (red .exit)) (now (gates .entry)) (now (log .exit)))) ≡ feeding (made (now (otp .entry)) (eventAt (now (kinds .entry)) (now (times .entry)) (now (values .entry)))) (count - at) at (world state (now (states .entry)) (now (luts .entry)) (picture (now (pixels .entry)) (now (counts .entry))) (now («black_white» .entry)) (now (red .entry)) (now (gates .entry)) (now (log .entry))) ⌝ }
 {
     if count <= at {
         return Fed {
@@ -100,6 +103,7 @@ fn one(
         &mut states[..],
         &mut luts[..],
         &mut pixels[..],
+        &mut counts[..],
         &mut black_white[..],
         &mut red[..],
         gates,
@@ -123,6 +127,7 @@ fn turn(
     states: &mut [i64],
     luts: &mut [u8],
     pixels: &mut [u8],
+    counts: &mut [u32],
     black_white: &mut [u8],
     red: &mut [u8],
     gates: &[u16],
@@ -136,12 +141,13 @@ fn turn(
 ) -> Fed
     requires { ⌜ (from < count) × (count ≤ length (now kinds)) × (count ≤ length (now times)) × (count ≤ length (now values)) ⌝ }
     ensures { λ r. ⌜ (accepts (r .refusal) ≡ true → (from < r .made) × (r .made ≤ count)) ⌝ }
-    ensures { λ r. ⌜ ended (made (now (otp .entry)) (eventAt (now (kinds .entry)) (now (times .entry)) (now (values .entry)))) count (fed (refusalNumber (r .refusal)) (r .made) (world (r .state) (now (states .exit)) (now (luts .exit)) (now (pixels .exit)) (now («black_white» .exit)) (now (red .exit)) (now (gates .entry)) (now (log .exit)))) ≡ feeding (made (now (otp .entry)) (eventAt (now (kinds .entry)) (now (times .entry)) (now (values .entry)))) (count - from) from (world state (now (states .entry)) (now (luts .entry)) (now (pixels .entry)) (now («black_white» .entry)) (now (red .entry)) (now (gates .entry)) (now (log .entry))) ⌝ }
+    ensures { λ r. ⌜ ended (made (now (otp .entry)) (eventAt (now (kinds .entry)) (now (times .entry)) (now (values .entry)))) count (fed (refusalNumber (r .refusal)) (r .made) (world (r .state) (now (states .exit)) (now (luts .exit)) (picture (now (pixels .exit)) (now (counts .exit))) (now («black_white» .exit)) (now (red .exit)) (now (gates .entry)) (now (log .exit)))) ≡ feeding (made (now (otp .entry)) (eventAt (now (kinds .entry)) (now (times .entry)) (now (values .entry)))) (count - from) from (world state (now (states .entry)) (now (luts .entry)) (picture (now (pixels .entry)) (now (counts .entry))) (now («black_white» .entry)) (now (red .entry)) (now (gates .entry)) (now (log .entry))) ⌝ }
 {
     let lengths = guard_lengths::planes_log_lent(
         states.len(),
         luts.len(),
         pixels.len(),
+        counts.len(),
         log.len(),
         black_white.len(),
         red.len(),
@@ -164,6 +170,7 @@ fn turn(
         states,
         luts,
         pixels,
+        counts,
         black_white,
         red,
         gates,
@@ -183,6 +190,7 @@ pub fn feed(
     states: &mut [i64],
     luts: &mut [u8],
     pixels: &mut [u8],
+    counts: &mut [u32],
     black_white: &mut [u8],
     red: &mut [u8],
     gates: &[u16],
@@ -192,7 +200,7 @@ pub fn feed(
     times: &[u64],
     values: &[u8],
 ) -> Fed
-    ensures { λ r. ⌜ fed (refusalNumber (r .refusal)) (r .made) (world (r .state) (now (states .exit)) (now (luts .exit)) (now (pixels .exit)) (now («black_white» .exit)) (now (red .exit)) (now (gates .entry)) (now (log .exit))) ≡ feeding (made (now (otp .entry)) (eventAt (now (kinds .entry)) (now (times .entry)) (now (values .entry)))) (shortest (now (kinds .entry)) (now (times .entry)) (now (values .entry))) 0 (world state (now (states .entry)) (now (luts .entry)) (now (pixels .entry)) (now («black_white» .entry)) (now (red .entry)) (now (gates .entry)) (now (log .entry))) ⌝ }
+    ensures { λ r. ⌜ fed (refusalNumber (r .refusal)) (r .made) (world (r .state) (now (states .exit)) (now (luts .exit)) (picture (now (pixels .exit)) (now (counts .exit))) (now («black_white» .exit)) (now (red .exit)) (now (gates .entry)) (now (log .exit))) ≡ feeding (made (now (otp .entry)) (eventAt (now (kinds .entry)) (now (times .entry)) (now (values .entry)))) (shortest (now (kinds .entry)) (now (times .entry)) (now (values .entry))) 0 (world state (now (states .entry)) (now (luts .entry)) (picture (now (pixels .entry)) (now (counts .entry))) (now («black_white» .entry)) (now (red .entry)) (now (gates .entry)) (now (log .entry))) ⌝ }
 {
     let count = shorter(kinds.len(), shorter(times.len(), values.len()));
     let mut next = state;
@@ -203,6 +211,7 @@ pub fn feed(
             &mut states[..],
             &mut luts[..],
             &mut pixels[..],
+            &mut counts[..],
             &mut black_white[..],
             &mut red[..],
             gates,

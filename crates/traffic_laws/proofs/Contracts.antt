@@ -20,6 +20,7 @@ use Rattle.event.specs.declared.Event.{Event}
 use Rattle.dispatch.specs.Dispatch.{Told}
 use Rattle.traffic.specs.Traffic.{Fed, fed, feeding, unread, made, eventAt, shortest}
 use Rattle.calls.specs.World.{Call, called}
+use Rattle.counts.specs.Counts.{picture}
 use Rattle.world.specs.World.{World, world}
 use Rattle.history.specs.Reckon.{coreOf, reckon, firstReckoning}
 use Rattle.history.specs.Runs as runs
@@ -39,10 +40,10 @@ pub dispatches-called : {otp : List ℕ} {w v : World} {sent : Event} {reason : 
     → outcome (refusalNumber reason) v ≡ called otp w (callOf sent)
 dispatches-called (contracts.dispatch κs a r s q) =
     let w =
-    world (a .0) (now (a .1 .0)) (now (a .1 .1 .0)) (now (a .1 .1 .1 .0)) (now (a .1 .1 .1 .1 .0)) (now (a .1 .1 .1 .1 .1 .0))
-    (now (a .1 .1 .1 .1 .1 .1 .0)) (now (a .1 .1 .1 .1 .1 .1 .1 .0)) in
+    world (a .0) (now (a .1 .0)) (now (a .1 .1 .0)) (picture (now (a .1 .1 .1 .0)) (now (a .1 .1 .1 .1 .0))) (now (a .1 .1 .1 .1 .1 .0)) (now (a .1 .1 .1 .1 .1 .1 .0))
+    (now (a .1 .1 .1 .1 .1 .1 .1 .0)) (now (a .1 .1 .1 .1 .1 .1 .1 .1 .0)) in
     ap (λ (o : Outcome Told). unread o) q
-    ∙ dispatched-called (now (a .1 .1 .1 .1 .1 .1 .1 .1 .0)) w (a .1 .1 .1 .1 .1 .1 .1 .1 .1 .0)
+    ∙ dispatched-called (now (a .1 .1 .1 .1 .1 .1 .1 .1 .1 .0)) w (a .1 .1 .1 .1 .1 .1 .1 .1 .1 .1 .0)
 
 -- ---- a list of events: those that are made run, and a refused one leaves what it was handed
 module _ (otp : List ℕ) (event : ℕ → Event) where
@@ -91,13 +92,13 @@ from-none e = omega arith
 
 pub feeds-runs : {otp : List ℕ} {w v : World} {list : List Call} → Feeds otp w list v → Runs otp w list v
 feeds-runs (contracts.feed κs a r s q) =
-    let otp = now (a .1 .1 .1 .1 .1 .1 .1 .1 .0) in
-    let kinds = now (a .1 .1 .1 .1 .1 .1 .1 .1 .1 .0) in
-    let times = now (a .1 .1 .1 .1 .1 .1 .1 .1 .1 .1 .0) in
-    let values = now (a .1 .1 .1 .1 .1 .1 .1 .1 .1 .1 .1 .0) in
+    let otp = now (a .1 .1 .1 .1 .1 .1 .1 .1 .1 .0) in
+    let kinds = now (a .1 .1 .1 .1 .1 .1 .1 .1 .1 .1 .0) in
+    let times = now (a .1 .1 .1 .1 .1 .1 .1 .1 .1 .1 .1 .0) in
+    let values = now (a .1 .1 .1 .1 .1 .1 .1 .1 .1 .1 .1 .1 .0) in
     let w =
-    world (a .0) (now (a .1 .0)) (now (a .1 .1 .0)) (now (a .1 .1 .1 .0)) (now (a .1 .1 .1 .1 .0)) (now (a .1 .1 .1 .1 .1 .0))
-    (now (a .1 .1 .1 .1 .1 .1 .0)) (now (a .1 .1 .1 .1 .1 .1 .1 .0)) in
+    world (a .0) (now (a .1 .0)) (now (a .1 .1 .0)) (picture (now (a .1 .1 .1 .0)) (now (a .1 .1 .1 .1 .0))) (now (a .1 .1 .1 .1 .1 .0)) (now (a .1 .1 .1 .1 .1 .1 .0))
+    (now (a .1 .1 .1 .1 .1 .1 .1 .0)) (now (a .1 .1 .1 .1 .1 .1 .1 .1 .0)) in
     let event = eventAt kinds times values in
     subst (λ (x : World). Runs otp w (callsFrom event (r .made) 0) x)
     (ap (λ (f : Fed World). f .left) (sym q))

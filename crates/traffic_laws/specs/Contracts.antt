@@ -8,6 +8,7 @@ use Rattle.guard.specs.declared.Refusal.{Refusal}
 use Rattle.guard.specs.declared.Refusal.the-variants.{Accepted}
 use Rattle.event.specs.declared.Event.{Event}
 use Rattle.traffic.specs.Traffic.{eventAt}
+use Rattle.counts.specs.Counts.{picture}
 use Rattle.world.specs.World.{World, world}
 use Rattle.calls.specs.World.{Call}
 use Rattle.history.specs.Runs.{Beside}
@@ -17,29 +18,29 @@ use Rattle.traffic.proofs.feed.Reads as feed-reads
 use Rattle.traffic_laws.specs.Events.{callOf, callsFrom}
 
 -- an event handed to `dispatch` under a table, with a world, and what it answered and left. Its arguments: state, states, LUTs, pixels,
--- black-white, red, gates, log, table, event; the byte of a read is the caller's
+-- counts, black-white, red, gates, log, table, event; the byte of a read is the caller's
 pub data Dispatches : List ℕ → World → Event → Refusal → World → Type 0 where
-  dispatch : (κs : Lfts 8) (a : _) (r : _) (s : _) → dispatch-reads.Learnt κs a r s
-      → Dispatches (now (a .1 .1 .1 .1 .1 .1 .1 .1 .0))
-      (world (a .0) (now (a .1 .0)) (now (a .1 .1 .0)) (now (a .1 .1 .1 .0)) (now (a .1 .1 .1 .1 .0)) (now (a .1 .1 .1 .1 .1 .0))
-      (now (a .1 .1 .1 .1 .1 .1 .0)) (now (a .1 .1 .1 .1 .1 .1 .1 .0)))
-      (a .1 .1 .1 .1 .1 .1 .1 .1 .1 .0)
+  dispatch : (κs : Lfts 9) (a : _) (r : _) (s : _) → dispatch-reads.Learnt κs a r s
+      → Dispatches (now (a .1 .1 .1 .1 .1 .1 .1 .1 .1 .0))
+      (world (a .0) (now (a .1 .0)) (now (a .1 .1 .0)) (picture (now (a .1 .1 .1 .0)) (now (a .1 .1 .1 .1 .0))) (now (a .1 .1 .1 .1 .1 .0)) (now (a .1 .1 .1 .1 .1 .1 .0))
+      (now (a .1 .1 .1 .1 .1 .1 .1 .0)) (now (a .1 .1 .1 .1 .1 .1 .1 .1 .0)))
+      (a .1 .1 .1 .1 .1 .1 .1 .1 .1 .1 .0)
       (r .refusal)
-      (world (r .state) (now (s .1 .0)) (now (s .1 .1 .0)) (now (s .1 .1 .1 .0)) (now (s .1 .1 .1 .1 .0)) (now (s .1 .1 .1 .1 .1 .0))
-      (now (a .1 .1 .1 .1 .1 .1 .0)) (now (s .1 .1 .1 .1 .1 .1 .1 .0)))
+      (world (r .state) (now (s .1 .0)) (now (s .1 .1 .0)) (picture (now (s .1 .1 .1 .0)) (now (s .1 .1 .1 .1 .0))) (now (s .1 .1 .1 .1 .1 .0)) (now (s .1 .1 .1 .1 .1 .1 .0))
+      (now (a .1 .1 .1 .1 .1 .1 .1 .0)) (now (s .1 .1 .1 .1 .1 .1 .1 .1 .0)))
 
 -- events handed to `feed` under a table, with a world: the calls of as many of them as it says it made, and what it left. Its arguments: as of
 -- `dispatch`, with kinds, times and values in place of the event
 pub data Feeds : List ℕ → World → List Call → World → Type 0 where
-  feed : (κs : Lfts 11) (a : _) (r : _) (s : _) → feed-reads.Learnt κs a r s
-      → Feeds (now (a .1 .1 .1 .1 .1 .1 .1 .1 .0))
-      (world (a .0) (now (a .1 .0)) (now (a .1 .1 .0)) (now (a .1 .1 .1 .0)) (now (a .1 .1 .1 .1 .0)) (now (a .1 .1 .1 .1 .1 .0))
-      (now (a .1 .1 .1 .1 .1 .1 .0)) (now (a .1 .1 .1 .1 .1 .1 .1 .0)))
+  feed : (κs : Lfts 12) (a : _) (r : _) (s : _) → feed-reads.Learnt κs a r s
+      → Feeds (now (a .1 .1 .1 .1 .1 .1 .1 .1 .1 .0))
+      (world (a .0) (now (a .1 .0)) (now (a .1 .1 .0)) (picture (now (a .1 .1 .1 .0)) (now (a .1 .1 .1 .1 .0))) (now (a .1 .1 .1 .1 .1 .0)) (now (a .1 .1 .1 .1 .1 .1 .0))
+      (now (a .1 .1 .1 .1 .1 .1 .1 .0)) (now (a .1 .1 .1 .1 .1 .1 .1 .1 .0)))
       (callsFrom
-      (eventAt (now (a .1 .1 .1 .1 .1 .1 .1 .1 .1 .0)) (now (a .1 .1 .1 .1 .1 .1 .1 .1 .1 .1 .0)) (now (a .1 .1 .1 .1 .1 .1 .1 .1 .1 .1 .1 .0)))
+      (eventAt (now (a .1 .1 .1 .1 .1 .1 .1 .1 .1 .1 .0)) (now (a .1 .1 .1 .1 .1 .1 .1 .1 .1 .1 .1 .0)) (now (a .1 .1 .1 .1 .1 .1 .1 .1 .1 .1 .1 .1 .0)))
       (r .made) 0)
-      (world (r .state) (now (s .1 .0)) (now (s .1 .1 .0)) (now (s .1 .1 .1 .0)) (now (s .1 .1 .1 .1 .0)) (now (s .1 .1 .1 .1 .1 .0))
-      (now (a .1 .1 .1 .1 .1 .1 .0)) (now (s .1 .1 .1 .1 .1 .1 .1 .0)))
+      (world (r .state) (now (s .1 .0)) (now (s .1 .1 .0)) (picture (now (s .1 .1 .1 .0)) (now (s .1 .1 .1 .1 .0))) (now (s .1 .1 .1 .1 .1 .0)) (now (s .1 .1 .1 .1 .1 .1 .0))
+      (now (a .1 .1 .1 .1 .1 .1 .1 .0)) (now (s .1 .1 .1 .1 .1 .1 .1 .1 .0)))
 
 -- calls, events and lists of events one after the other, by the calls that were accepted; beside them events that `dispatch` refused and lists of
 -- which `feed` made none, each handed anything

@@ -1,12 +1,11 @@
 -- Whether a code stands in a line of a list, from its bounds. Assumes nothing.
-use mathlib.Core.Path.{_≡_, refl, ap, _∙_}
+use mathlib.Core.Path.{_≡_, refl}
 use mathlib.Core.Bool.{Bool, true, false, _&&_}
 use mathlib.Core.List.{List, _∷_}
 use Prim.Native.Nat.{ℕ, _-_, _%_, _≤_}
 use lib.Dec.{leb, eqb}
 use lib.IntN.{ℤ}
 use borrow.Author.Tests.{leb-true, eqb-true, le-leb, eq-eqb}
-use Rattle.numbers.specs.Choice.{pick}
 use Rattle.numbers.proofs.Cases.{left, right}
 use Rattle.voltage.specs.declared.Millivolts.{Millivolts}
 use Rattle.voltage.specs.declared.Millivolts.the-variants.{Listed}

@@ -1,6 +1,6 @@
 -- Steps of grey: the nearest grey of a state, or the next, is 255 × state / S rounded up. Assumes nothing.
 use mathlib.Core.Path.{_≡_, sym, _∙_}
-use Prim.Native.Nat.{ℕ, _+_, _-_, _*_, _/_, _≤_, _<_}
+use Prim.Native.Nat.{ℕ, _+_, _*_, _/_, _≤_, _<_}
 use native.Mathlib.Omega.{arith}
 use native.Mathlib.Decide.{decLt}
 use native.Mathlib.Nat.{add-mul, mul-comm, mul-left-comm, div-eq-of-lt-le, le-div-iff-mul-le, div-lt-iff-lt-mul, mul-le-mul-right}

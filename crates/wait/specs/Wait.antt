@@ -11,4 +11,4 @@ use Rattle.query.specs.Outcome.{Outcome, unless}
 -- advance
 unfoldable pub clockMoved : List ℕ → ℕ → WithGlass → Outcome WithGlass
 clockMoved luts time g =
-    unless (guarded (g .device) (glassLent (length (g .states)) (length luts) (length (g .pixels)))) g (advanced luts time g)
+    unless (guarded (g .device) (glassLent (length (g .states)) (length luts) (length (g .picture .pixels)) (length (g .picture .counts)))) g (advanced luts time g)

@@ -91,7 +91,7 @@ fn whole_groups(driving: Driving, waveform: Waveform, transfer: Transfer) -> Tra
 }
 
 // What the whole display does to a state from 0 to the swing.
-pub fn transfer_whole(
+fn transfer_whole(
     waveform: Waveform,
     drive: Drive,
     swing: i64,

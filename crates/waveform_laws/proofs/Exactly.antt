@@ -1,15 +1,14 @@
 -- The theorems of the waveform, from a setting's bytes on: for every state from 0 to S the transfer of the whole display, and of the
 -- display up to a cut of at most 2^64 − 2 ns, moves the state as the exact drives do, added in order and each sum held. Assumes nothing.
-use mathlib.Core.Path.{_≡_, refl, sym, ap, subst}
+use mathlib.Core.Path.{_≡_, refl, sym, subst}
 use mathlib.Core.Bool.{Bool, true, false}
 use mathlib.Core.List.{List, [], _∷_, foldl}
 use Prim.Native.Nat.{ℕ, zero, suc, _+_, _*_, _-_, _/_, _≤_, _<_}
 use native.Mathlib.Omega.{arith}
-use native.Mathlib.Nat.{mul-zero, div-lt-iff-lt-mul, le-of-mul-le-mul-right, mul-div-cancel}
+use native.Mathlib.Nat.{mul-zero, div-lt-iff-lt-mul}
 use lib.IntN.{ℤ, pos}
 use lib.Dec.{leb}
 use borrow.Author.Tests.{leb-true, leb-false, lt-ltb}
-use Rattle.numbers.specs.Choice.{pick}
 use Rattle.numbers.specs.Saturation.{largest}
 use Rattle.glass.specs.declared.Transfer.{Transfer}
 use Rattle.glass.specs.Transfers.{applyT, identityT, shiftT, thenT}
@@ -125,17 +124,3 @@ module _ (S : ℕ) (some : 1 ≤ S) (room : S ≤ 9223372036854775807) (setting 
   -- one that is cut adds those of the finished phases, and of the whole frames that the cut lets the running one finish
   pub cut-exact : (until x : ℕ) → until < largest 64 → x ≤ S → applyT (cutTransfer setting periods drive (pos S) black until) (pos x) ≡ pos (drives S (cutDrives black until phases) x)
   cut-exact until x l h = cut-moves until l x h .is
-
--- k periods hold no more than k frames
-no-more : (n k period : ℕ) → 0 < period → k ≤ n → n * period ≤ k * period → n ≡ k
-no-more n k period h l m = let q = le-of-mul-le-mul-right m h in omega arith
-
--- a frame that ends exactly at the cut is finished: after k whole periods of a phase, k of its frames have driven
-pub ends-at-cut : (black : Bool) (p : Phase) (k : ℕ) → 0 < p .«frame_ns» → k ≤ p .frames → cutDrives black (k * p .«frame_ns») (p ∷ []) ≡ framesDrive black p k ∷ []
-unfolding cutDrives
-ends-at-cut black p k h l = by (leb (lasts p) (k * p .«frame_ns»)) refl
-  where
-    by : (b : Bool) → leb (lasts p) (k * p .«frame_ns») ≡ b
-        → pick b (framesDrive black p (p .frames) ∷ []) (framesDrive black p (k * p .«frame_ns» / p .«frame_ns») ∷ []) ≡ framesDrive black p k ∷ []
-    by true e = ap (λ (n : ℕ). framesDrive black p n ∷ []) (no-more (p .frames) k (p .«frame_ns») h l (leb-true _ _ e))
-    by false e = ap (λ (n : ℕ). framesDrive black p n ∷ []) (mul-div-cancel k {n = p .«frame_ns»} h)

@@ -1,16 +1,22 @@
 //! The device under replay: the reference, and beside it what the port lends or keeps and the
-//! reference does not (the log's bytes, the LUT buffer, the border byte of a refresh).
+//! reference does not (the log's bytes, the LUT buffer, the border byte of a refresh, the record of
+//! the waveform last loaded).
 
 use emu_core::Cycles;
 
-use super::{coldest, hash, inside, record};
+use super::{coldest, hash, inside, loaded, record};
 use crate::ssd1677::config::Temperature;
 use crate::ssd1677::panel::{PlaneOption, RefreshKind, Scan};
 use crate::ssd1677::waveform::Waveform;
-use crate::ssd1677::{Power, Ssd1677};
+use crate::ssd1677::{Active, Current, Power, Ssd1677};
 
 /// `0x20`, the command that starts a refresh.
 const ACTIVATE: u8 = 0x20;
+/// `0x12`, which brings the registers back as a hardware reset does.
+const SOFT_RESET: u8 = 0x12;
+/// `0x32`, and the bytes of the waveform that it writes; those that follow are written nowhere.
+const WRITE_LUT: u8 = 0x32;
+const LUT_WRITTEN: u16 = 105;
 
 pub(super) struct Bench {
     pub(super) device: Ssd1677,
@@ -21,6 +27,8 @@ pub(super) struct Bench {
     pub(super) luts: u64,
     /// The border register when the last refresh began.
     pub(super) border: u8,
+    /// The OTP entry of the last waveform loaded, 255 for none (#108).
+    pub(super) waveform: u8,
     /// Whether a waveform was asked for at −2048.
     pub(super) asked_coldest: bool,
 }
@@ -34,35 +42,54 @@ impl Bench {
             logged: 0,
             luts: hash::of_bytes(&vec![255; pixels]),
             border: 0,
+            waveform: loaded::NONE,
             asked_coldest: false,
         }
     }
 
     pub(super) fn command(&mut self, time: u64, command: u8) {
-        if command == ACTIVATE {
-            self.activate(time);
-        } else {
-            self.device.write_command(Cycles(time), command);
+        match command {
+            ACTIVATE => self.activate(time),
+            SOFT_RESET => self.soft_reset(time),
+            _ => self.device.write_command(Cycles(time), command),
         }
     }
 
-    /// `0x20`, and what the LUT buffer and the border byte become.
+    /// Whether a command is taken at the device's time; `0x2F` is also while it is busy.
+    fn accepts(&self) -> bool {
+        self.device.power == Power::Running && !self.device.is_busy(self.device.now)
+    }
+
+    /// `0x12`, which where it is taken leaves no waveform loaded.
+    fn soft_reset(&mut self, time: u64) {
+        self.device.advance(Cycles(time));
+        if self.accepts() {
+            self.waveform = loaded::NONE;
+        }
+        self.device.write_command(Cycles(time), SOFT_RESET);
+    }
+
+    /// `0x20`, and what the LUT buffer, the border byte and the record become.
     ///
     /// An accepted activation has begun a refresh when one is running after it, or, when the
     /// refresh also ended within the call, when an image was published. None can be running
     /// before: BUSY lasts at least as long as the refresh. The advance before is the one that
     /// `write_command` itself begins with; made twice, it does no more than once.
     fn activate(&mut self, time: u64) {
+        self.device.advance(Cycles(time));
+        let accepted = self.accepts();
         let device = &mut self.device;
-        device.advance(Cycles(time));
         let looks = coldest::looks_for_a_waveform(device);
-        let accepted = device.power == Power::Running && !device.is_busy(device.now);
         let generation = device.panel_image().generation;
         assert!(!accepted || device.display.is_none(), "two refreshes");
         device.write_command(Cycles(time), ACTIVATE);
         self.asked_coldest |= looks && coldest::is_coldest(device);
         if !accepted {
             return;
+        }
+        if looks {
+            // Where it found none, the last one loaded stands.
+            self.waveform = loaded::place(device).unwrap_or(self.waveform);
         }
         if let Some(display) = &device.display {
             self.luts = hash::of_bytes(&inside::luts(display));
@@ -95,6 +122,16 @@ impl Bench {
     }
 
     pub(super) fn data(&mut self, time: u64, data: u8) {
+        // The clock's move before the byte leaves the command that the byte belongs to.
+        if let Current::Active(Active {
+            command: WRITE_LUT,
+            received,
+            ..
+        }) = self.device.current
+            && received < LUT_WRITTEN
+        {
+            self.waveform = loaded::NONE;
+        }
         self.device.write_data(Cycles(time), data);
     }
 
@@ -103,6 +140,10 @@ impl Bench {
     }
 
     pub(super) fn reset(&mut self, time: u64, asserted: bool) {
+        // The registers go back when the line falls, not when it rises.
+        if asserted && self.device.power != Power::InReset {
+            self.waveform = loaded::NONE;
+        }
         self.device.set_reset(Cycles(time), asserted);
     }
 

@@ -2,6 +2,7 @@
 
 mod broken;
 mod bus;
+mod counts;
 mod driving;
 mod exhaustive;
 mod firmware;
@@ -15,6 +16,7 @@ use std::io::{self, Write};
 
 use script::Script;
 
+use super::line::{LINE_BYTES, Line};
 use super::random::Random;
 
 /// A family of sequences.
@@ -43,11 +45,12 @@ const FAMILIES: [Family; 19] = [
 ];
 
 /// Those that are long, or look at what the others come to seldom; written only by name.
-const BY_NAME: [Family; 4] = [
+const BY_NAME: [Family; 5] = [
     ("pairs", exhaustive::pairs),
     ("values", exhaustive::values),
     ("seldom", seldom::run),
     ("ticks", ticks::run),
+    ("counts", counts::run),
 ];
 
 /// Writes `count` sequences, the families in turn, or those of one family alone. Each begins with a
@@ -99,6 +102,23 @@ fn draw(write: fn(&mut Script), seed: u64, case: u64, place: u64) -> (Script, u6
         }
     }
     panic!("sequence {case} asks for a waveform at -2048 however it is drawn")
+}
+
+/// Writes the events of `input` with a question for the counts (kind 18) after each dump. The families ask for none but
+/// `counts`, so that what they wrote before there was one stays as it was.
+pub(super) fn counted(input: &[u8], out: &mut impl Write) -> io::Result<bool> {
+    let question = Line {
+        number: 0,
+        kind: 18,
+        value: 0,
+    };
+    for bytes in input.chunks(LINE_BYTES) {
+        out.write_all(bytes)?;
+        if Line::parse(bytes).is_some_and(|line| line.kind == 7) {
+            write!(out, "{question}")?;
+        }
+    }
+    Ok(true)
 }
 
 /// Writes the run that ends at bad line number `way`; whether there is one.

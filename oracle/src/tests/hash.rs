@@ -47,6 +47,12 @@ pub(super) fn of_words(words: &[u16]) -> u64 {
     words.iter().fold(Hash::default(), hash).value()
 }
 
+/// 32-bit numbers as four bytes each, the low byte first.
+pub(super) fn of_counts(counts: &[u32]) -> u64 {
+    let hash = |hash: Hash, count: &u32| hash.bytes(&count.to_le_bytes());
+    counts.iter().fold(Hash::default(), hash).value()
+}
+
 /// 64-bit numbers as eight bytes each, the low byte first.
 pub(super) fn of_states(states: &[i64]) -> u64 {
     let hash = |hash: Hash, state: &i64| hash.bytes(&state.to_le_bytes());

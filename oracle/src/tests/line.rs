@@ -54,7 +54,7 @@ impl Line {
             1 | 2 => value <= 255,
             4 => value <= 1,
             3 | 5 | 6 | 8 => value == 0,
-            7 | 13 | 14 | 17 => number == 0 && value == 0,
+            7 | 13 | 14 | 17 | 18 => number == 0 && value == 0,
             9 => number <= u64::from(u16::MAX) && value == 0,
             10 => number == 0,
             11 => usize::from(value) < FIELDS && number <= largest(usize::from(value)),
@@ -74,6 +74,7 @@ pub(super) fn longest(buffer: u16) -> Option<u64> {
         5 => Some(680),
         6 => Some(16_385),
         7 => Some(10_000),
+        8 => Some(257),
         _ => None,
     }
 }

@@ -7,6 +7,7 @@ use emu_core::Cycles;
 
 use super::bench::Bench;
 use super::configuration::{Configuration, Refusal};
+use super::counts;
 use super::dump;
 use super::line::{LINE_BYTES, Line};
 use super::picture;
@@ -130,6 +131,7 @@ impl<W: Write> Replay<'_, W> {
             // The register's width was tested with the line.
             9 => bench.set_ambient(u16::try_from(time).unwrap_or(u16::MAX)),
             17 => picture::write(bench.device.panel_image(), self.out)?,
+            18 => counts::write(bench, self.out)?,
             _ => writeln!(self.out, "taken {}", bench.take_diagnostics())?,
         }
         Ok(())

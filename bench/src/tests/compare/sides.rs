@@ -220,11 +220,15 @@ impl Reference {
             until: until.filter(|_| !told.cut_ignored),
         };
         let (mut states, mut pixels) = (case.states.clone(), vec![0xA5; luts.len()]);
-        let (border, published) = proved::finish(&mut states, luts, &mut pixels, shown.border, &ending);
+        // More of each than there are pixels, should a count not be set.
+        let mut counts = [0xA5A5_A5A5; 256];
+        let (border, published) =
+            proved::finish(&mut states, luts, &mut pixels, &mut counts, shown.border, &ending);
         let (reference, reference_border) = after.states();
         same("states", reference, &states)?;
         same("the border's state", &[reference_border], &[border])?;
         same("pixels", &after.image().pixels, &pixels)?;
+        same("counts", &proved::recounted(&after.image().pixels), &counts)?;
         same("the image's header", &header(&after), &published)?;
         Ok(states.iter().zip(&case.states).filter(|(a, b)| a != b).count() as u64)
     }

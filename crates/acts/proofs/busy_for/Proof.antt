@@ -1,5 +1,4 @@
 -- `acts::busy_for` meets its contract.
-use mathlib.Core.Path.{_≡_}
 use borrow.Author.Needs.{needs}
 use Rattle.acts.proofs.busy_for.Statement.{statement}
 use Rattle.acts.proofs.busy_for.Tie as tie

@@ -1,4 +1,5 @@
 -- `admission::begin` meets its contract.
+use Rattle.counts.specs.Counts.{picture}
 use Rattle.world.specs.World.{WithBuffers, withBuffers, Lent, lent}
 use Rattle.begin.proofs.Cases.{in-reset, asleep, busy, free}
 use borrow.Author.Needs.{needs}
@@ -11,7 +12,7 @@ kept s = lent (s .args .black-white .now) (s .args .red .now) (s .args .gates .n
 
 -- the state and the buffers as lent
 abbrev given : tie.Start → WithBuffers
-given s = withBuffers (s .args .state) (s .args .states .now) (s .args .luts .now) (s .args .pixels .now) (s .args .log .now)
+given s = withBuffers (s .args .state) (s .args .states .now) (s .args .luts .now) (picture (s .args .pixels .now) (s .args .counts .now)) (s .args .log .now)
 
 enum-told : tie.Need-enum-told
 enum-told c = search needs
@@ -39,7 +40,7 @@ same-length c = search needs
 
 returns : tie.Need-returns
 returns c =
-    let s = c .before .before .before .before .before .before .before .before .before .before .before .before .before .before .before .before in
+    let s = c .before .before .before .before .before .before .before .before .before .before .before .before .before .before .before .before .before in
     busy (kept s) (s .args .command) (given s) _ (c .before .before .before .before .before .before .enum-told3 .given .1) _ (c .before .before .before .before .before .is-pending .ensures) _ (c .before .before .before .before .if1 .taken) (c .before .before .report3 .ensures)
 
 decode-requires : tie.Need-decode-requires
@@ -50,7 +51,7 @@ same-length-2 c = search needs
 
 returns-2 : tie.Need-returns-2
 returns-2 c =
-    let s = c .before .before .before .before .before .before .before .before .before .before .before .before .before .before in
+    let s = c .before .before .before .before .before .before .before .before .before .before .before .before .before .before .before in
     in-reset (kept s) (s .args .command) (given s) _ _ (c .before .before .before .before .enum-told .given .1) (c .before .before .report .ensures)
 
 same-length-3 : tie.Need-same-length-3
@@ -58,7 +59,7 @@ same-length-3 c = search needs
 
 returns-3 : tie.Need-returns-3
 returns-3 c =
-    let s = c .before .before .before .before .before .before .before .before .before .before .before .before .before .before in
+    let s = c .before .before .before .before .before .before .before .before .before .before .before .before .before .before .before in
     asleep (kept s) (s .args .command) (given s) _ _ (c .before .before .before .before .enum-told2 .given .1) (c .before .before .report2 .ensures)
 
 same-length-4 : tie.Need-same-length-4
@@ -73,10 +74,13 @@ same-length-6 c = search needs
 same-length-7 : tie.Need-same-length-7
 same-length-7 c = search needs
 
+same-length-8 : tie.Need-same-length-8
+same-length-8 c = search needs
+
 returns-4 : tie.Need-returns-4
 returns-4 c =
-    let s = c .before .before .before .before .before .before .before .before .before .before .before .before .before .before .before .before .before .before .before .before .before .before .before .before in
-    free (kept s) (s .args .command) (given s) _ (c .before .before .before .before .before .before .before .before .before .before .before .before .before .before .enum-told3 .given .1) _ (c .before .before .before .before .before .before .before .before .before .before .before .before .before .is-pending .ensures) _ (c .before .before .before .before .before .before .before .before .before .before .before .before .if1 .left) (c .before .before .before .before .before .before .before .decode .ensures)
+    let s = c .before .before .before .before .before .before .before .before .before .before .before .before .before .before .before .before .before .before .before .before .before .before .before .before .before .before .before .before in
+    free (kept s) (s .args .command) (given s) _ (c .before .before .before .before .before .before .before .before .before .before .before .before .before .before .before .before .before .enum-told3 .given .1) _ (c .before .before .before .before .before .before .before .before .before .before .before .before .before .before .before .before .is-pending .ensures) _ (c .before .before .before .before .before .before .before .before .before .before .before .before .before .before .before .if1 .left) (c .before .before .before .before .before .before .before .before .before .decode .ensures)
 
 pub begin-spec : {M : Type 1} → statement M
 begin-spec =
@@ -100,4 +104,5 @@ begin-spec =
     same-length-5
     same-length-6
     same-length-7
+    same-length-8
     returns-4)

@@ -1,4 +1,5 @@
 -- `begin::decode` meets its contract.
+use Rattle.counts.specs.Counts.{picture}
 use Rattle.world.specs.World.{WithBuffers, withBuffers, Lent, lent}
 use Rattle.begin.proofs.Cases.{unknown, reserved, unsupported, writes, reads}
 use borrow.Author.Needs.{needs}
@@ -11,7 +12,7 @@ kept s = lent (s .args .black-white .now) (s .args .red .now) (s .args .gates .n
 
 -- the state and the buffers as lent
 abbrev given : tie.Start → WithBuffers
-given s = withBuffers (s .args .state) (s .args .states .now) (s .args .luts .now) (s .args .pixels .now) (s .args .log .now)
+given s = withBuffers (s .args .state) (s .args .states .now) (s .args .luts .now) (picture (s .args .pixels .now) (s .args .counts .now)) (s .args .log .now)
 
 kind-requires : tie.Need-kind-requires
 kind-requires c κs = search needs
@@ -30,7 +31,7 @@ same-length c = search needs
 
 returns : tie.Need-returns
 returns c =
-    let s = c .before .before .before .before .before .before .before .before .before .before .before .before .before .before in
+    let s = c .before .before .before .before .before .before .before .before .before .before .before .before .before .before .before in
     unknown (kept s) (s .args .command) (given s) _ (c .before .before .before .before .before .before .kind .ensures) _ (c .before .before .before .before .enum-told .given .1) (c .before .before .report .ensures)
 
 enum-told-2 : tie.Need-enum-told-2
@@ -62,7 +63,7 @@ same-length-2 c = search needs
 
 returns-2 : tie.Need-returns-2
 returns-2 c =
-    let s = c .before .before .before .before .before .before .before .before .before .before .before .before .before .before .before .before .before in
+    let s = c .before .before .before .before .before .before .before .before .before .before .before .before .before .before .before .before .before .before in
     reserved (kept s) (s .args .command) (given s) _ (c .before .before .before .before .before .before .before .before .before .kind .ensures) _ (c .before .before .before .before .before .before .before .known .given .1) _ (c .before .before .before .before .enum-told2 .given .1) (c .before .before .report2 .ensures)
 
 same-length-3 : tie.Need-same-length-3
@@ -70,7 +71,7 @@ same-length-3 c = search needs
 
 returns-3 : tie.Need-returns-3
 returns-3 c =
-    let s = c .before .before .before .before .before .before .before .before .before .before .before .before .before .before .before .before .before in
+    let s = c .before .before .before .before .before .before .before .before .before .before .before .before .before .before .before .before .before .before in
     unsupported (kept s) (s .args .command) (given s) _ (c .before .before .before .before .before .before .before .before .before .kind .ensures) _ (c .before .before .before .before .before .before .before .known .given .1) _ (c .before .before .before .before .enum-told3 .given .1) (c .before .before .report3 .ensures)
 
 same-length-4 : tie.Need-same-length-4
@@ -85,13 +86,13 @@ same-length-6 c = search needs
 same-length-7 : tie.Need-same-length-7
 same-length-7 c = search needs
 
-returns-4 : tie.Need-returns-4
-returns-4 c =
-    let s = c .before .before .before .before .before .before .before .before .before .before .before .before .before .before .before .before .before .before .before .before .before .before .before .before .before in
-    writes (kept s) (s .args .command) (given s) _ (c .before .before .before .before .before .before .before .before .before .before .before .before .before .before .before .before .before .kind .ensures) _ (c .before .before .before .before .before .before .before .before .before .before .before .before .before .before .before .known .given .1) _ _ (c .before .before .before .before .before .before .before .before .before .before .before .before .enum-told4 .given .1) (c .before .before .before .before .before .before .before .accept .ensures)
-
 same-length-8 : tie.Need-same-length-8
 same-length-8 c = search needs
+
+returns-4 : tie.Need-returns-4
+returns-4 c =
+    let s = c .before .before .before .before .before .before .before .before .before .before .before .before .before .before .before .before .before .before .before .before .before .before .before .before .before .before .before .before .before in
+    writes (kept s) (s .args .command) (given s) _ (c .before .before .before .before .before .before .before .before .before .before .before .before .before .before .before .before .before .before .before .before .kind .ensures) _ (c .before .before .before .before .before .before .before .before .before .before .before .before .before .before .before .before .before .before .known .given .1) _ _ (c .before .before .before .before .before .before .before .before .before .before .before .before .before .before .before .enum-told4 .given .1) (c .before .before .before .before .before .before .before .before .before .accept .ensures)
 
 same-length-9 : tie.Need-same-length-9
 same-length-9 c = search needs
@@ -102,10 +103,16 @@ same-length-10 c = search needs
 same-length-11 : tie.Need-same-length-11
 same-length-11 c = search needs
 
+same-length-12 : tie.Need-same-length-12
+same-length-12 c = search needs
+
+same-length-13 : tie.Need-same-length-13
+same-length-13 c = search needs
+
 returns-5 : tie.Need-returns-5
 returns-5 c =
-    let s = c .before .before .before .before .before .before .before .before .before .before .before .before .before .before .before .before .before .before .before .before .before .before .before .before .before in
-    reads (kept s) (s .args .command) (given s) _ (c .before .before .before .before .before .before .before .before .before .before .before .before .before .before .before .before .before .kind .ensures) _ (c .before .before .before .before .before .before .before .before .before .before .before .before .before .before .before .known .given .1) _ (c .before .before .before .before .before .before .before .before .before .before .before .before .enum-told5 .given .1) (c .before .before .before .before .before .before .before .accept2 .ensures)
+    let s = c .before .before .before .before .before .before .before .before .before .before .before .before .before .before .before .before .before .before .before .before .before .before .before .before .before .before .before .before .before in
+    reads (kept s) (s .args .command) (given s) _ (c .before .before .before .before .before .before .before .before .before .before .before .before .before .before .before .before .before .before .before .before .kind .ensures) _ (c .before .before .before .before .before .before .before .before .before .before .before .before .before .before .before .before .before .before .known .given .1) _ (c .before .before .before .before .before .before .before .before .before .before .before .before .before .before .before .enum-told5 .given .1) (c .before .before .before .before .before .before .before .before .before .accept2 .ensures)
 
 pub decode-spec : {M : Type 1} → statement M
 decode-spec =
@@ -133,9 +140,11 @@ decode-spec =
     same-length-5
     same-length-6
     same-length-7
-    returns-4
     same-length-8
+    returns-4
     same-length-9
     same-length-10
     same-length-11
+    same-length-12
+    same-length-13
     returns-5)

@@ -1,5 +1,5 @@
 -- `proved_combined` meets its contract.
-use mathlib.Core.Path.{sym, refl, ap, subst, _∙_}
+use mathlib.Core.Path.{sym, refl, ap, _∙_}
 use mathlib.Core.List.{[], _∷_}
 use lib.IntN.{ℤ}
 use Rattle.numbers.proofs.Lin.{back, field-back}

@@ -8,9 +8,6 @@ use Rattle.burst.specs.Running.{running}
 use Rattle.burst.proofs.Running.{more, ends, all}
 use Rattle.burst.proofs.run_on.Statement.{statement}
 use Rattle.burst.proofs.run_on.Tie as tie
-use Rattle.burst.proofs.run_on.Reads as reads
-use Rattle.burst.proofs.run_on.Lts as lts
-use Rattle.burst.proofs.take.Reads as take-reads
 
 abbrev Inv-loop : tie.InvT-loop
 Inv-loop plane₀ course kinds times values from count next₀ i₀ plane next i =

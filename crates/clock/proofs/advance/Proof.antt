@@ -1,4 +1,5 @@
 -- `clock::advance` meets its contract.
+use Rattle.counts.specs.Counts.{picture}
 use Rattle.world.specs.World.{withGlass}
 use Rattle.clock.proofs.Cases.{rests, advances}
 use Rattle.clock.proofs.Kept.{ready-now}
@@ -14,13 +15,13 @@ is-quiet-requires c κs = search needs
 
 returns : tie.Need-returns
 returns c =
-    let s = c .before .before .before .before .before .args in
-    rests (s .luts .now) (s .time) (withGlass (s .state) (s .states .now) (s .pixels .now)) _ _ (c .before .before .move-clock .ensures) (c .before .is-quiet .ensures) (c .if1 .taken)
+    let s = c .before .before .before .before .before .before .args in
+    rests (s .luts .now) (s .time) (withGlass (s .state) (s .states .now) (picture (s .pixels .now) (s .counts .now))) _ _ (c .before .before .move-clock .ensures) (c .before .is-quiet .ensures) (c .if1 .taken)
 
 end-display-requires : tie.Need-end-display-requires
 end-display-requires c κs =
-    let s = c .before .before .before .before .before .before .before in
-    ready-now (s .args .state) _ _ (s .args .states .now) (s .args .luts .now) (s .args .pixels .now) (c .before .before .before .before .move-clock .ensures) (s .pre)
+    let s = c .before .before .before .before .before .before .before .before .before in
+    ready-now (s .args .state) _ _ (s .args .states .now) (s .args .luts .now) (s .args .pixels .now) (s .args .counts .now) (c .before .before .before .before .before .move-clock .ensures) (s .pre)
 
 lower-busy-requires : tie.Need-lower-busy-requires
 lower-busy-requires c κs = search needs
@@ -34,10 +35,13 @@ same-length c = search needs
 same-length-2 : tie.Need-same-length-2
 same-length-2 c = search needs
 
+same-length-3 : tie.Need-same-length-3
+same-length-3 c = search needs
+
 returns-2 : tie.Need-returns-2
 returns-2 c =
-    let s = c .before .before .before .before .before .before .before .before .before .before .before .before .before .args in
-    advances (s .luts .now) (s .time) (withGlass (s .state) (s .states .now) (s .pixels .now)) _ _ _ _ (c .before .before .before .before .before .before .before .before .before .before .move-clock .ensures) (c .before .before .before .before .before .end-display .ensures) (c .before .lower-busy .ensures) (c .set-bus .ensures)
+    let s = c .before .before .before .before .before .before .before .before .before .before .before .before .before .before .before .before .before .args in
+    advances (s .luts .now) (s .time) (withGlass (s .state) (s .states .now) (picture (s .pixels .now) (s .counts .now))) _ _ _ _ (c .before .before .before .before .before .before .before .before .before .before .before .before .before .move-clock .ensures) (c .before .before .before .before .before .before .before .end-display .ensures) (c .before .lower-busy .ensures) (c .set-bus .ensures)
 
 pub advance-spec : {M : Type 1} → statement M
 advance-spec =
@@ -51,4 +55,5 @@ advance-spec =
     set-bus-requires
     same-length
     same-length-2
+    same-length-3
     returns-2)

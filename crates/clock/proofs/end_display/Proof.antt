@@ -19,11 +19,14 @@ same-length c = search needs
 same-length-2 : tie.Need-same-length-2
 same-length-2 c = search needs
 
+same-length-3 : tie.Need-same-length-3
+same-length-3 c = search needs
+
 returns-2 : tie.Need-returns-2
 returns-2 c = ends-not _ _ (c .if1 .left)
 
 returns : tie.Need-returns
-returns c = ends _ _ _ _ _ (c .before .before .before .before .before .before .before .before .before .before .before .before .before .if1 .taken) (c .before .before .before .before .before .finish .ensures) (c .before .stop .ensures) (c .set-glass .ensures)
+returns c = ends _ _ _ _ _ (c .before .before .before .before .before .before .before .before .before .before .before .before .before .before .before .before .if1 .taken) (c .before .before .before .before .before .before .before .finish .ensures) (c .before .stop .ensures) (c .set-glass .ensures)
 
 pub end-display-spec : {M : Type 1} → statement M
 end-display-spec =
@@ -34,5 +37,6 @@ end-display-spec =
     set-glass-requires
     same-length
     same-length-2
+    same-length-3
     returns
     returns-2)

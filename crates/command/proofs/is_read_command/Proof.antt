@@ -1,8 +1,8 @@
 -- `command::is_read_command` meets its contract: by the kind that the table gives.
 use borrow.Author.Needs.{needs}
-use mathlib.Core.Path.{_≡_, refl, ap, _∙_, sym}
-use Rattle.command.specs.Table.{isRead, kindOf}
-use Rattle.command.specs.declared.Known.the-variants.{Of, Unknown}
+use mathlib.Core.Path.{ap, _∙_, sym}
+use Rattle.command.specs.Table.{isRead}
+use Rattle.command.specs.declared.Known.the-variants.{Of}
 use Rattle.command.proofs.is_read_command.Statement.{statement}
 use Rattle.command.proofs.is_read_command.Tie as tie
 

@@ -1,8 +1,6 @@
 -- `command::kind` meets its contract: in each arm the command is the row's number, and the table computes; in the last, it is no row's.
 -- Assumes nothing.
-use mathlib.Core.Path.{_≡_, refl}
 use Prim.{Unit}
-use mathlib.Core.Logic.{⊎-elim}
 use Rattle.command.specs.Table.{rows, kindOf}
 use Rattle.numbers.specs.Rows.{lookup}
 use Rattle.command.specs.declared.Known.the-variants.{Unknown}

@@ -1,7 +1,7 @@
 -- `detection::hv_listed`: bits 7 and 3 by their mask.
 use Prim.Native.Nat.{ℕ, _/_, _%_}
 use mathlib.Core.Bool.{_&&_}
-use lib.Dec.{eqb, leb, ltb}
+use lib.Dec.{eqb}
 use lib.Bits.{bitAnd}
 use native.Mathlib.Omega.{arith}
 use Rattle.listed.proofs.Masks.{agree}

@@ -1,5 +1,5 @@
 -- `detection::vci_listed`: no bit above the three is set in a byte below 8.
-use Prim.Native.Nat.{ℕ, _/_, _%_}
+use Prim.Native.Nat.{ℕ}
 use mathlib.Core.Bool.{_&&_}
 use lib.Dec.{eqb, leb, ltb}
 use lib.Bits.{bitAnd}

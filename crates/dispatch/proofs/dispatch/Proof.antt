@@ -1,5 +1,6 @@
 -- `dispatch::dispatch` meets its contract: what the entry point ensures, put back into the whole.
 use mathlib.Core.Path.{sym, ap, _∙_}
+use Rattle.counts.specs.Counts.{picture}
 use Rattle.world.specs.World.{World, world, glassInWorld, glassLogInWorld, buffersInWorld, planesInWorld}
 use Rattle.dispatch.specs.Dispatch.{tells, tellsRead, dispatched}
 use borrow.Author.Needs.{needs}
@@ -48,6 +49,10 @@ advance-requires c κs = search needs
 silent-requires-4 : tie.Need-silent-requires-4
 silent-requires-4 c κs = search needs
 
+abbrev given : tie.Start → World
+given s =
+    world (s .args .state) (s .args .states .now) (s .args .luts .now) (picture (s .args .pixels .now) (s .args .counts .now)) (s .args .black-white .now) (s .args .red .now) (s .args .gates .now) (s .args .log .now)
+
 same-length : tie.Need-same-length
 same-length c = search needs
 
@@ -66,19 +71,15 @@ same-length-5 c = search needs
 same-length-6 : tie.Need-same-length-6
 same-length-6 c = search needs
 
-abbrev given : tie.Start → World
-given s =
-    world (s .args .state) (s .args .states .now) (s .args .luts .now) (s .args .pixels .now) (s .args .black-white .now) (s .args .red .now) (s .args .gates .now) (s .args .log .now)
+same-length-7 : tie.Need-same-length-7
+same-length-7 c = search needs
 
 returns : tie.Need-returns
 unfolding dispatched
 returns c =
-    let s = c .before .before .before .before .before .before .before .before .before .before .before .before .before .before .before .before .before .before .before .before .before .before .before .before .before in
+    let s = c .before .before .before .before .before .before .before .before .before .before .before .before .before .before .before .before .before .before .before .before .before .before .before .before .before .before .before .before .before in
     rw (c .silent .ensures)
-    (ap (tells buffersInWorld (given s)) (c .before .before .before .before .before .before .before .before .write-command .ensures) ∙ ap (dispatched (s .args .otp .now) (given s)) (sym (c .before .before .before .before .before .before .before .before .before .before .before .before .before .before .before .before .event .given .1)))
-
-same-length-7 : tie.Need-same-length-7
-same-length-7 c = search needs
+    (ap (tells buffersInWorld (given s)) (c .before .before .before .before .before .before .before .before .before .before .write-command .ensures) ∙ ap (dispatched (s .args .otp .now) (given s)) (sym (c .before .before .before .before .before .before .before .before .before .before .before .before .before .before .before .before .before .before .before .event .given .1)))
 
 same-length-8 : tie.Need-same-length-8
 same-length-8 c = search needs
@@ -95,18 +96,18 @@ same-length-11 c = search needs
 same-length-12 : tie.Need-same-length-12
 same-length-12 c = search needs
 
-returns-2 : tie.Need-returns-2
-unfolding dispatched
-returns-2 c =
-    let s = c .before .before .before .before .before .before .before .before .before .before .before .before .before .before .before .before .before .before .before .before .before .before .before .before .before .before .before in
-    rw (c .silent2 .ensures)
-    (ap (tells planesInWorld (given s)) (c .before .before .before .before .before .before .before .before .before .before .write-data .ensures) ∙ ap (dispatched (s .args .otp .now) (given s)) (sym (c .before .before .before .before .before .before .before .before .before .before .before .before .before .before .before .before .before .before .event2 .given .1)))
-
 same-length-13 : tie.Need-same-length-13
 same-length-13 c = search needs
 
 same-length-14 : tie.Need-same-length-14
 same-length-14 c = search needs
+
+returns-2 : tie.Need-returns-2
+unfolding dispatched
+returns-2 c =
+    let s = c .before .before .before .before .before .before .before .before .before .before .before .before .before .before .before .before .before .before .before .before .before .before .before .before .before .before .before .before .before .before .before in
+    rw (c .silent2 .ensures)
+    (ap (tells planesInWorld (given s)) (c .before .before .before .before .before .before .before .before .before .before .before .before .write-data .ensures) ∙ ap (dispatched (s .args .otp .now) (given s)) (sym (c .before .before .before .before .before .before .before .before .before .before .before .before .before .before .before .before .before .before .before .before .before .event2 .given .1)))
 
 same-length-15 : tie.Need-same-length-15
 same-length-15 c = search needs
@@ -120,12 +121,6 @@ same-length-17 c = search needs
 same-length-18 : tie.Need-same-length-18
 same-length-18 c = search needs
 
-returns-3 : tie.Need-returns-3
-unfolding dispatched
-returns-3 c =
-    let s = c .before .before .before .before .before .before .before .before .before .before .before .before .before .before .before .before .before .before .before .before .before .before in
-    ap (tellsRead (given s)) (c .before .before .before .before .before .read-data .ensures) ∙ ap (dispatched (s .args .otp .now) (given s)) (sym (c .before .before .before .before .before .before .before .before .before .before .before .before .before .event3 .given .1))
-
 same-length-19 : tie.Need-same-length-19
 same-length-19 c = search needs
 
@@ -135,15 +130,14 @@ same-length-20 c = search needs
 same-length-21 : tie.Need-same-length-21
 same-length-21 c = search needs
 
+returns-3 : tie.Need-returns-3
+unfolding dispatched
+returns-3 c =
+    let s = c .before .before .before .before .before .before .before .before .before .before .before .before .before .before .before .before .before .before .before .before .before .before .before .before .before .before in
+    ap (tellsRead (given s)) (c .before .before .before .before .before .before .before .read-data .ensures) ∙ ap (dispatched (s .args .otp .now) (given s)) (sym (c .before .before .before .before .before .before .before .before .before .before .before .before .before .before .before .before .event3 .given .1))
+
 same-length-22 : tie.Need-same-length-22
 same-length-22 c = search needs
-
-returns-4 : tie.Need-returns-4
-unfolding dispatched
-returns-4 c =
-    let s = c .before .before .before .before .before .before .before .before .before .before .before .before .before .before .before .before .before .before .before .before .before in
-    rw (c .silent3 .ensures)
-    (ap (tells glassLogInWorld (given s)) (c .before .before .before .before .before .before .set-reset .ensures) ∙ ap (dispatched (s .args .otp .now) (given s)) (sym (c .before .before .before .before .before .before .before .before .before .before .before .before .event4 .given .1)))
 
 same-length-23 : tie.Need-same-length-23
 same-length-23 c = search needs
@@ -154,12 +148,34 @@ same-length-24 c = search needs
 same-length-25 : tie.Need-same-length-25
 same-length-25 c = search needs
 
+same-length-26 : tie.Need-same-length-26
+same-length-26 c = search needs
+
+returns-4 : tie.Need-returns-4
+unfolding dispatched
+returns-4 c =
+    let s = c .before .before .before .before .before .before .before .before .before .before .before .before .before .before .before .before .before .before .before .before .before .before .before .before .before in
+    rw (c .silent3 .ensures)
+    (ap (tells glassLogInWorld (given s)) (c .before .before .before .before .before .before .before .before .set-reset .ensures) ∙ ap (dispatched (s .args .otp .now) (given s)) (sym (c .before .before .before .before .before .before .before .before .before .before .before .before .before .before .before .event4 .given .1)))
+
+same-length-27 : tie.Need-same-length-27
+same-length-27 c = search needs
+
+same-length-28 : tie.Need-same-length-28
+same-length-28 c = search needs
+
+same-length-29 : tie.Need-same-length-29
+same-length-29 c = search needs
+
+same-length-30 : tie.Need-same-length-30
+same-length-30 c = search needs
+
 returns-5 : tie.Need-returns-5
 unfolding dispatched
 returns-5 c =
-    let s = c .before .before .before .before .before .before .before .before .before .before .before .before .before .before .before .before .before .before in
+    let s = c .before .before .before .before .before .before .before .before .before .before .before .before .before .before .before .before .before .before .before .before .before .before in
     rw (c .silent4 .ensures)
-    (ap (tells glassInWorld (given s)) (c .before .before .before .before .advance .ensures) ∙ ap (dispatched (s .args .otp .now) (given s)) (sym (c .before .before .before .before .before .before .before .before .before .event5 .given .1)))
+    (ap (tells glassInWorld (given s)) (c .before .before .before .before .before .before .advance .ensures) ∙ ap (dispatched (s .args .otp .now) (given s)) (sym (c .before .before .before .before .before .before .before .before .before .before .before .before .event5 .given .1)))
 
 pub dispatch-spec : {M : Type 1} → statement M
 dispatch-spec =
@@ -185,27 +201,32 @@ dispatch-spec =
     same-length-4
     same-length-5
     same-length-6
-    returns
     same-length-7
+    returns
     same-length-8
     same-length-9
     same-length-10
     same-length-11
     same-length-12
-    returns-2
     same-length-13
     same-length-14
+    returns-2
     same-length-15
     same-length-16
     same-length-17
     same-length-18
-    returns-3
     same-length-19
     same-length-20
     same-length-21
+    returns-3
     same-length-22
-    returns-4
     same-length-23
     same-length-24
     same-length-25
+    same-length-26
+    returns-4
+    same-length-27
+    same-length-28
+    same-length-29
+    same-length-30
     returns-5)

@@ -4,7 +4,6 @@ use mathlib.Core.List.{List}
 use Prim.Native.Nat.{ℕ, _<_}
 use lib.ListN.{getD, replicate}
 use Rattle.numbers.proofs.Painted.{getD-tab}
-use Rattle.waveform.specs.declared.Group.{Group}
 use Rattle.waveform.specs.declared.Waveform.{Waveform}
 use Rattle.waveform.specs.Phases.{noGroup}
 use Rattle.waveform.specs.Setting.{timed, groupCodesOf, waveformOf}

@@ -1,4 +1,4 @@
--- `check_with_table` meets its contract: 13 and 11, then 12.
+-- `check_with_table` meets its contract: 13, 11 and 15, then 12.
 use borrow.Author.Needs.{needs}
 use mathlib.Core.Path.{refl, sym, _∙_}
 use borrow.Author.Tests.{not-true, not-false}

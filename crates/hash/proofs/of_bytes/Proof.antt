@@ -1,12 +1,11 @@
 -- `hash::of_bytes` meets its contract: after i turns the hash is that of the first i.
-use mathlib.Core.Path.{_≡_, refl, _∙_, ap}
+use mathlib.Core.Path.{_≡_, refl}
 use mathlib.Core.List.{List}
 use Prim.Native.Nat.{ℕ, _-_, _≤_}
 use native.Mathlib.Omega.{arith}
 use lib.ListN.{length, take}
 use Rattle.hash.specs.Hash.{hashFrom}
 use Rattle.hash.proofs.Laws.{turn, all, below, bytes-more}
-use borrow.Author.Needs.{needs}
 use Rattle.hash.proofs.of_bytes.Statement.{statement}
 use Rattle.hash.proofs.of_bytes.Tie as tie
 

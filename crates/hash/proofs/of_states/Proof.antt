@@ -1,14 +1,13 @@
 -- `hash::of_states` meets its contract: after i turns the hash is that of the first i.
 use mathlib.Core.Path.{_≡_, refl, _∙_, ap}
-use mathlib.Core.List.{List, [], _∷_}
-use Prim.Native.Nat.{ℕ, _-_, _≤_}
+use mathlib.Core.List.{[], _∷_}
+use Prim.Native.Nat.{_-_, _≤_}
 use native.Mathlib.Omega.{arith}
 use lib.IntN.{ℤ, pos}
 use lib.ListN.{length, take, getD}
 use Rattle.numbers.proofs.Lin.{field-back}
 use Rattle.hash.specs.Hash.{hashFrom, stateBytes}
 use Rattle.hash.proofs.Laws.{turn, all, below, states-more}
-use borrow.Author.Needs.{needs}
 use Rattle.hash.proofs.of_states.Statement.{statement}
 use Rattle.hash.proofs.of_states.Tie as tie
 

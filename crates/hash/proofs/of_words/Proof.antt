@@ -1,12 +1,10 @@
 -- `hash::of_words` meets its contract: after i turns the hash is that of the first i.
-use mathlib.Core.Path.{_≡_, refl, _∙_, ap}
-use mathlib.Core.List.{List}
-use Prim.Native.Nat.{ℕ, _-_, _≤_}
+use mathlib.Core.Path.{_≡_, refl}
+use Prim.Native.Nat.{_-_, _≤_}
 use native.Mathlib.Omega.{arith}
 use lib.ListN.{length, take}
 use Rattle.hash.specs.Hash.{hashFrom, wordBytes}
 use Rattle.hash.proofs.Laws.{turn, all, below, words-more}
-use borrow.Author.Needs.{needs}
 use Rattle.hash.proofs.of_words.Statement.{statement}
 use Rattle.hash.proofs.of_words.Tie as tie
 

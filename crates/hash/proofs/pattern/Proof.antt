@@ -1,9 +1,8 @@
 -- `hash::pattern` meets its contract: below 0, 2^64 less the size.
-use mathlib.Core.Path.{_≡_, sym, ap, _∙_}
+use mathlib.Core.Path.{sym, ap, _∙_}
 use lib.IntN.{ℤ, natAbs, pos}
 use lib.Signed.{ltZ}
 use Rattle.numbers.proofs.Lin.{back}
-use Rattle.hash.specs.Hash.{patternOf}
 use Rattle.hash.proofs.Laws.{above, negative, positive}
 use borrow.Author.Needs.{needs}
 use Rattle.hash.proofs.pattern.Statement.{statement}

@@ -1,8 +1,7 @@
 -- `hash::state` meets its contract.
 use mathlib.Core.Path.{_≡_, sym, ap, subst, _∙_}
-use mathlib.Core.List.{List, [], _++_}
+use mathlib.Core.List.{[], _++_}
 use Prim.Native.Nat.{ℕ, _/_, _^_, _<_}
-use lib.IntN.{ℤ}
 use Rattle.numbers.proofs.Lin.{back}
 use Rattle.hash.specs.Hash.{hashFrom, patternOf, fourOf, stateBytes}
 use Rattle.hash.proofs.Laws.{hash-more, hash-below}

@@ -1,4 +1,5 @@
 -- `high::write_data` meets its contract.
+use Rattle.counts.specs.Counts.{picture}
 use Rattle.world.specs.World.{withRam, WithPlanes, withPlanes}
 use Rattle.data.proofs.Taken.{taken, not-taken, still-not}
 use Rattle.high.proofs.Cases.{data-ready, data-log, data-moves, data-rests, data-refused}
@@ -8,7 +9,19 @@ use Rattle.high.proofs.write_data.Tie as tie
 
 -- the state and the buffers as lent
 abbrev given : tie.Start → WithPlanes
-given s = withPlanes (s .args .state) (s .args .states .now) (s .args .pixels .now) (s .args .black-white .now) (s .args .red .now) (s .args .log .now)
+given s = withPlanes (s .args .state) (s .args .states .now) (picture (s .args .pixels .now) (s .args .counts .now)) (s .args .black-white .now) (s .args .red .now) (s .args .log .now)
+
+-- the call behind the test of its refusal
+abbrev started : tie.After-is-accepted → tie.Start
+started c = c .before .before .before .before .before .before .before .before .before
+
+-- the test behind a clock moved
+abbrev passed : tie.After-move-clock → tie.Then1
+passed c = c .before
+
+-- the clock moved behind a byte streamed
+abbrev moved : tie.After-stream → tie.After-move-clock
+moved c = c .before .before .before .before .before
 
 planes-log-lent-requires : tie.Need-planes-log-lent-requires
 planes-log-lent-requires c κs = search needs
@@ -39,18 +52,22 @@ same-length-2 c = search needs
 
 returns : tie.Need-returns
 returns c =
-    let s = c .before .before .before .before .before .before .before .before .before .before .before .before .before .before .before .before .before .before .before .before .before in
-    let m = c .before .before .before .before .before .before .before .before .before .before .before .move-clock .result in
-    let k = c .before .before .before .before .before .before .stream .ensures in
-    data-rests (s .args .luts .now) (s .args .time) (s .args .byte) (given s) _ _ _ (c .before .before .before .before .before .before .before .before .before .before .before .before .before .before .before .planes-log-lent .ensures) (c .before .before .before .before .before .before .before .before .before .before .before .before .before .before .check .ensures) (c .before .before .before .before .before .before .before .before .before .before .before .before .before .is-accepted .ensures) m _ (withRam (c .set-pointed .result) _ _ (s .args .log .now)) (c .before .before .before .before .before .before .before .before .before .before .before .before .if1 .taken) (c .before .before .before .before .before .before .before .before .before .before .before .move-clock .ensures) (c .before .before .before .before .before .before .before .before .before .before .is-quiet .ensures) (c .before .before .before .before .before .before .before .before .before .if2 .taken) (taken (s .args .byte) m (s .args .black-white .now) (s .args .red .now) _ _ _ (k .0) (k .1) _ (s .args .log .now) (c .before .if3 .taken) (c .set-pointed .ensures))
+    let k = c .before .before .before .before .before .before in
+    let m = moved k in
+    let p = passed m in
+    let a = p .before in
+    let s = started a in
+    data-rests (s .args .luts .now) (s .args .time) (s .args .byte) (given s) _ _ _ (a .before .before .planes-log-lent .ensures) (a .before .check .ensures) (a .is-accepted .ensures) (m .move-clock .result) _ (withRam (c .set-pointed .result) _ _ (s .args .log .now)) (p .if1 .taken) (m .move-clock .ensures) (k .before .before .before .before .is-quiet .ensures) (k .before .before .before .if2 .taken) (taken (s .args .byte) (m .move-clock .result) (s .args .black-white .now) (s .args .red .now) _ _ _ (k .stream .ensures .0) (k .stream .ensures .1) _ (s .args .log .now) (c .before .if3 .taken) (c .set-pointed .ensures))
 
 write-other-requires : tie.Need-write-other-requires
 write-other-requires c κs =
-    let s = c .before .before .before .before .before .before .before .before .before .before .before .before .before .before .before .before .before .before .before .before .before .before .before in
-    let m = c .before .before .before .before .before .before .before .before .before .before .before .before .before .move-clock .result in
-    let k = c .before .before .before .before .before .before .before .before .stream in (
-      data-log (s .args .luts .now) (s .args .time) (s .args .byte) (given s) _ _ _ (c .before .before .before .before .before .before .before .before .before .before .before .before .before .before .before .before .before .planes-log-lent .ensures) (c .before .before .before .before .before .before .before .before .before .before .before .before .before .before .before .before .check .ensures) (c .before .before .before .before .before .before .before .before .before .before .before .before .before .before .before .is-accepted .ensures) (c .before .before .before .before .before .before .before .before .before .before .before .before .before .before .if1 .taken),
-      still-not (s .args .byte) m (s .args .black-white .now) (s .args .red .now) (k .result) (k .last .1 .0) (k .last .1 .1 .0) (k .ensures .0) (k .ensures .1) (c .before .before .before .if3 .left),
+    let k = c .before .before .before .before .before .before .before .before in
+    let m = moved k in
+    let p = passed m in
+    let a = p .before in
+    let s = started a in (
+      data-log (s .args .luts .now) (s .args .time) (s .args .byte) (given s) _ _ _ (a .before .before .planes-log-lent .ensures) (a .before .check .ensures) (a .is-accepted .ensures) (p .if1 .taken),
+      still-not (s .args .byte) (m .move-clock .result) (s .args .black-white .now) (s .args .red .now) (k .stream .result) (k .stream .last .1 .0) (k .stream .last .1 .1 .0) (k .stream .ensures .0) (k .stream .ensures .1) (c .before .before .before .if3 .left),
     )
 
 same-length-3 : tie.Need-same-length-3
@@ -64,20 +81,26 @@ same-length-5 c = search needs
 
 returns-2 : tie.Need-returns-2
 returns-2 c =
-    let s = c .before .before .before .before .before .before .before .before .before .before .before .before .before .before .before .before .before .before .before .before .before .before .before .before .before .before .before .before .before .before in
-    let m = c .before .before .before .before .before .before .before .before .before .before .before .before .before .before .before .before .before .before .before .before .move-clock .result in
-    let k = c .before .before .before .before .before .before .before .before .before .before .before .before .before .before .before .stream .ensures in
-    data-rests (s .args .luts .now) (s .args .time) (s .args .byte) (given s) _ _ _ (c .before .before .before .before .before .before .before .before .before .before .before .before .before .before .before .before .before .before .before .before .before .before .before .before .planes-log-lent .ensures) (c .before .before .before .before .before .before .before .before .before .before .before .before .before .before .before .before .before .before .before .before .before .before .before .check .ensures) (c .before .before .before .before .before .before .before .before .before .before .before .before .before .before .before .before .before .before .before .before .before .before .is-accepted .ensures) m _ _ (c .before .before .before .before .before .before .before .before .before .before .before .before .before .before .before .before .before .before .before .before .before .if1 .taken) (c .before .before .before .before .before .before .before .before .before .before .before .before .before .before .before .before .before .before .before .before .move-clock .ensures) (c .before .before .before .before .before .before .before .before .before .before .before .before .before .before .before .before .before .before .before .is-quiet .ensures) (c .before .before .before .before .before .before .before .before .before .before .before .before .before .before .before .before .before .before .if2 .taken) (not-taken (s .args .byte) m (s .args .black-white .now) (s .args .red .now) _ _ _ (k .0) (k .1) (c .before .before .before .before .before .before .before .before .before .before .if3 .left) _ (s .args .log .now) (c .before .before .before .before .before .before .write-other .ensures))
+    let k = c .before .before .before .before .before .before .before .before .before .before .before .before .before .before .before in
+    let m = moved k in
+    let p = passed m in
+    let a = p .before in
+    let s = started a in
+    data-rests (s .args .luts .now) (s .args .time) (s .args .byte) (given s) _ _ _ (a .before .before .planes-log-lent .ensures) (a .before .check .ensures) (a .is-accepted .ensures) (m .move-clock .result) _ _ (p .if1 .taken) (m .move-clock .ensures) (k .before .before .before .before .is-quiet .ensures) (k .before .before .before .if2 .taken) (not-taken (s .args .byte) (m .move-clock .result) (s .args .black-white .now) (s .args .red .now) _ _ _ (k .stream .ensures .0) (k .stream .ensures .1) (c .before .before .before .before .before .before .before .before .before .before .if3 .left) _ (s .args .log .now) (c .before .before .before .before .before .before .write-other .ensures))
 
 advance-requires : tie.Need-advance-requires
 advance-requires c κs =
-    let s = c .before .before .before .before .before .before .before .before .before .before .before .before .before .before in
-    data-ready (s .args .luts .now) (s .args .time) (s .args .byte) (given s) _ _ _ (c .before .before .before .before .before .before .before .before .planes-log-lent .ensures) (c .before .before .before .before .before .before .before .check .ensures) (c .before .before .before .before .before .before .is-accepted .ensures) (c .before .before .before .before .before .if1 .taken)
+    let p = c .before .before .before .before .before .before in
+    let a = p .before in
+    let s = started a in
+    data-ready (s .args .luts .now) (s .args .time) (s .args .byte) (given s) _ _ _ (a .before .before .planes-log-lent .ensures) (a .before .check .ensures) (a .is-accepted .ensures) (p .if1 .taken)
 
 write-requires : tie.Need-write-requires
 write-requires c κs =
-    let s = c .before .before .before .before .before .before .before .before .before .before .before .before .before .before .before .before .before .before .before .before .before in
-    data-log (s .args .luts .now) (s .args .time) (s .args .byte) (given s) _ _ _ (c .before .before .before .before .before .before .before .before .before .before .before .before .before .before .before .planes-log-lent .ensures) (c .before .before .before .before .before .before .before .before .before .before .before .before .before .before .check .ensures) (c .before .before .before .before .before .before .before .before .before .before .before .before .before .is-accepted .ensures) (c .before .before .before .before .before .before .before .before .before .before .before .before .if1 .taken)
+    let p = c .before .before .before .before .before .before .before .before .before .before .before .before .before .before .before in
+    let a = p .before in
+    let s = started a in
+    data-log (s .args .luts .now) (s .args .time) (s .args .byte) (given s) _ _ _ (a .before .before .planes-log-lent .ensures) (a .before .check .ensures) (a .is-accepted .ensures) (p .if1 .taken)
 
 same-length-6 : tie.Need-same-length-6
 same-length-6 c = search needs
@@ -94,15 +117,21 @@ same-length-9 c = search needs
 same-length-10 : tie.Need-same-length-10
 same-length-10 c = search needs
 
+same-length-11 : tie.Need-same-length-11
+same-length-11 c = search needs
+
 returns-3 : tie.Need-returns-3
 returns-3 c =
-    let s = c .before .before .before .before .before .before .before .before .before .before .before .before .before .before .before .before .before .before .before .before .before .before .before .before .before .before .before .before in
-    data-moves (s .args .luts .now) (s .args .time) (s .args .byte) (given s) _ _ _ (c .before .before .before .before .before .before .before .before .before .before .before .before .before .before .before .before .before .before .before .before .before .before .planes-log-lent .ensures) (c .before .before .before .before .before .before .before .before .before .before .before .before .before .before .before .before .before .before .before .before .before .check .ensures) (c .before .before .before .before .before .before .before .before .before .before .before .before .before .before .before .before .before .before .before .before .is-accepted .ensures) _ _ (c .before .before .before .before .before .before .before .before .before .before .before .before .before .before .before .before .before .before .before .if1 .taken) (c .before .before .before .before .before .before .before .before .before .before .before .before .before .advance .ensures) (c .before .before .before .before .before .before .write .ensures)
+    let p = c .before .before .before .before .before .before .before .before .before .before .before .before .before .before .before .before .before .before .before .before .before .before in
+    let a = p .before in
+    let s = started a in
+    data-moves (s .args .luts .now) (s .args .time) (s .args .byte) (given s) _ _ _ (a .before .before .planes-log-lent .ensures) (a .before .check .ensures) (a .is-accepted .ensures) _ _ (p .if1 .taken) (c .before .before .before .before .before .before .before .before .before .before .before .before .before .before .before .advance .ensures) (c .before .before .before .before .before .before .write .ensures)
 
 returns-4 : tie.Need-returns-4
 returns-4 c =
-    let s = c .before .before .before .before .before .before .before .before .before in
-    data-refused (s .args .luts .now) (s .args .time) (s .args .byte) (given s) _ _ _ (c .before .before .before .planes-log-lent .ensures) (c .before .before .check .ensures) (c .before .is-accepted .ensures) (c .if1 .left)
+    let a = c .before in
+    let s = started a in
+    data-refused (s .args .luts .now) (s .args .time) (s .args .byte) (given s) _ _ _ (a .before .before .planes-log-lent .ensures) (a .before .check .ensures) (a .is-accepted .ensures) (c .if1 .left)
 
 pub write-data-spec : {M : Type 1} → statement M
 write-data-spec =
@@ -130,5 +159,6 @@ write-data-spec =
     same-length-8
     same-length-9
     same-length-10
+    same-length-11
     returns-3
     returns-4)

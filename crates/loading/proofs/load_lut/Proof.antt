@@ -11,7 +11,9 @@ setting-of-requires : tie.Need-setting-of-requires
 setting-of-requires c κs = search needs
 
 returns : tie.Need-returns
-returns c = finds _ _ _ _ _ (c .before .before .find-waveform .ensures) _ (c .before .if1 .taken) (c .setting-of .ensures)
+returns c =
+    let found = c .before .before .find-waveform .ensures in
+    finds _ _ _ _ _ (found .0) _ _ (c .before .if1 .taken) (c .setting-of .ensures) (found .1)
 
 note-requires : tie.Need-note-requires
 note-requires c κs = search needs
@@ -20,7 +22,8 @@ same-length : tie.Need-same-length
 same-length c = search needs
 
 returns-2 : tie.Need-returns-2
-returns-2 c = finds-none _ _ _ _ _ (c .before .before .before .before .before .find-waveform .ensures) _ (c .before .before .before .before .if1 .left) (c .before .before .note .ensures)
+returns-2 c =
+    finds-none _ _ _ _ _ (c .before .before .before .before .before .find-waveform .ensures .0) _ (c .before .before .before .before .if1 .left) (c .before .before .note .ensures)
 
 pub load-lut-spec : {M : Type 1} → statement M
 load-lut-spec =

@@ -1,5 +1,4 @@
 -- `numbers::negative_i64` meets its contract.
-use borrow.Author.Needs.{needs}
 use mathlib.Core.Path.{sym, ap, _∙_}
 use native.Mathlib.Omega.{arith}
 use lib.IntN.{pos, negℤ, +ℤ-idl}

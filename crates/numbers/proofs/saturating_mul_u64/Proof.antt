@@ -1,6 +1,6 @@
 -- `numbers::saturating_mul_u64` meets its contract: below 2^32 a product fits, and elsewhere the quotient of the bound tells.
 use borrow.Author.Needs.{needs}
-use mathlib.Core.Path.{_≡_, sym, ap, _∙_}
+use mathlib.Core.Path.{sym, ap, _∙_}
 use Prim.Native.Nat.{ℕ, _*_, _≤_, _<_, _^_, min}
 use native.Mathlib.Nat.{mul-zero}
 use native.Mathlib.Omega.{arith}

@@ -1,10 +1,11 @@
--- `otp::find_waveform` meets its contract: the part is the entry found.
+-- `otp::find_waveform` meets its contract: the part is the entry found, and the place its number.
 use mathlib.Core.Path.{_≡_, sym, ap, _∙_}
 use Prim.Native.Nat.{_+_, _-_, _*_, _<_}
 use native.Mathlib.Omega.{arith}
+use Rattle.otp.specs.declared.FoundEntry.the-variants.{At}
 use Rattle.otp.specs.Table.{entryCount}
-use Rattle.otp.specs.Waveform.{partOf}
-use Rattle.otp.proofs.Found.{found-is}
+use Rattle.otp.specs.Waveform.{foundEntry, partOf, placeOf}
+use Rattle.otp.proofs.Found.{found-is, found-few}
 use borrow.Author.Needs.{needs}
 use Rattle.otp.proofs.find_waveform.Statement.{statement}
 use Rattle.otp.proofs.find_waveform.Tie as tie
@@ -30,13 +31,25 @@ part-result-end c = search needs
 returns : tie.Need-returns
 returns c =
     let s = c .before .before .before .before .before in
-    ap (partOf (s .args .otp .now)) (sym (c .before .enum-told .given .1) ∙ c .before .before .before .find-entry .ensures)
+    let e = sym (c .before .enum-told .given .1) ∙ c .before .before .before .find-entry .ensures in
+    (ap (partOf (s .args .otp .now)) e, ap placeOf e)
+
+-- what `find_entry` found
+told : (c : tie.After-known-told)
+    → let s = c .before .before .before .before .before in foundEntry (s .args .otp .now) (s .args .mode) (s .args .register) ≡ At (c .before .entry .given .0 .0)
+told c = sym (c .before .before .before .find-entry .ensures) ∙ c .before .entry .given .1
 
 -- the entry found is one of the table's
 within : (c : tie.After-known-told) → c .before .entry .given .0 .0 < entryCount (c .before .before .before .before .before .args .otp .now)
 within c =
     let s = c .before .before .before .before .before in
-    found-is (s .args .otp .now) (s .args .mode) (s .args .register) _ (sym (c .before .before .before .find-entry .ensures) ∙ c .before .entry .given .1) .within
+    found-is (s .args .otp .now) (s .args .mode) (s .args .register) _ (told c) .within
+
+cast-place : tie.Need-cast-place
+cast-place c =
+    let s = c .before .before .before .before .before in
+    let few = found-few (s .args .otp .now) (s .args .mode) (s .args .register) _ (told c) in
+    omega arith
 
 mul-at : tie.Need-mul-at
 mul-at c = let h = within c in omega arith
@@ -58,7 +71,7 @@ returns-2 c =
     let s = c .before .before .before .before .before .before in
     let entry = c .before .before .entry .given .0 .0 in
     let e : 118 * entry + 118 - 118 * entry ≡ 118 = omega arith in
-    rw e (ap (partOf (s .args .otp .now)) (sym (c .before .before .entry .given .1) ∙ c .before .before .before .before .find-entry .ensures))
+    (rw e (ap (partOf (s .args .otp .now)) (sym (told (c .before)))), ap placeOf (sym (told (c .before))))
 
 pub find-waveform-spec : {M : Type 1} → statement M
 find-waveform-spec =
@@ -71,6 +84,7 @@ find-waveform-spec =
     part-result-start
     part-result-end
     returns
+    cast-place
     mul-at
     add-end
     sub-result-2

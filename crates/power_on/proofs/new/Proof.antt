@@ -1,4 +1,5 @@
 -- `power_on::new` meets its contract.
+use Rattle.counts.specs.Counts.{picture}
 use Rattle.power_on.proofs.Accepted.{ready}
 use Rattle.power_on.proofs.Cases.{starts, starts-not}
 use Rattle.power_on.specs.Start.{buffers}
@@ -6,6 +7,9 @@ use mathlib.Core.Path.{sym, _∙_}
 use borrow.Author.Needs.{needs}
 use Rattle.power_on.proofs.new.Statement.{statement}
 use Rattle.power_on.proofs.new.Tie as tie
+
+abbrev start-of : tie.After-all-lent → tie.Start
+start-of c = c .before .before .before .before .before .before .before .before .before
 
 all-lent-requires : tie.Need-all-lent-requires
 all-lent-requires c κs = search needs
@@ -18,8 +22,12 @@ is-accepted-requires c κs = search needs
 
 power-up-requires : tie.Need-power-up-requires
 power-up-requires c κs =
-    let s = c .before .before .before .before .before .before .before .before .before .before .before .before .before .before .before .before .before .before .args in
-    ready (s .config) (s .otp .now) (buffers (s .states .now) (s .luts .now) (s .pixels .now) (s .black-white .now) (s .red .now) (s .gates .now) (s .log .now)) _ _ (c .before .before .before .before .before .before .before .before .before .before .all-lent .ensures) (c .before .before .before .before .before .before .before .before .before .check .ensures) (sym (c .before .before .before .before .before .before .before .before .is-accepted .ensures) ∙ c .before .before .before .before .before .before .before .if1 .taken)
+    let taken : tie.Then1 = search in
+    let asked : tie.After-is-accepted = search in
+    let checked : tie.After-check = search in
+    let lent : tie.After-all-lent = search in
+    let s = start-of lent .args in
+    ready (s .config) (s .otp .now) (buffers (s .states .now) (s .luts .now) (picture (s .pixels .now) (s .counts .now)) (s .black-white .now) (s .red .now) (s .gates .now) (s .log .now)) _ _ (lent .all-lent .ensures) (checked .check .ensures) (sym (asked .is-accepted .ensures) ∙ taken .if1 .taken)
 
 same-length : tie.Need-same-length
 same-length c = search needs
@@ -42,18 +50,30 @@ same-length-6 c = search needs
 same-length-7 : tie.Need-same-length-7
 same-length-7 c = search needs
 
+same-length-8 : tie.Need-same-length-8
+same-length-8 c = search needs
+
 returns : tie.Need-returns
 returns c =
-    let s = c .before .before .before .before .before .before .before .before .before .before .before .before .before .before .before .before .before .before .before .before .before .before .before .before .before .before .before .before .before .before .before .before .args in
-    starts (s .config) (s .otp .now) (buffers (s .states .now) (s .luts .now) (s .pixels .now) (s .black-white .now) (s .red .now) (s .gates .now) (s .log .now)) _ _ (c .before .before .before .before .before .before .before .before .before .before .before .before .before .before .before .before .before .before .before .before .before .before .before .before .all-lent .ensures) (c .before .before .before .before .before .before .before .before .before .before .before .before .before .before .before .before .before .before .before .before .before .before .before .check .ensures) _ _ (c .before .before .before .before .before .before .before .before .before .before .before .before .before .before .before .before .before .before .before .before .before .before .is-accepted .ensures) (c .before .before .before .before .before .before .before .before .before .before .before .before .before .before .before .before .before .before .before .before .before .if1 .taken) (c .before .before .before .before .before .before .before .before .before .before .before .before .before .power-up .ensures)
+    let powered : tie.After-power-up = search in
+    let taken : tie.Then1 = search in
+    let asked : tie.After-is-accepted = search in
+    let checked : tie.After-check = search in
+    let lent : tie.After-all-lent = search in
+    let s = start-of lent .args in
+    starts (s .config) (s .otp .now) (buffers (s .states .now) (s .luts .now) (picture (s .pixels .now) (s .counts .now)) (s .black-white .now) (s .red .now) (s .gates .now) (s .log .now)) _ _ (lent .all-lent .ensures) (checked .check .ensures) _ _ (asked .is-accepted .ensures) (taken .if1 .taken) (powered .power-up .ensures)
 
 unstarted-requires : tie.Need-unstarted-requires
 unstarted-requires c κs = search needs
 
 returns-2 : tie.Need-returns-2
 returns-2 c =
-    let s = c .before .before .before .before .before .before .before .before .before .before .before .before .args in
-    starts-not (s .config) (s .otp .now) (buffers (s .states .now) (s .luts .now) (s .pixels .now) (s .black-white .now) (s .red .now) (s .gates .now) (s .log .now)) _ _ (c .before .before .before .before .all-lent .ensures) (c .before .before .before .check .ensures) _ _ (c .before .before .is-accepted .ensures) (c .before .if1 .left) (c .unstarted .ensures)
+    let left : tie.Else1 = search in
+    let asked : tie.After-is-accepted = search in
+    let checked : tie.After-check = search in
+    let lent : tie.After-all-lent = search in
+    let s = start-of lent .args in
+    starts-not (s .config) (s .otp .now) (buffers (s .states .now) (s .luts .now) (picture (s .pixels .now) (s .counts .now)) (s .black-white .now) (s .red .now) (s .gates .now) (s .log .now)) _ _ (lent .all-lent .ensures) (checked .check .ensures) _ _ (asked .is-accepted .ensures) (left .if1 .left) (c .unstarted .ensures)
 
 pub new-spec : {M : Type 1} → statement M
 new-spec =
@@ -70,6 +90,7 @@ new-spec =
     same-length-5
     same-length-6
     same-length-7
+    same-length-8
     returns
     unstarted-requires
     returns-2)

@@ -13,6 +13,9 @@ number-of-parameters-requires c κs = search needs
 enum-told : tie.Need-enum-told
 enum-told c = search needs
 
+enum-told-2 : tie.Need-enum-told-2
+enum-told-2 c = search needs
+
 returns : tie.Need-returns
 unfolding startAnswerOf
 returns c = rw (c .before .before .error .given .1) (c .number-of-parameters .ensures)
@@ -21,5 +24,10 @@ returns-2 : tie.Need-returns-2
 unfolding startAnswerOf
 returns-2 c = rw (c .enum-told .given .1)
 
+returns-3 : tie.Need-returns-3
+unfolding startAnswerOf
+returns-3 c = rw (c .enum-told2 .given .1)
+
 pub number-of-spec : {M : Type 1} → statement M
-number-of-spec = tie.close (tie.spec enum-known-error number-of-parameters-requires enum-told returns returns-2)
+number-of-spec =
+    tie.close (tie.spec enum-known-error number-of-parameters-requires enum-told enum-told-2 returns returns-2 returns-3)

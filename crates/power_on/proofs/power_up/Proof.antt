@@ -1,12 +1,19 @@
 -- `power_on::power_up` meets its contract.
+use Rattle.counts.specs.Counts.{picture}
 use Rattle.power_on.proofs.Cases.{powers-up}
 use Rattle.power_on.specs.Start.{buffers}
 use borrow.Author.Needs.{needs}
 use Rattle.power_on.proofs.power_up.Statement.{statement}
 use Rattle.power_on.proofs.power_up.Tie as tie
 
+abbrev start-of : tie.After-new → tie.Start
+start-of c = c .before .before .before .before .before .before .before .before .before .before .before .before
+
+abbrev made-of : tie.After-clear → tie.After-new
+made-of c = c .before .before .before .before .before .before .before .before .before .before .before
+
 new-requires : tie.Need-new-requires
-new-requires c κs = c .before .before .before .before .before .before .before .before .before .pre .0
+new-requires c κs = let s : tie.Start = search in (s .pre .0, (s .pre .3, s .pre .4))
 
 clear-requires : tie.Need-clear-requires
 clear-requires c κs = search needs
@@ -18,16 +25,16 @@ chip-with-requires : tie.Need-chip-with-requires
 chip-with-requires c κs = search needs
 
 same-length : tie.Need-same-length
-same-length c = c .before .before .before .before .before .before .before .before .before .before .before .before .before .before .before .before .before .before .before .before .new .kept .1 .1 .0
+same-length c = let emptied : tie.After-clear = search in made-of emptied .new .kept .1 .1 .0
 
 same-length-2 : tie.Need-same-length-2
-same-length-2 c = c .before .before .before .before .before .before .before .before .before .before .before .before .before .before .before .before .before .before .before .before .new .kept .1 .1 .1 .0
+same-length-2 c = let emptied : tie.After-clear = search in made-of emptied .new .kept .1 .1 .1 .0
 
 same-length-3 : tie.Need-same-length-3
-same-length-3 c = c .before .before .before .before .before .before .before .before .before .before .before .before .before .before .before .before .before .before .before .before .new .kept .1 .1 .1 .1 .0
+same-length-3 c = let emptied : tie.After-clear = search in made-of emptied .new .kept .1 .1 .1 .1 .0
 
 same-length-4 : tie.Need-same-length-4
-same-length-4 c = search needs
+same-length-4 c = let emptied : tie.After-clear = search in made-of emptied .new .kept .1 .1 .1 .1 .1 .0
 
 same-length-5 : tie.Need-same-length-5
 same-length-5 c = search needs
@@ -38,11 +45,17 @@ same-length-6 c = search needs
 same-length-7 : tie.Need-same-length-7
 same-length-7 c = search needs
 
+same-length-8 : tie.Need-same-length-8
+same-length-8 c = search needs
+
 returns : tie.Need-returns
 returns c =
-    let start = c .before .before .before .before .before .before .before .before .before .before .before .before .before .before .before .before .before .before .before .before .before .before .before .before .before .before .before .before .before .before in
+    let gated : tie.After-gate-of-row = search in
+    let emptied : tie.After-clear = search in
+    let made = made-of emptied in
+    let start = start-of made in
     let s = start .args in
-    powers-up (s .config) (buffers (s .states .now) (s .luts .now) (s .pixels .now) (s .black-white .now) (s .red .now) (s .gates .now) (s .log .now)) _ _ _ _ (c .before .before .before .before .before .before .before .before .before .before .before .before .before .before .before .before .before .before .before .before .new .ensures) (c .before .before .before .before .before .before .before .before .before .before .before .clear .ensures) (c .before .before .before .gate-of-row .ensures) (start .pre .1) (start .pre .2) (c .chip-with .ensures)
+    powers-up (s .config) (buffers (s .states .now) (s .luts .now) (picture (s .pixels .now) (s .counts .now)) (s .black-white .now) (s .red .now) (s .gates .now) (s .log .now)) _ _ _ _ (made .new .ensures) (emptied .clear .ensures) (gated .gate-of-row .ensures) (start .pre .1) (start .pre .2) (c .chip-with .ensures)
 
 pub power-up-spec : {M : Type 1} → statement M
 power-up-spec =
@@ -59,4 +72,5 @@ power-up-spec =
     same-length-5
     same-length-6
     same-length-7
+    same-length-8
     returns)

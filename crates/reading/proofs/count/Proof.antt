@@ -1,6 +1,4 @@
 -- `reading::count` meets its contract.
-use mathlib.Core.Path.{_≡_, ap}
-use Rattle.reading.specs.Reading.{oneReadMore}
 use borrow.Author.Needs.{needs}
 use Rattle.reading.proofs.count.Statement.{statement}
 use Rattle.reading.proofs.count.Tie as tie

@@ -5,11 +5,11 @@ use Rattle.replay.proofs.all.Statement.{statement}
 use Rattle.replay.proofs.all.Tie as tie
 
 abbrev Inv-loop : tie.InvT-loop
-Inv-loop states₀ luts₀ pixels₀ black-white₀ red₀ gates₀ log₀ otp₀ table₀ fields₀ text₀ now₀ turns₀ more₀ states luts pixels black-white red gates log otp table fields text now turns more =
+Inv-loop states₀ luts₀ pixels₀ counts₀ black-white₀ red₀ gates₀ log₀ otp₀ table₀ fields₀ text₀ now₀ turns₀ more₀ states luts pixels counts black-white red gates log otp table fields text now turns more =
     Unit {0}
 
 abbrev μ-loop : tie.MeasureT-loop
-μ-loop states₀ luts₀ pixels₀ black-white₀ red₀ gates₀ log₀ otp₀ table₀ fields₀ text₀ now₀ turns₀ more₀ states luts pixels black-white red gates log otp table fields text now turns more =
+μ-loop states₀ luts₀ pixels₀ counts₀ black-white₀ red₀ gates₀ log₀ otp₀ table₀ fields₀ text₀ now₀ turns₀ more₀ states luts pixels counts black-white red gates log otp table fields text now turns more =
     turns
 
 fresh-requires : tie.Need-fresh-requires Inv-loop μ-loop
@@ -25,10 +25,10 @@ chunk-requires : tie.Need-chunk-requires Inv-loop μ-loop
 chunk-requires c κs = search needs
 
 sub-turns : tie.Need-sub-turns Inv-loop μ-loop
-sub-turns c = omega (arith, c .before .before .before .before .before .before .before .before .before .before .before .before .before .before .before .loop-test .taken)
+sub-turns c = omega (arith, c .before .before .before .before .before .before .before .before .before .before .before .before .before .before .before .before .loop-test .taken)
 
 loop-less : tie.Need-loop-less Inv-loop μ-loop
-loop-less c = omega (arith, c .before .before .before .before .before .before .before .before .before .before .before .before .before .before .before .loop-test .taken)
+loop-less c = omega (arith, c .before .before .before .before .before .before .before .before .before .before .before .before .before .before .before .before .loop-test .taken)
 
 loop-again : tie.Need-loop-again Inv-loop μ-loop
 loop-again c = search needs

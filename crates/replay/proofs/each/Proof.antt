@@ -7,11 +7,11 @@ use Rattle.replay.proofs.each.Statement.{statement}
 use Rattle.replay.proofs.each.Tie as tie
 
 abbrev Inv-loop : tie.InvT-loop
-Inv-loop bytes states₀ luts₀ pixels₀ black-white₀ red₀ gates₀ log₀ otp₀ table₀ fields₀ text₀ next₀ i₀ states luts pixels black-white red gates log otp table fields text next i =
+Inv-loop bytes states₀ luts₀ pixels₀ counts₀ black-white₀ red₀ gates₀ log₀ otp₀ table₀ fields₀ text₀ next₀ i₀ states luts pixels counts black-white red gates log otp table fields text next i =
     i ≤ length bytes
 
 abbrev μ-loop : tie.MeasureT-loop
-μ-loop bytes states₀ luts₀ pixels₀ black-white₀ red₀ gates₀ log₀ otp₀ table₀ fields₀ text₀ next₀ i₀ states luts pixels black-white red gates log otp table fields text next i =
+μ-loop bytes states₀ luts₀ pixels₀ counts₀ black-white₀ red₀ gates₀ log₀ otp₀ table₀ fields₀ text₀ next₀ i₀ states luts pixels counts black-white red gates log otp table fields text next i =
     length bytes - i
 
 loop-holds : tie.Need-loop-holds Inv-loop μ-loop
@@ -34,12 +34,12 @@ take-requires c κs = search needs
 
 loop-less : tie.Need-loop-less Inv-loop μ-loop
 loop-less c =
-    let end = c .before .before .before .before .before .before .before .before .before .before .before .before .before in
+    let end = c .before .before .before .before .before .before .before .before .before .before .before .before .before .before in
     omega (arith, end .part-end .ensures .0, end .part-end .ensures .1)
 
 loop-again : tie.Need-loop-again Inv-loop μ-loop
 loop-again c =
-    let end = c .before .before .before .before .before .before .before .before .before .before .before .before .before in
+    let end = c .before .before .before .before .before .before .before .before .before .before .before .before .before .before in
     end .part-end .ensures .1
 
 returns : tie.Need-returns Inv-loop μ-loop

@@ -11,8 +11,8 @@ close-command-requires c κs = search needs
 
 cut-display-requires : tie.Need-cut-display-requires
 cut-display-requires c κs =
-    let s = c .before .before .before .before .before .before .before .before .before .before in
-    (ready-closed (s .args .states .now) (s .args .luts .now) (s .args .pixels .now) _ _ (c .before .before .before .before .before .close-command .ensures) (s .pre .0), c .before .before .before .before .before .close-command .kept .1 .0 ∙ s .pre .1)
+    let s = c .before .before .before .before .before .before .before .before .before .before .before .before in
+    (ready-closed (s .args .states .now) (s .args .luts .now) (s .args .pixels .now) (s .args .counts .now) _ _ (c .before .before .before .before .before .before .close-command .ensures) (s .pre .0), c .before .before .before .before .before .before .close-command .kept .1 .0 ∙ s .pre .1)
 
 restore-registers-requires : tie.Need-restore-registers-requires
 restore-registers-requires c κs = search needs
@@ -27,10 +27,13 @@ same-length-2 : tie.Need-same-length-2
 same-length-2 c = search needs
 
 same-length-3 : tie.Need-same-length-3
-same-length-3 c = c .before .before .before .before .before .before .before .cut-display .kept .1 .1 .1 .1 .0 ∙ c .before .before .before .before .before .before .before .before .before .before .before .before .before .close-command .kept .1 .0
+same-length-3 c = search needs
+
+same-length-4 : tie.Need-same-length-4
+same-length-4 c = c .before .before .before .before .before .before .before .before .before .cut-display .kept .1 .1 .1 .1 .1 .0 ∙ c .before .before .before .before .before .before .before .before .before .before .before .before .before .before .before .before .close-command .kept .1 .0
 
 returns : tie.Need-returns
-returns c = asserts _ _ _ _ _ _ (c .before .before .before .before .before .before .before .before .before .before .before .before .before .close-command .ensures) (c .before .before .before .before .before .before .before .cut-display .ensures) (c .before .restore-registers .ensures) (c .enter-reset .ensures)
+returns c = asserts _ _ _ _ _ _ (c .before .before .before .before .before .before .before .before .before .before .before .before .before .before .before .before .close-command .ensures) (c .before .before .before .before .before .before .before .before .before .cut-display .ensures) (c .before .restore-registers .ensures) (c .enter-reset .ensures)
 
 pub assert-reset-spec : {M : Type 1} → statement M
 assert-reset-spec =
@@ -43,4 +46,5 @@ assert-reset-spec =
     same-length
     same-length-2
     same-length-3
+    same-length-4
     returns)

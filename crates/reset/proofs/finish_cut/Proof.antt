@@ -22,8 +22,11 @@ same-length c = search needs
 same-length-2 : tie.Need-same-length-2
 same-length-2 c = search needs
 
+same-length-3 : tie.Need-same-length-3
+same-length-3 c = search needs
+
 returns : tie.Need-returns
-returns c = shortens _ _ _ _ _ _ (c .before .before .before .before .before .before .before .before .ns-between .ensures) (c .before .before .before .before .before .finish .ensures) (c .before .stop .ensures) (c .set-glass .ensures)
+returns c = shortens _ _ _ _ _ _ (c .before .before .before .before .before .before .before .before .before .before .before .ns-between .ensures) (c .before .before .before .before .before .before .before .finish .ensures) (c .before .stop .ensures) (c .set-glass .ensures)
 
 pub finish-cut-spec : {M : Type 1} → statement M
 finish-cut-spec =
@@ -35,4 +38,5 @@ finish-cut-spec =
     set-glass-requires
     same-length
     same-length-2
+    same-length-3
     returns)

@@ -4,11 +4,10 @@ use mathlib.Core.Bool.{Bool, true, false}
 use Prim.Native.Nat.{ℕ, _+_, _-_, _≤_}
 use native.Mathlib.Omega.{arith}
 use lib.Dec.{eqb}
-use lib.ListN.{length, getD}
+use lib.ListN.{getD}
 use Rattle.numbers.specs.Choice.{pick}
 use Rattle.sheet_text.specs.Reading.{lineAfter, differsIn}
 use Rattle.sheet_text.proofs.Differ.{from, goes-on, stops, ends, one-ends}
-use borrow.Author.Needs.{needs}
 use Rattle.sheet_text.proofs.differing_line.Statement.{statement}
 use Rattle.sheet_text.proofs.differing_line.Tie as tie
 

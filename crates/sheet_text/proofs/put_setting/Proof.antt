@@ -1,15 +1,14 @@
 -- `sheet_text::put_setting` meets its contract.
 use mathlib.Core.Path.{_≡_, refl, sym, ap, _∙_}
 use mathlib.Core.List.{List}
-use Prim.Native.Nat.{ℕ, _≤_}
+use Prim.Native.Nat.{ℕ}
 use native.Mathlib.Omega.{arith}
 use lib.ListN.{length, replicate}
-use Rattle.config.specs.Answer.{Answer, accepted}
+use Rattle.config.specs.Answer.{accepted}
 use Rattle.column.specs.Columns.{buffer, appended}
 use Rattle.drive_sheet.specs.declared.Sheet.{Sheet}
 use Rattle.drive_sheet.specs.declared.Written.{Written}
 use Rattle.drive_sheet.specs.declared.Written.the-variants.{Whole, Length, NoCode, Repeats, Code}
-use Rattle.drive_sheet.specs.Bytes.{settingOf}
 use Rattle.drive_sheet.specs.Tests.{settingLength, toldOf, numberIn, Reply, reply, writtenOf}
 use Rattle.sheet_text.specs.Answer.{numberText, replyText, settingText}
 use borrow.Author.Needs.{needs}

@@ -1,8 +1,6 @@
 -- `sheet_text::read` meets its contract: writing the numbers gives the text back, or the line in which it does not.
-use mathlib.Core.Path.{_≡_, ap, _∙_}
-use mathlib.Core.List.{List}
-use Prim.Native.Nat.{ℕ}
-use lib.ListN.{length, replicate, length-replicate}
+use mathlib.Core.Path.{ap, _∙_}
+use lib.ListN.{replicate}
 use Rattle.drive_sheet.specs.declared.Sheet.{Sheet}
 use Rattle.sheet_text.specs.Text.{sheetText}
 use Rattle.sheet_text.specs.Reading.{differsIn, drawingOf}

@@ -1,7 +1,7 @@
 -- `text::hex_byte` meets its contract.
 use mathlib.Core.Path.{_≡_, ap, _∙_}
 use Prim.Native.Nat.{ℕ}
-use Rattle.text.specs.Text.{Gathered, gathered, putOf, written, hexOf}
+use Rattle.text.specs.Text.{Gathered, putOf, written, hexOf}
 use borrow.Author.Needs.{needs}
 use Rattle.text.proofs.hex_byte.Statement.{statement}
 use Rattle.text.proofs.hex_byte.Tie as tie

@@ -1,5 +1,4 @@
 -- `voltage::gate_code_is_listed` meets its contract.
-use mathlib.Core.Path.{_≡_}
 use native.Mathlib.Omega.{arith}
 use borrow.Author.Tests.{ne-eqb, le-leb, lt-leb}
 use Rattle.voltage.proofs.gate_code_is_listed.Statement.{statement}

@@ -5,8 +5,8 @@ use mathlib.Core.Bool.{Bool, true, false}
 use mathlib.Core.List.{List, _++_}
 use Prim.Native.Nat.{ℕ, _+_, _*_, _<_}
 use lib.Dec.{T, eqb, eqb→eq}
-use lib.IntN.{ℤ, pos, negsuc}
-use lib.ListN.{length, getD}
+use lib.IntN.{pos, negsuc}
+use lib.ListN.{getD}
 use Rattle.numbers.specs.Lists.{tab}
 use Rattle.numbers.proofs.Every.{at}
 use Rattle.voltage.specs.declared.Millivolts.{Millivolts}

@@ -1,8 +1,7 @@
 -- `voltage::told` meets its contract: the mark is told as unlisted, every other figure as its millivolts.
 use borrow.Author.Needs.{needs}
 use borrow.Author.Tests.{eq-eqb, ne-eqb}
-use mathlib.Core.Path.{_≡_, refl, ap, _∙_}
-use Prim.Native.Nat.{ℕ, _≤_, _^_}
+use mathlib.Core.Path.{refl, ap}
 use native.Mathlib.Omega.{arith}
 use lib.Dec.{eqb}
 use lib.IntN.{pos}

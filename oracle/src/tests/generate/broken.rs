@@ -19,9 +19,9 @@ fn numbers() -> Vec<String> {
         line(99_999_999_999_999_999_999, 5, 0),
         line(0, 11, FIELDS as u32),
     ];
-    lines.extend([0, 18, 19, 99].map(|kind| line(0, kind, 0)));
-    lines.extend([3, 5, 6, 7, 8, 9, 13, 14, 17].map(|kind| line(0, kind, 1)));
-    lines.extend([7, 10, 13, 14, 17].map(|kind| line(1, kind, 0)));
+    lines.extend([0, 19, 20, 99].map(|kind| line(0, kind, 0)));
+    lines.extend([3, 5, 6, 7, 8, 9, 13, 14, 17, 18].map(|kind| line(0, kind, 1)));
+    lines.extend([7, 10, 13, 14, 17, 18].map(|kind| line(1, kind, 0)));
     for field in 0..FIELDS {
         if largest(field) < u64::MAX {
             let number = u128::from(largest(field)) + 1;

@@ -187,6 +187,10 @@ impl Script {
         self.line(0, 7, 0);
     }
 
+    pub(super) fn counts(&mut self) {
+        self.line(0, 18, 0);
+    }
+
     pub(super) fn dump_one_in(&mut self, times: u64) {
         if self.random.one_in(times) {
             self.dump();

@@ -180,13 +180,12 @@ fn prepare(script: &mut Script) {
     }
 }
 
-/// Tables of up to 64 entries whose ranges overlap, asked for temperatures at their bounds.
-pub(super) fn waveforms(script: &mut Script) {
+/// A small panel with a table whose ranges overlap, of one of these numbers of entries.
+pub(super) fn overlapping(script: &mut Script, entries: &[u8]) -> (Geometry, Configuration) {
     let panel = Geometry::small(&mut script.random);
     let mut configuration = configurations::reference(panel);
     configuration.otp.clear();
-    let entries = script.random.pick(&[1, 2, 3, 5, 16, 17, 40, 64]);
-    for place in 0..entries {
+    for place in 0..script.random.pick(entries) {
         let mut setting = settings::setting(&mut script.random);
         settings::make_listed(&mut setting, &mut script.random);
         // A byte that nothing reads tells the entries apart.
@@ -196,6 +195,12 @@ pub(super) fn waveforms(script: &mut Script) {
         let mode = script.random.pick(&[0, 1]);
         configuration.push_entry(mode, [lower, upper], &setting);
     }
+    (panel, configuration)
+}
+
+/// Tables of up to 64 entries whose ranges overlap, asked for temperatures at their bounds.
+pub(super) fn waveforms(script: &mut Script) {
+    let (_, configuration) = overlapping(script, &[1, 2, 3, 5, 16, 17, 40, 64]);
     script.start(&configuration);
     for _ in 0..script.random.between(3, 6) {
         let edges = [

@@ -15,13 +15,16 @@ last-requires c κs = search needs
 can-gray-requires : tie.Need-can-gray-requires
 can-gray-requires c κs = search needs
 
+can-count-requires : tie.Need-can-count-requires
+can-count-requires c κs = search needs
+
 returns : tie.Need-returns
 unfolding finishable
 returns c =
-    let s = c .before .before in
+    let s = c .before .before .before in
     let a = s .args in
-    let gray = c .can-gray .ensures ∙ ap (λ (z : ℤ). grayable z (a .states) (a .pixels)) (back (s .fits .swing)) in
-    λ i. (c .before .last .ensures i && gray i) && eqb (a .luts) (a .states)
+    let gray = c .before .can-gray .ensures ∙ ap (λ (z : ℤ). grayable z (a .states) (a .pixels)) (back (s .fits .swing)) in
+    λ i. ((c .before .before .last .ensures i && gray i) && eqb (a .luts) (a .states)) && c .can-count .ensures i
 
 pub can-finish-spec : {M : Type 1} → statement M
-can-finish-spec = tie.close (tie.spec last-requires can-gray-requires returns)
+can-finish-spec = tie.close (tie.spec last-requires can-gray-requires can-count-requires returns)

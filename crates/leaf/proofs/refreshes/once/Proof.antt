@@ -24,13 +24,16 @@ lasting-requires c κs = search needs
 
 finish-requires : tie.Need-finish-requires
 finish-requires c κs =
-    let lengths = c .before .before in
+    let s : tie.Start = search in
+    let lengths = c .before .before .before in
     let swing = lengths .before .before in
     let told = swing .before in
     let tested = told .before .before in
     record {
       luts-long = lengths .before .if3 .taken;
       pixels-long = lengths .if4 .taken;
+      counts-long = s .pre .0;
+      few = s .pre .1;
       some = subst (λ (z : ℤ). pos 1 ≤ℤ z) (field-back _ (told .struct-told .given .0 .1)) (omega (whole, swing .if2 .taken));
       lasting = tested .before .lasting .ensures .1 (tested .if1 .taken);
     }
@@ -40,6 +43,9 @@ same-length c = search needs
 
 same-length-2 : tie.Need-same-length-2
 same-length-2 c = search needs
+
+same-length-3 : tie.Need-same-length-3
+same-length-3 c = search needs
 
 returns : tie.Need-returns
 returns c = search needs
@@ -68,6 +74,7 @@ once-spec =
     finish-requires
     same-length
     same-length-2
+    same-length-3
     returns
     returns-2
     returns-3

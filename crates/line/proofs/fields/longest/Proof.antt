@@ -31,8 +31,16 @@ returns-4 c =
 returns-5 : tie.Need-returns-5
 unfolding longestOf
 returns-5 c =
-    let b = c .before .before .before .before .args .buffer in
-    rw (le-ltb b 3 (omega arith)) (rw (le-ltb b 5 (omega arith)) (rw (le-ltb b 6 (omega arith)) (rw (le-ltb b 7 (omega arith)) refl)))
+    let b = c .before .before .before .before .before .args .buffer in
+    rw (le-ltb b 3 (omega arith))
+    (rw (le-ltb b 5 (omega arith)) (rw (le-ltb b 6 (omega arith)) (rw (le-ltb b 7 (omega arith)) (rw (lt-ltb b 8 (omega arith)) refl))))
+
+returns-6 : tie.Need-returns-6
+unfolding longestOf
+returns-6 c =
+    let b = c .before .before .before .before .before .args .buffer in
+    rw (le-ltb b 3 (omega arith))
+    (rw (le-ltb b 5 (omega arith)) (rw (le-ltb b 6 (omega arith)) (rw (le-ltb b 7 (omega arith)) (rw (le-ltb b 8 (omega arith)) refl))))
 
 pub longest-spec : {M : Type 1} → statement M
-longest-spec = tie.close (tie.spec returns returns-2 returns-3 returns-4 returns-5)
+longest-spec = tie.close (tie.spec returns returns-2 returns-3 returns-4 returns-5 returns-6)

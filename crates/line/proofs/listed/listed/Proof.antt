@@ -1,11 +1,9 @@
 -- `line::listed::listed` meets its contract: in each arm the kind is the row's number, and the table computes; in the last, it is no row's.
-use mathlib.Core.Path.{_≡_, refl, sym, ap, _∙_}
+use mathlib.Core.Path.{ap, _∙_}
 use Prim.{Unit}
-use Prim.Native.Nat.{ℕ}
 use Rattle.numbers.specs.Rows.{lookup}
 use Rattle.numbers.proofs.Miss.{miss}
 use Rattle.line.specs.Lines.{within, rows, listedAs}
-use Rattle.line.specs.declared.Line.{Line}
 use Rattle.line.specs.declared.Line.the-variants.{Bad}
 use borrow.Author.Needs.{needs}
 use Rattle.line.proofs.listed.listed.Statement.{statement}
@@ -79,6 +77,12 @@ zero-requires-13 c κs = search needs
 
 zero-requires-14 : tie.Need-zero-requires-14
 zero-requires-14 c κs = search needs
+
+zero-requires-15 : tie.Need-zero-requires-15
+zero-requires-15 c κs = search needs
+
+zero-requires-16 : tie.Need-zero-requires-16
+zero-requires-16 c κs = search needs
 
 returns : tie.Need-returns
 unfolding rows lookup listedAs
@@ -161,8 +165,14 @@ returns-17 c =
     rw (c .before .before .match .keys17) (c .zero14 .ensures ∙ ap (within (s .number) 1) (c .before .zero13 .ensures))
 
 returns-18 : tie.Need-returns-18
+unfolding rows lookup listedAs
+returns-18 c =
+    let s = c .before .before .before .args in
+    rw (c .before .before .match .keys18) (c .zero16 .ensures ∙ ap (within (s .number) 1) (c .before .zero15 .ensures))
+
+returns-19 : tie.Need-returns-19
 unfolding rows listedAs
-returns-18 c = miss Bad (c .before .args .kind) (rows (c .before .args .number) (c .before .args .value)) Unit (c .match .rest) .1
+returns-19 c = miss Bad (c .before .args .kind) (rows (c .before .args .number) (c .before .args .value)) Unit (c .match .rest) .1
 
 pub listed-spec : {M : Type 1} → statement M
 listed-spec =
@@ -191,6 +201,8 @@ listed-spec =
     state-requires
     zero-requires-13
     zero-requires-14
+    zero-requires-15
+    zero-requires-16
     returns
     returns-2
     returns-3
@@ -208,4 +220,5 @@ listed-spec =
     returns-15
     returns-16
     returns-17
-    returns-18)
+    returns-18
+    returns-19)

@@ -2,7 +2,6 @@
 use mathlib.Core.Path.{refl}
 use native.Mathlib.Omega.{arith}
 use Rattle.line.proofs.Within.{below, above}
-use borrow.Author.Needs.{needs}
 use Rattle.line.proofs.listed.zero.Statement.{statement}
 use Rattle.line.proofs.listed.zero.Tie as tie
 

@@ -7,12 +7,12 @@ use Rattle.replay.proofs.calls.told.Statement.{statement}
 use Rattle.replay.proofs.calls.told.Tie as tie
 
 abbrev Inv-loop : tie.InvT-loop
-Inv-loop event states₀ luts₀ pixels₀ black-white₀ red₀ gates log₀ otp text₀ counted left₀ progress₀ state₀ states luts pixels black-white red log text left progress state =
-    (length states ≡ length states₀) × (length luts ≡ length luts₀) × (length pixels ≡ length pixels₀)
+Inv-loop event states₀ luts₀ pixels₀ counts₀ black-white₀ red₀ gates log₀ otp text₀ counted left₀ progress₀ state₀ states luts pixels counts black-white red log text left progress state =
+    (length states ≡ length states₀) × (length luts ≡ length luts₀) × (length pixels ≡ length pixels₀) × (length counts ≡ length counts₀)
     × (length black-white ≡ length black-white₀) × (length red ≡ length red₀) × (length log ≡ length log₀)
 
 abbrev μ-loop : tie.MeasureT-loop
-μ-loop event states₀ luts₀ pixels₀ black-white₀ red₀ gates log₀ otp text₀ counted left₀ progress₀ state₀ states luts pixels black-white red log text left progress state = left
+μ-loop event states₀ luts₀ pixels₀ counts₀ black-white₀ red₀ gates log₀ otp text₀ counted left₀ progress₀ state₀ states luts pixels counts black-white red log text left progress state = left
 
 is-counted-requires : tie.Need-is-counted-requires Inv-loop μ-loop
 is-counted-requires c κs = search needs
@@ -36,21 +36,22 @@ answered-requires : tie.Need-answered-requires Inv-loop μ-loop
 answered-requires c κs = search needs
 
 sub-left : tie.Need-sub-left Inv-loop μ-loop
-sub-left c = omega (arith, c .before .before .before .before .before .before .before .before .before .before .before .before .before .before .before .before .before .before .before .before .before .before .loop-test .taken)
+sub-left c = omega (arith, c .before .before .before .before .before .before .before .before .before .before .before .before .before .before .before .before .before .before .before .before .before .before .before .before .before .loop-test .taken)
 
 loop-less : tie.Need-loop-less Inv-loop μ-loop
-loop-less c = omega (arith, c .before .before .before .before .before .before .before .before .before .before .before .before .before .before .before .before .before .before .before .before .before .before .loop-test .taken)
+loop-less c = omega (arith, c .before .before .before .before .before .before .before .before .before .before .before .before .before .before .before .before .before .before .before .before .before .before .before .before .before .loop-test .taken)
 
 loop-again : tie.Need-loop-again Inv-loop μ-loop
 loop-again c =
-    let kept = c .before .before .before .before .before .before .before .before .before .before .before .before .before .before .before .dispatch .kept in
-    let inv = c .before .before .before .before .before .before .before .before .before .before .before .before .before .before .before .before .before .before .before .before .before .before .before .loop .inv in (
+    let kept = c .before .before .before .before .before .before .before .before .before .before .before .before .before .before .before .before .before .dispatch .kept in
+    let inv = c .before .before .before .before .before .before .before .before .before .before .before .before .before .before .before .before .before .before .before .before .before .before .before .before .before .before .loop .inv in (
       kept .1 .0 ∙ inv .0,
       kept .1 .1 .0 ∙ inv .1,
       kept .1 .1 .1 .0 ∙ inv .2,
       kept .1 .1 .1 .1 .0 ∙ inv .3,
       kept .1 .1 .1 .1 .1 .0 ∙ inv .4,
-      kept .1 .1 .1 .1 .1 .1 .1 .0 ∙ inv .5,
+      kept .1 .1 .1 .1 .1 .1 .0 ∙ inv .5,
+      kept .1 .1 .1 .1 .1 .1 .1 .1 .0 ∙ inv .6,
     )
 
 same-length : tie.Need-same-length Inv-loop μ-loop
@@ -70,6 +71,9 @@ same-length-5 c = search needs
 
 same-length-6 : tie.Need-same-length-6 Inv-loop μ-loop
 same-length-6 c = search needs
+
+same-length-7 : tie.Need-same-length-7 Inv-loop μ-loop
+same-length-7 c = search needs
 
 returns : tie.Need-returns Inv-loop μ-loop
 returns c = search needs
@@ -96,4 +100,5 @@ told-spec =
     same-length-4
     same-length-5
     same-length-6
+    same-length-7
     returns)

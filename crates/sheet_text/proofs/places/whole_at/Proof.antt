@@ -1,16 +1,14 @@
 -- `sheet_text::places::whole_at` meets its contract.
-use mathlib.Core.Path.{_≡_, sym, ap, _∙_}
-use mathlib.Core.List.{List}
+use mathlib.Core.Path.{sym, ap, _∙_}
 use Prim.Native.Nat.{ℕ, zero, suc, _^_, _<_}
 use native.Mathlib.Omega.{arith}
 use lib.IntN.{ℤ, pos, negℤ}
 use mir.Syntax.{w64}
 use mir.Val.{SFits}
-use Rattle.numbers.specs.Saturation.{satZ}
 use Rattle.numbers.proofs.Cases.{took, passed}
 use Rattle.numbers.proofs.Hold.{sat-fits}
-use Rattle.numbers.proofs.Lin.{rd, got}
-use Rattle.sheet_text.specs.Reading.{valueAt, wholeAt}
+use Rattle.numbers.proofs.Lin.{got}
+use Rattle.sheet_text.specs.Reading.{wholeAt}
 use borrow.Author.Needs.{needs}
 use Rattle.sheet_text.proofs.places.whole_at.Statement.{statement}
 use Rattle.sheet_text.proofs.places.whole_at.Tie as tie

@@ -1,0 +1,2 @@
+-- The root of record_laws' specs.
+pub mod Recorded
