@@ -1,5 +1,7 @@
 // 0x20: the stages that 0x22 enables, in their order; here the display, the supplies' end and the whole (mod.rs, `activate` and
 // `start_display`).
+#![tactic(auto)]
+
 ghost use Rattle.std.specs.Prelude.{◌≡◌, ◌<◌, length};
 ghost use Rattle.waveform.specs.Setting.{waveform_of};
 ghost use Rattle.waveform.specs.Duration.{duration_of};
@@ -88,7 +90,7 @@ fn display_of(
 }
 
 // A run with the display that it has started, or the one before.
-#[derive(Drop)]
+#[derive(Clone, Copy)]
 pub struct Shown {
     pub run: Run,
     pub display: Display,

@@ -1,5 +1,7 @@
 // The report of a value that the datasheet does not list (mod.rs, `reserved`, `check`), and BUSY for a span. What the parameters that act
 // at once do is defined here too; the functions are in `deep_sleep` and `detection`.
+#![tactic(auto)]
+
 ghost use Rattle.std.specs.Prelude.{◌≡◌, length};
 ghost use Rattle.world.specs.World.{with_log};
 ghost use Rattle.start.specs.Start.{with_busy_for};

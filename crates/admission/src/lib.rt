@@ -1,4 +1,6 @@
 // A command byte, once the clock has moved and the last command is closed: whether the chip hears it (mod.rs, `write_command`).
+#![tactic(auto)]
+
 ghost use Rattle.std.specs.Prelude.{◌≡◌};
 ghost use Rattle.counts.specs.Counts.{picture};
 ghost use Rattle.world.specs.World.{with_buffers, lent};

@@ -1,4 +1,6 @@
 // Whether what the model shows rests on values not measured on a device (config.rs, `is_approximation`).
+#![tactic(auto)]
+
 ghost use Rattle.std.specs.Prelude.{◌≡◌, ◌<◌};
 ghost use Rattle.otp.specs.Table.{entry_count};
 ghost use Rattle.otp.specs.Search.{any_of};
@@ -39,7 +41,7 @@ fn any_approximate_entry(otp: &[u8]) -> bool
 }
 
 // Whether a configuration is an approximation, or that its table is none.
-#[derive(Drop)]
+#[derive(Clone, Copy)]
 pub enum IsApproximation {
     Is(bool),
     BadTable,

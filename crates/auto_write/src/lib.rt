@@ -1,5 +1,7 @@
 // The auto write of 0x46 and 0x47 (datasheet Table 7-1): bit 7 of its parameter is the value of the first step, bits 6:4 the step
 // height, bits 2:0 the step width; the steps alternate in a checkerboard.
+#![tactic(auto)]
+
 ghost use Rattle.std.specs.Prelude.{◌≡◌, ◌/◌, ◌<◌};
 ghost use Rattle.auto_write.specs.Auto.{height_of, width_of, step_byte, auto_written};
 

@@ -1,4 +1,6 @@
 // A command that the chip hears, by Table 7-1 (mod.rs, `write_command` and `start_command`).
+#![tactic(auto)]
+
 ghost use Rattle.std.specs.Prelude.{◌≡◌};
 ghost use Rattle.command.specs.Table.{kind_of};
 ghost use Rattle.counts.specs.Counts.{picture};

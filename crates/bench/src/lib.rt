@@ -1,5 +1,7 @@
 // The proved functions as a Rust or a C program calls them, to be timed beside the reference. Each tests what the function under it
 // asks, and changes nothing where the test fails.
+#![tactic(auto)]
+
 use ram::{Counter, Entry, Window};
 
 mod asked;

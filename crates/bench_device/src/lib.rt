@@ -1,4 +1,6 @@
 // The whole proved device as a Rust or a C program calls it, to be timed beside the reference.
+#![tactic(auto)]
+
 mod whole;
 
 ghost use Rattle.std.specs.Prelude.{◌≡◌};

@@ -1,5 +1,7 @@
 // Bytes of RAM data one after the other (mod.rs, `write_data` and `write_ram`). As long as nothing else comes about they change the plane, the
 // counter, the clock and the command's count alone, so these go through a loop of their own and the state is put back once: a frame has 48,000.
+#![tactic(auto)]
+
 ghost use Rattle.std.specs.Prelude.{◌≡◌, ◌-◌, ◌≤◌, length};
 ghost use Rattle.burst.specs.Running.{byte_step, taking, ran, running};
 ghost use Rattle.burst.specs.Burst.{course_of, reached_by, into, ran_into, bursted, burstOf};
@@ -11,7 +13,7 @@ use ram::{Counter, Entry, Window};
 pub const DATA: u8 = 2;
 
 // What bytes of RAM data change of a state.
-#[derive(Drop)]
+#[derive(Clone, Copy)]
 pub struct Reached {
     pub latest: u64,
     pub counter: Counter,
@@ -20,7 +22,7 @@ pub struct Reached {
 }
 
 // What they go by: where the counter moves, and when something else comes about.
-#[derive(Drop)]
+#[derive(Clone, Copy)]
 pub struct Course {
     pub window: Window,
     pub entry: Entry,
@@ -31,7 +33,7 @@ pub struct Course {
 }
 
 // What one event did.
-#[derive(Drop)]
+#[derive(Clone, Copy)]
 struct Taken {
     // The event was such a byte.
     done: bool,
@@ -39,14 +41,14 @@ struct Taken {
 }
 
 // Where the bytes end: the place of the first event that is none.
-#[derive(Drop)]
+#[derive(Clone, Copy)]
 struct Run {
     made: usize,
     reached: Reached,
 }
 
 // The same with the state.
-#[derive(Drop)]
+#[derive(Clone, Copy)]
 pub struct Burst {
     pub made: usize,
     pub state: Ssd1677,

@@ -1,5 +1,7 @@
 // What can be asked of a state without changing it: whether the controller is busy, the level of its BUSY pin, and the next instant at
 // which something changes without a call (mod.rs, `is_busy`, `busy_pin` and `next_deadline`).
+#![tactic(auto)]
+
 ghost use Rattle.std.specs.Prelude.{◌≡◌};
 ghost use Rattle.busy.specs.Busy.{pending, busy_at, pin_at, earlier, display_end, deadline_of};
 

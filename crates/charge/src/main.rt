@@ -1,5 +1,7 @@
 // The charge that each waveform of the OTP table on standard input leaves in the glass (SCOPE, Charge). Sixteen arguments are the frame
 // period of each frame-rate code, in nanoseconds; with none every period is the default.
+#![tactic(auto)]
+
 mod arguments;
 mod say;
 

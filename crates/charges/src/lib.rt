@@ -1,4 +1,6 @@
 // The charge that waveforms leave in the glass (SCOPE, Charge): a panel driven one way for a season keeps a shadow.
+#![tactic(auto)]
+
 mod line;
 mod sum;
 
@@ -22,7 +24,7 @@ const SETTING_BYTES: usize = 112;
 pub const LONGEST_PERIOD: u64 = 100_000_000;
 
 // The LUTs that drive pixels; LUT 4 drives VCOM.
-#[derive(Drop)]
+#[derive(Clone, Copy)]
 pub enum PixelLut {
     Lut0,
     Lut1,
@@ -31,7 +33,7 @@ pub enum PixelLut {
 }
 
 // What is answered of one sum.
-#[derive(Drop)]
+#[derive(Clone, Copy)]
 pub enum Charged {
     // In millivolts × nanoseconds.
     Sum(i64),
@@ -44,7 +46,7 @@ pub enum Charged {
 }
 
 // What a report answers.
-#[derive(Drop)]
+#[derive(Clone, Copy)]
 pub enum Reported {
     // The lines fill the buffer.
     Written,

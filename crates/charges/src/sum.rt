@@ -96,6 +96,6 @@ pub(crate) fn waveform_of(setting: &[u8], frame_period: &[u64; 16]) -> Waveform
     ensures bounded { BoundedWaveform result }
 {
     let mut copied = [0u8; 112];
-    bytes::copy(setting, &mut copied);
+    byte_copy::copy(setting, &mut copied);
     setting::from_setting(&copied, frame_period)
 }

@@ -1,4 +1,6 @@
 // The end of a command, and a report (mod.rs, `close_command`, `report`).
+#![tactic(auto)]
+
 ghost use Rattle.std.specs.Prelude.{◌≡◌, length};
 ghost use Rattle.world.specs.World.{with_log};
 ghost use Rattle.chip.specs.Report.{logged};

@@ -1,4 +1,6 @@
 // What happens when the clock moves (mod.rs, `advance`).
+#![tactic(auto)]
+
 ghost use Rattle.std.specs.Prelude.{◌≡◌, max};
 ghost use Rattle.counts.specs.Counts.{picture};
 ghost use Rattle.device.specs.Parts.{with_now};

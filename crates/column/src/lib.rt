@@ -1,4 +1,6 @@
 // Columns of decimals, right-justified: written into a lent buffer, and read (`read`).
+#![tactic(auto)]
+
 pub mod read;
 
 ghost use Rattle.std.specs.Prelude.{◌≡◌, ◌+◌, ◌^◌, ◌<◌, ◌≤◌, length};

@@ -5,7 +5,7 @@ ghost use Rattle.column.specs.Reading.{read_of, digit_of, step_of, last_of};
 const LARGEST: u64 = 18446744073709551615;
 
 // What a column holds.
-#[derive(Drop)]
+#[derive(Clone, Copy)]
 pub enum Column {
     // Its decimal, right-justified, blanks in front, no leading zeros.
     Number(u64),

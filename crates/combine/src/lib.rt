@@ -1,5 +1,7 @@
 // What the display of a setting does to a state, a whole one with each group's transfer worked out once and combined with
 // itself (#110).
+#![tactic(auto)]
+
 mod groups;
 
 ghost use Rattle.std.specs.Prelude.{◌≡◌, ◌<◌, pos, ◌≤ℤ◌};

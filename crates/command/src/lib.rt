@@ -1,11 +1,13 @@
 // What the model does with a command byte (mod.rs; datasheet Table 7-1).
+#![tactic(auto)]
+
 ghost use Rattle.std.specs.Prelude.{◌≡◌};
 ghost use Rattle.command.specs.Table.{kind_of, is_read};
 
 use device::{Kind, Params};
 
 // What Table 7-1 has for a command byte.
-#[derive(Drop)]
+#[derive(Clone, Copy)]
 pub enum Known {
     Of(Kind),
     Unknown,

@@ -1,5 +1,7 @@
 // The parameters of an SSD1677 and of the panel it drives: what the datasheet leaves open, what belongs to the glass, and what no
 // source gives (config.rs). The waveforms in the panel's OTP are a lent table of their own.
+#![tactic(auto)]
+
 ghost use Rattle.std.specs.Prelude.{[], ◌∷◌, ◌≡◌, pos, ◌*ℤ◌};
 ghost use Rattle.config.specs.Temperature.{coldest, warmest, sixteenths_of, register_of, from_sixteenths};
 ghost use Rattle.config.specs.Answer.{is_accepted, first_of, answer_of};
@@ -23,7 +25,7 @@ const FRAME_PERIOD: u64 = 25_000_000;
 
 // The gate-scan bits of command 0x01: SM (no left and right interlacing) and GD (the first output gate is G1). The datasheet's
 // Table 8-2 gives the RAM row each gate shows for each pair.
-#[derive(Drop)]
+#[derive(Clone, Copy)]
 pub struct GateScan {
     pub sm: bool,
     pub gd: bool,
@@ -41,7 +43,7 @@ impl GateScan {
 }
 
 // The glass behind the controller: which sources and gates it uses, and in what order its rows lie.
-#[derive(Drop)]
+#[derive(Clone, Copy)]
 pub struct PanelGeometry {
     // Pixels in a row: the sources the panel uses.
     pub width: u16,
@@ -58,7 +60,7 @@ pub struct PanelGeometry {
 }
 
 // How long each operation keeps BUSY high, in nanoseconds. Every value the datasheet does not give is an ASSUMPTION.
-#[derive(Drop)]
+#[derive(Clone, Copy)]
 pub struct Ssd1677Timing {
     pub provenance: Provenance,
     // Starting the clock (0x22 bit 7).
@@ -107,11 +109,11 @@ impl Ssd1677Timing {
 }
 
 // A temperature in the controller's format: twelve bits, two's complement, in sixteenths of a degree Celsius (datasheet §6.8.3).
-#[derive(Drop)]
+#[derive(Clone, Copy)]
 pub struct Temperature(i16);
 
 // A temperature, where the format holds it.
-#[derive(Drop)]
+#[derive(Clone, Copy)]
 pub enum FromSixteenths {
     Within(Temperature),
     Outside,
@@ -175,7 +177,7 @@ impl Temperature {
 }
 
 // The two display modes of 0x22 bit 3 and of the waveform settings in OTP (0x37).
-#[derive(Drop)]
+#[derive(Clone, Copy)]
 pub enum DisplayMode {
     // Mode 1: the full waveforms on the X4 (0xF7, 0xD7).
     One,
@@ -194,14 +196,14 @@ pub fn mode_number(mode: DisplayMode) -> u8
 }
 
 // A sensor on the controller's own I2C, with the register it reads, of which the low twelve bits count.
-#[derive(Drop)]
+#[derive(Clone, Copy)]
 pub enum ExternalSensor {
     Absent,
     Reads(u16),
 }
 
 // Everything an SSD1677 model is built from but the table of waveforms.
-#[derive(Drop)]
+#[derive(Clone, Copy)]
 pub struct Ssd1677Config {
     pub panel: PanelGeometry,
     pub optics: Optics,
@@ -220,7 +222,7 @@ pub struct Ssd1677Config {
 }
 
 // Parameters an SSD1677 model cannot be built on.
-#[derive(Drop)]
+#[derive(Clone, Copy)]
 pub enum ConfigError {
     Accepted,
     // The panel has no pixel.

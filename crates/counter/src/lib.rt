@@ -2,6 +2,8 @@
 //
 // An X address is a source, a pixel. The counter moves by one byte (eight pixels) in X and by one row in Y, in the directions of the
 // data-entry mode, and wraps to the start of the window past its end.
+#![tactic(auto)]
+
 ghost use Rattle.std.specs.Prelude.{◌≡◌};
 ghost use Rattle.numbers.specs.Choice.{bit_of};
 ghost use Rattle.counter.specs.Counter.{reset_window, reset_entry, between, within_of, advanced_of};
@@ -12,7 +14,7 @@ use config::{RAM_GATES, RAM_SOURCES};
 mod moves;
 
 // The window of 0x44 and 0x45, in pixels and rows, as written: with a decrementing direction the start is above the end.
-#[derive(Drop)]
+#[derive(Clone, Copy)]
 pub struct Window {
     pub x_start: u16,
     pub x_end: u16,
@@ -38,7 +40,7 @@ impl Window {
 }
 
 // The data-entry mode of 0x11: ID0 X increments, ID1 Y increments, AM the counter moves in Y.
-#[derive(Drop)]
+#[derive(Clone, Copy)]
 pub struct Entry(pub u8);
 
 impl Entry {
@@ -83,7 +85,7 @@ fn inside(at: u16, a: u16, b: u16) -> bool
 }
 
 // The address counter of 0x4E and 0x4F.
-#[derive(Drop)]
+#[derive(Clone, Copy)]
 pub struct Counter {
     pub x: u16,
     pub y: u16,

@@ -1,4 +1,6 @@
 // How often each grey occurs in a picture (SCOPE, Grey counts; #108).
+#![tactic(auto)]
+
 ghost use Rattle.std.specs.Prelude.{◌≡◌, [], ◌<◌, ◌^◌, length};
 ghost use Rattle.numbers.specs.Lists.{tab};
 ghost use Rattle.counts.specs.Counts.{counts_of};

@@ -1,4 +1,6 @@
 // A data byte, once the clock has moved (mod.rs, `write_data` and `write_ram`).
+#![tactic(auto)]
+
 ghost use Rattle.std.specs.Prelude.{◌≡◌, true, false, List, ℕ, eqb, length};
 ghost use Rattle.device.specs.declared.Current.TheVariants as current;
 ghost use Rattle.numbers.specs.Choice.{pick};
@@ -16,7 +18,7 @@ use diagnostic::DiagnosticKind;
 use ram::Counter;
 
 // What a byte of RAM data leaves.
-#[derive(Drop)]
+#[derive(Clone, Copy)]
 pub struct Streamed {
     // The byte was one, and its plane has taken it.
     pub done: bool,

@@ -1,4 +1,6 @@
 // 0x10 (mod.rs, `deep_sleep`; datasheet Table 7-1).
+#![tactic(auto)]
+
 ghost use Rattle.std.specs.Prelude.{◌≡◌, ◌%◌, length};
 ghost use Rattle.world.specs.World.{with_ram};
 ghost use Rattle.acts.specs.Acts.{asleep, slept};

@@ -1,4 +1,6 @@
 // 0x14 and 0x15 (mod.rs, `hv_ready_detection`, `vci_detection`; datasheet Table 7-1).
+#![tactic(auto)]
+
 ghost use Rattle.std.specs.Prelude.{◌≡◌, ◌&&◌, ◌/◌, ◌%◌, eqb, leb, ltb, length};
 ghost use Rattle.world.specs.World.{with_log};
 ghost use Rattle.acts.specs.Acts.{with_hv_not_ready, with_vci_low, hv_detected, hv_ready, vci_level, vci_detected, vci_sensed};

@@ -2,6 +2,8 @@
 //
 // The parts are nested by who changes them, so that a function takes and returns only its part; the functions of `part` put one
 // back. A field that is an enum cannot be stored to, so the enums stand together in `Bus`, which is written anew.
+#![tactic(auto)]
+
 use config::{GateScan, Ssd1677Config};
 use diagnostic::Journal;
 use panel::{Display, Panel};
@@ -10,7 +12,7 @@ use ram::{Counter, Entry, Window};
 pub mod part;
 
 // How many parameter bytes a command takes.
-#[derive(Drop)]
+#[derive(Clone, Copy)]
 pub enum Params {
     Exactly(u16),
     Between(u16, u16),
@@ -19,7 +21,7 @@ pub enum Params {
 }
 
 // What the model does with a command.
-#[derive(Drop)]
+#[derive(Clone, Copy)]
 pub enum Kind {
     Write(Params),
     // A command whose data bytes are read by the MCU.
@@ -30,7 +32,7 @@ pub enum Kind {
 }
 
 // The registers (datasheet Table 7-1).
-#[derive(Drop)]
+#[derive(Clone, Copy)]
 pub struct Registers {
     // MUX[9:0]: the scanned gates are mux + 1.
     pub mux: u16,
@@ -57,7 +59,7 @@ pub struct Registers {
 }
 
 // The supply and reset state of the chip.
-#[derive(Drop)]
+#[derive(Clone, Copy)]
 pub enum Power {
     Running,
     // 0x10 entered deep sleep: BUSY high, every command dropped, until a hardware reset.
@@ -67,7 +69,7 @@ pub enum Power {
 }
 
 // The command that data bytes belong to, with what was written and read of it.
-#[derive(Drop)]
+#[derive(Clone, Copy)]
 pub struct Active {
     pub command: u8,
     pub kind: Kind,
@@ -80,7 +82,7 @@ pub struct Active {
     pub nothing_reported: bool,
 }
 
-#[derive(Drop)]
+#[derive(Clone, Copy)]
 pub enum Current {
     // No command since the last reset: a data byte is reported once.
     Idle,
@@ -90,14 +92,14 @@ pub enum Current {
 }
 
 // When BUSY falls, if an operation runs.
-#[derive(Drop)]
+#[derive(Clone, Copy)]
 pub enum Deadline {
     Never,
     At(u64),
 }
 
 // What the bus sees.
-#[derive(Drop)]
+#[derive(Clone, Copy)]
 pub struct Bus {
     pub power: Power,
     pub current: Current,
@@ -105,7 +107,7 @@ pub struct Bus {
 }
 
 // The detection flags of the status byte (0x2F), cleared by a reset.
-#[derive(Drop)]
+#[derive(Clone, Copy)]
 pub struct Status {
     // Bit 5: the HV ready detection found the supplies not ready.
     pub hv_not_ready: bool,
@@ -114,7 +116,7 @@ pub struct Status {
 }
 
 // An SSD1677 and the glass it drives.
-#[derive(Drop)]
+#[derive(Clone, Copy)]
 pub struct Ssd1677 {
     pub config: Ssd1677Config,
     // The latest instant seen. It and every other moment are cycles of the configuration's time base.

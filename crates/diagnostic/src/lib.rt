@@ -1,9 +1,11 @@
 // What the controller reports: a firmware's use of the chip that the datasheet does not allow, leaves undefined, or the model does
 // not carry out (diagnostic.rs), and what is kept beside the log of the reports (mod.rs).
+#![tactic(auto)]
+
 use config::DisplayMode;
 
 // A stage of an operation that needs the clock or the analog supplies (0x22, 0x14, 0x15, 0x28).
-#[derive(Drop)]
+#[derive(Clone, Copy)]
 pub enum Stage {
     AnalogOn,
     TemperatureLoad,
@@ -15,7 +17,7 @@ pub enum Stage {
 }
 
 // What happened.
-#[derive(Drop)]
+#[derive(Clone, Copy)]
 pub enum DiagnosticKind {
     // A command byte the SSD1677 does not have.
     UnknownCommand {
@@ -99,7 +101,7 @@ pub enum DiagnosticKind {
 
 // What is kept beside the log: how many records it has, how many found no room, and whether the current command has already
 // reported a reserved value.
-#[derive(Drop)]
+#[derive(Clone, Copy)]
 pub struct Journal {
     pub count: u16,
     pub dropped: u64,
@@ -107,7 +109,7 @@ pub struct Journal {
 }
 
 // A record's fields (SCOPE, Log).
-#[derive(Drop)]
+#[derive(Clone, Copy)]
 pub struct Fields {
     pub number: u8,
     pub a: u8,
@@ -116,7 +118,7 @@ pub struct Fields {
 }
 
 // The name of an unsupported command: its bytes, then zeros.
-#[derive(Drop)]
+#[derive(Clone, Copy)]
 pub struct Name {
     pub bytes: [u8; 44],
     pub length: usize,

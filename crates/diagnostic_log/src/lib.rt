@@ -1,4 +1,6 @@
 // The log that keeps the diagnostics (mod.rs, `report` and `reserved`).
+#![tactic(auto)]
+
 ghost use Rattle.std.specs.Prelude.{◌≡◌, length};
 ghost use Rattle.diagnostic.specs.Log.{entries, reported, reserved_reported};
 
@@ -15,7 +17,7 @@ pub fn report(journal: Journal, log: &mut [u8], time: u64, kind: DiagnosticKind)
         let bytes16 = diagnostic_record::record_of(time, kind);
         let at = 16 * (count as usize);
         let end = at + 16;
-        bytes::copy(&bytes16, &mut log[at..end]);
+        byte_copy::copy(&bytes16, &mut log[at..end]);
         after.count = count + 1;
         return after;
     }

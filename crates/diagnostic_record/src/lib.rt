@@ -1,4 +1,6 @@
 // A diagnostic as a record of 16 bytes (SCOPE, Log; the cases are those of diagnostic.rs).
+#![tactic(auto)]
+
 ghost use Rattle.std.specs.Prelude.{◌≡◌, ◌<◌};
 ghost use Rattle.diagnostic.specs.Record.{record_byte, stage_number, fields_of, record_of};
 

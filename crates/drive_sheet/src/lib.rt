@@ -1,5 +1,7 @@
 // Settings written from a drive sheet, and read back into one (#104): frames, repeats, codes, frame-rate codes, gate byte and four
 // voltages, against the 112 bytes of the LUT register and the OTP (datasheet Figure 6-6).
+#![tactic(auto)]
+
 mod groups;
 mod supplies;
 
@@ -18,7 +20,7 @@ use waveform::{GroupCodes, Levels, Waveform};
 const SETTING_BYTES: usize = 112;
 
 // A waveform as a technician draws it.
-#[derive(Drop)]
+#[derive(Clone, Copy)]
 pub struct Sheet {
     pub groups: [GroupCodes; 10],
     // The byte of the gate voltage, as it is (0x03).
@@ -31,7 +33,7 @@ pub struct Sheet {
 }
 
 // The voltages of a setting that have codes.
-#[derive(Drop)]
+#[derive(Clone, Copy)]
 pub enum Supply {
     Vsh1,
     Vsh2,
@@ -40,7 +42,7 @@ pub enum Supply {
 }
 
 // The codes of a sheet's voltages, 256 for one that has none.
-#[derive(Drop)]
+#[derive(Clone, Copy)]
 pub struct SupplyCodes {
     pub vsh1: usize,
     pub vsh2: usize,
@@ -49,7 +51,7 @@ pub struct SupplyCodes {
 }
 
 // What `write` answers.
-#[derive(Drop)]
+#[derive(Clone, Copy)]
 pub enum Written {
     // The lent bytes are the sheet's setting.
     Whole,

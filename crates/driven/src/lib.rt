@@ -1,4 +1,6 @@
 // A byte with D/C# high that the chip drives (mod.rs, `read_data`).
+#![tactic(auto)]
+
 ghost use Rattle.std.specs.Prelude.{◌≡◌};
 ghost use Rattle.counts.specs.Counts.{picture};
 ghost use Rattle.world.specs.World.{with_glass_log};
@@ -11,7 +13,7 @@ use guard::Refusal;
 use ram::Byte;
 
 // The state that a read leaves, or the one that it was handed and refuses, and the byte: none when the chip drives nothing.
-#[derive(Drop)]
+#[derive(Clone, Copy)]
 pub struct ReadAnswer {
     pub refusal: Refusal,
     pub state: Ssd1677,

@@ -1,4 +1,6 @@
 // How long a display runs (waveform.rs, `duration_ns`).
+#![tactic(auto)]
+
 ghost use Rattle.std.specs.Prelude.{◌≡◌, ◌+◌, ◌<◌, min};
 ghost use Rattle.numbers.specs.Saturation.{largest};
 ghost use Rattle.waveform.specs.Duration.{group_ns, duration_of, frames_of};

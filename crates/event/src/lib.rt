@@ -1,9 +1,11 @@
 // What happens at the pins of the device, each event at its time: the kinds 1 to 5 of docs/replay-format.md, of which 1 to 4 are those of
 // #102.
+#![tactic(auto)]
+
 ghost use Rattle.std.specs.Prelude.{◌≡◌};
 ghost use Rattle.event.specs.Events.{event_of};
 
-#[derive(Drop)]
+#[derive(Clone, Copy)]
 pub enum Event {
     // A byte with D/C# low.
     Command(u64, u8),

@@ -1,4 +1,6 @@
 // The end of a display, whole or cut (panel.rs, `Panel::finish`).
+#![tactic(auto)]
+
 use glass::PanelImage;
 use panel::{Display, Panel};
 use waveform::Until;

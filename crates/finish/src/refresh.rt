@@ -14,7 +14,7 @@ use panel::{Border, Display, Panel};
 use waveform::{Drive, Until};
 
 // What the transfers of a display are made from.
-#[derive(Drop)]
+#[derive(Clone, Copy)]
 pub struct DisplayDrive {
     pub setting: [u8; 112],
     pub frame_period: [u64; 16],

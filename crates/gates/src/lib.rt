@@ -1,11 +1,13 @@
 // Which row of the RAM each gate shows, and which gate drives each row of the glass (panel.rs; datasheet Table 8-2).
+#![tactic(auto)]
+
 ghost use Rattle.std.specs.Prelude.{◌≡◌, ◌<◌};
 ghost use Rattle.gates.specs.Gates.{row_of, row_of_gate, native_row, physical_row, gates_stored};
 
 use config::{GateScan, PanelGeometry};
 
 // The RAM row that a gate shows.
-#[derive(Drop)]
+#[derive(Clone, Copy)]
 pub enum Row {
     Is(u16),
     Nothing,

@@ -1,12 +1,14 @@
 // The glass of an e-paper panel, whatever controller drives it: its optics, the image published after a refresh, and the
 // arithmetic that moves a pixel's optical state (glass.rs).
+#![tactic(auto)]
+
 ghost use Rattle.std.specs.Prelude.{◌≡◌, ◌+◌, ◌*◌, ◌/◌, ◌<◌, ◌≤◌, pos, ◌≤ℤ◌};
 ghost use Rattle.glass.specs.Optics.{default_optics};
 ghost use Rattle.glass.specs.Transfers.{identity_t, shift_t, then_t, apply_t};
 ghost use Rattle.glass.specs.Greys.{level_z, gray_z};
 
 // Where a set of parameters comes from, for an interface to say whether it shows a measured panel.
-#[derive(Drop)]
+#[derive(Clone, Copy)]
 pub enum Provenance {
     // Built for the model where no source gives the panel's own values: shown as "approximation".
     Approximation,
@@ -15,7 +17,7 @@ pub enum Provenance {
 }
 
 // How the glass answers the waveform.
-#[derive(Drop)]
+#[derive(Clone, Copy)]
 pub struct Optics {
     pub provenance: Provenance,
     // The drive from black to white, in millivolt-nanoseconds.
@@ -40,7 +42,7 @@ impl Optics {
 }
 
 // What a published image comes from.
-#[derive(Drop)]
+#[derive(Clone, Copy)]
 pub enum RefreshKind {
     // The glass before any refresh (generation 0).
     PowerOn,
@@ -51,7 +53,7 @@ pub enum RefreshKind {
 }
 
 // The header of the image published after a refresh; its pixels are a lent buffer.
-#[derive(Drop)]
+#[derive(Clone, Copy)]
 pub struct PanelImage {
     pub width: u16,
     pub height: u16,
@@ -69,7 +71,7 @@ pub struct PanelImage {
 }
 
 // `x ↦ min(max(x + add, lo), hi)`, with `lo ≤ hi`: what a run of phases does to an optical state.
-#[derive(Drop)]
+#[derive(Clone, Copy)]
 pub struct Transfer {
     pub add: i64,
     pub lo: i64,

@@ -1,5 +1,7 @@
 // The transfers and greys of many pixels of one swing (glass.rs, `Transfer::apply` and `gray`): what a refresh works out once, so that a
 // pixel takes no division, and no branch that its LUT or a state within the swing decides.
+#![tactic(auto)]
+
 use glass::Transfer;
 
 pub mod greys;
@@ -9,7 +11,7 @@ ghost use Rattle.numbers.specs.Saturation.{sat_z};
 ghost use Rattle.glass_tables.specs.Moves.{moved_by, Fitting, Does};
 
 // A transfer with its bounds put before its sum, which then needs no saturation: `x` held between `lo` and `hi`, plus `add`.
-#[derive(Drop)]
+#[derive(Clone, Copy)]
 pub struct Move {
     pub lo: i64,
     pub hi: i64,

@@ -1,4 +1,6 @@
 // What the host must hand over with a call: a state, buffers of the right lengths and a table, or it is refused (SCOPE, Refusals).
+#![tactic(auto)]
+
 ghost use Rattle.std.specs.Prelude.{◌≡◌};
 ghost use Rattle.guard.specs.Refusals.{accepts, refusal_number, guarded, guarded_with_table};
 
@@ -6,7 +8,7 @@ use device::Ssd1677;
 use guard_lengths::Lengths;
 
 // Why a call was refused.
-#[derive(Drop)]
+#[derive(Clone, Copy)]
 pub enum Refusal {
     Accepted,
     // 11: a buffer's length.

@@ -1,4 +1,6 @@
 // Whether the kind that a state holds for its active command is the one that `kind` gives it.
+#![tactic(auto)]
+
 ghost use Rattle.std.specs.Prelude.{◌≡◌};
 ghost use Rattle.guard_kinds.specs.Kinds.{code_of, same_kind, current_fine};
 
@@ -6,7 +8,7 @@ use command::Known;
 use device::{Current, Kind, Params};
 
 // A kind in numbers, so that two are compared without going through every pair of cases.
-#[derive(Drop)]
+#[derive(Clone, Copy)]
 pub struct Code {
     pub form: u8,
     pub least: u16,

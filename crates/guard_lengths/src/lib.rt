@@ -1,4 +1,6 @@
 // The lengths of what a call is lent.
+#![tactic(auto)]
+
 ghost use Rattle.std.specs.Prelude.{◌≡◌};
 ghost use Rattle.guard_lengths.specs.Lengths.{fits, lengths_fit, counts_fit, lengths_of, glass_lent, glass_log_lent, planes_log_lent, all_lent};
 
@@ -12,14 +14,14 @@ const LOG_BYTES: usize = 16_384;
 const GREYS: usize = 256;
 
 // A buffer that only some calls are lent.
-#[derive(Drop)]
+#[derive(Clone, Copy)]
 pub enum LentLength {
     Nothing,
     Of(usize),
 }
 
 // Every call is lent the buffers of the glass.
-#[derive(Drop)]
+#[derive(Clone, Copy)]
 pub struct Lengths {
     pub states: usize,
     pub luts: usize,

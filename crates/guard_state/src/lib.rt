@@ -1,5 +1,7 @@
 // Whether a state handed in is one that the calls may work on. Every byte that is written asks this, so nothing here loops, and the
 // tests are joined by `&`, which branches nowhere.
+#![tactic(auto)]
+
 ghost use Rattle.std.specs.Prelude.{◌≡◌};
 ghost use Rattle.guard_state.specs.State.{panel_fine, swing_fine, periods_fine, registers_fine, state_fine};
 

@@ -1,4 +1,6 @@
 // The hash of docs/replay-format.md, over lists of bytes, of words, of counts and of states.
+#![tactic(auto)]
+
 ghost use Rattle.std.specs.Prelude.{◌≡◌, ◌<◌, ◌/◌, ◌%◌, [], ◌∷◌};
 ghost use Rattle.hash.specs.Hash.{step_of, hash_from, hash_of, word_bytes, pattern_of, four_of, count_bytes, state_bytes};
 

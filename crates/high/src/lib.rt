@@ -1,4 +1,6 @@
 // A byte with D/C# high (mod.rs, `write_data`).
+#![tactic(auto)]
+
 ghost use Rattle.std.specs.Prelude.{◌≡◌};
 ghost use Rattle.guard.specs.Refusals.{refusal_number};
 ghost use Rattle.query.specs.Outcome.{outcome};

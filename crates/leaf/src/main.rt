@@ -1,5 +1,7 @@
 // Answers the questions of oracle/README.md with the proved functions: a question a line on standard input, an answer a line on
 // standard output. It knows a bad question by its name and the count of its numbers, and takes their sizes more freely than the oracle.
+#![tactic(auto)]
+
 use libc::STDIN_FILENO;
 
 mod answer;
@@ -20,7 +22,7 @@ mod wiring;
 use question::Line;
 
 // What is read of the input.
-#[derive(Drop)]
+#[derive(Clone, Copy)]
 pub struct Input {
     pub line: Line,
     pub ended: bool,

@@ -8,7 +8,7 @@ pub const NUMBERS: usize = 8192;
 pub const NAME: usize = 32;
 
 // A line as far as it is read.
-#[derive(Drop)]
+#[derive(Clone, Copy)]
 pub struct Line {
     // Bytes of its name.
     pub name: usize,

@@ -1,4 +1,6 @@
 // The counter's step on a counter that the caller lends, as the Rust has it (ram.rs, `Counter::advance`).
+#![tactic(auto)]
+
 ghost use Rattle.std.specs.Prelude.{◌≡◌};
 ghost use Rattle.counter.specs.Counter.{advanced_of};
 

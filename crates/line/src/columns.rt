@@ -4,7 +4,7 @@ ghost use Rattle.line.specs.Lines.{columns_of, three_of};
 
 use column::read::Column;
 
-#[derive(Drop)]
+#[derive(Clone, Copy)]
 pub enum Columns {
     // NUMBER, KIND and VALUE.
     Of(u64, u64, u64),

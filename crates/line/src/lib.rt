@@ -1,4 +1,6 @@
 // A line of docs/replay-format.md: 26 bytes and LF, of which kinds 1 to 4 are those of #102.
+#![tactic(auto)]
+
 use event::Event;
 
 mod columns;
@@ -14,7 +16,7 @@ use columns::Columns;
 pub const LINE_BYTES: usize = 27;
 
 // What a line asks for.
-#[derive(Drop)]
+#[derive(Clone, Copy)]
 pub enum Line {
     Event(Event),
     // is_busy and busy_pin at a time.

@@ -1,5 +1,7 @@
 // Whether the datasheet lists a parameter byte (mod.rs, `driver_output`, `waveform_byte`, `register_byte` and `window_byte`;
 // Table 7-1). A value that it does not list is reported (30), and stored all the same.
+#![tactic(auto)]
+
 ghost use Rattle.std.specs.Prelude.{◌≡◌, eqb, ltb, ◌/◌, ◌%◌};
 ghost use Rattle.listed.specs.Listed.{driver_listed, sources_listed, temperature_listed, plane_option, options_listed, has_code3, lut_listed, window_listed, listed};
 

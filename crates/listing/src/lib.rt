@@ -1,4 +1,6 @@
 // The listing of a setting (SCOPE, Listing): a line for each phase with frames, then how long the display runs.
+#![tactic(auto)]
+
 mod line;
 
 ghost use Rattle.std.specs.Prelude.{◌≡◌, ◌≤◌, length, replicate};
@@ -51,7 +53,7 @@ fn waveform_of(setting: &[u8]) -> Waveform
     ensures { result ≡ waveform_of setting.now (replicate 16 period) }
 {
     let mut copied = [0u8; 112];
-    bytes::copy(setting, &mut copied);
+    byte_copy::copy(setting, &mut copied);
     let periods = [line::PERIOD; 16];
     setting::from_setting(&copied, &periods)
 }
@@ -62,7 +64,7 @@ fn put_not_a_setting(out: &mut [u8]) -> usize
     ensures text { buffer result out.new ≡ appended (buffer 0 out.old) not_a_setting }
     ensures end { result ≡ 4 }
 {
-    bytes::copy(b" 41\n", out)
+    byte_copy::copy(b" 41\n", out)
 }
 
 // Writes the listing of `setting` to the front of `out` and answers its length; ` 41` where `setting` is not 112 bytes long.

@@ -1,5 +1,7 @@
 // The stages of an activation up to its display: clock, analog supplies, temperature and LUT (mod.rs, `activate` and
 // `load_temperature`).
+#![tactic(auto)]
+
 ghost use Rattle.std.specs.Prelude.{◌≡◌, length};
 ghost use Rattle.stages.specs.Run.{step};
 ghost use Rattle.stages.specs.Stages.{clock_on, analog_on, sensed, temperature_loaded, setting_in, lut_found, lut_loaded, loaded};
@@ -103,7 +105,7 @@ fn setting_of(entry: &[u8]) -> [u8; 112]
     ensures { result ≡ setting_in entry.now }
 {
     let mut lut = [0u8; 112];
-    bytes::copy(&entry[6..ENTRY_BYTES], &mut lut);
+    byte_copy::copy(&entry[6..ENTRY_BYTES], &mut lut);
     lut
 }
 

@@ -1,5 +1,7 @@
 // Moments, and when BUSY rises and falls (mod.rs, `after`, `ns_between`, `busy_for`, `advance`). A moment is a number of cycles of the
 // configuration's time base, and a span a number of nanoseconds.
+#![tactic(auto)]
+
 ghost use Rattle.std.specs.Prelude.{◌≡◌};
 ghost use Rattle.moment.specs.Moments.{after_ns, ns_between, has_come, lowered, quiet_at, busy_for};
 

@@ -1,4 +1,6 @@
 // Whole numbers of fixed width that stop at their ends, as the reference's saturating_add, saturating_mul, saturating_neg, clamp, min and max do.
+#![tactic(auto)]
+
 ghost use Rattle.std.specs.Prelude.{◌≡◌, ◌+◌, ◌-◌, ◌*◌, ◌%◌, min, max, pos, ◌+ℤ◌, ◌*ℤ◌, neg_ℤ, nat_abs};
 ghost use Rattle.std.specs.Int.Signed.{lt_z};
 ghost use Rattle.numbers.specs.Saturation.{largest, clamp_z, sat_z};

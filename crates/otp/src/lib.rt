@@ -1,5 +1,7 @@
 // The waveform settings (WS) of the panel's OTP with their temperature ranges (TR) and display modes, as a lent table of 118 bytes an
 // entry: mode, provenance, lower and upper bound as registers, high byte first, and the 112 bytes of the setting (config.rs).
+#![tactic(auto)]
+
 ghost use Rattle.std.specs.Prelude.{◌≡◌, [], ◌∷◌, ◌+◌, ◌*◌, ◌<◌, length, get_or};
 ghost use Rattle.config.specs.Answer.{first_of, answer_of};
 ghost use Rattle.config.specs.Temperature.{sixteenths_of};
@@ -67,7 +69,7 @@ pub fn table_error(otp: &[u8]) -> ConfigError
 }
 
 // The number of an entry.
-#[derive(Drop)]
+#[derive(Clone, Copy)]
 pub enum FoundEntry {
     At(usize),
     Nothing,

@@ -1,4 +1,6 @@
 // The glass behind the controller: its optical states and the image published after each refresh (panel.rs).
+#![tactic(auto)]
+
 ghost use Rattle.std.specs.Prelude.{◌≡◌};
 ghost use Rattle.panel.specs.Border.{border_drive};
 
@@ -9,7 +11,7 @@ use waveform::Drive;
 pub const UNDRIVEN: u8 = 255;
 
 // A display in progress. Its chosen LUTs are a lent buffer; the setting is the one that it began with.
-#[derive(Drop)]
+#[derive(Clone, Copy)]
 pub struct Display {
     // After an end, a cut or a drop this falls and the rest stays.
     pub running: bool,
@@ -23,7 +25,7 @@ pub struct Display {
 }
 
 // The glass but for its lent buffers.
-#[derive(Drop)]
+#[derive(Clone, Copy)]
 pub struct Panel {
     // The smaller of full swing and 2^63 − 1.
     pub swing: i64,
@@ -33,7 +35,7 @@ pub struct Panel {
 }
 
 // What the border register has the border do during a display.
-#[derive(Drop)]
+#[derive(Clone, Copy)]
 pub enum Border {
     Driven(Drive),
     // VCOM and HiZ leave it as it is.

@@ -1,4 +1,6 @@
 // The glass at power-on (panel.rs, `Panel::new`).
+#![tactic(auto)]
+
 ghost use Rattle.std.specs.Prelude.{◌≡◌, ◌≤◌, ◌<◌, ◌^◌, length};
 ghost use Rattle.numbers.specs.Lists.{tab};
 ghost use Rattle.counts.specs.Counts.{picture};

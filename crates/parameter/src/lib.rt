@@ -1,6 +1,8 @@
 // What a parameter byte does once the clock has moved (mod.rs, `parameter`).
 //
 // A register's byte is stored; 0x10, 0x14, 0x15, 0x46 and 0x47 act at once. A value that the datasheet does not list is reported (30).
+#![tactic(auto)]
+
 ghost use Rattle.std.specs.Prelude.{◌≡◌, length};
 ghost use Rattle.world.specs.World.{with_log, with_ram};
 ghost use Rattle.listed.specs.Listed.{listed};

@@ -6,14 +6,14 @@ ghost use Rattle.pgm.specs.Form.{with_digit, number_at, size_in, starts_with, is
 use crate::header;
 
 // A number, and the place behind it.
-#[derive(Drop)]
+#[derive(Clone, Copy)]
 pub struct Number {
     pub value: u16,
     pub end: usize,
 }
 
 // A picture's width and height.
-#[derive(Drop)]
+#[derive(Clone, Copy)]
 pub struct Size {
     pub width: u16,
     pub height: u16,

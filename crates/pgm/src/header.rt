@@ -37,7 +37,7 @@ fn put_text(out: &mut [u8], at: usize, text: &[u8]) -> usize
     ensures text { buffer result out.new ≡ appended (buffer at out.old) text.now }
     ensures end { result ≡ at + length text.now }
 {
-    at + bytes::copy(text, &mut out[at..])
+    at + byte_copy::copy(text, &mut out[at..])
 }
 
 fn put_decimal(out: &mut [u8], at: usize, n: u16) -> usize

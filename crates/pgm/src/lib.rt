@@ -1,4 +1,6 @@
 // Pictures as Netpbm's binary PGM (#109): written into a lent buffer, and read back. Nothing but the form written is read.
+#![tactic(auto)]
+
 pub mod form;
 mod header;
 
@@ -9,7 +11,7 @@ ghost use Rattle.pgm.specs.Files.{pgm_number, answered, no_file, no_picture, hea
 pub const HEADER_BYTES: usize = 15;
 
 // Why a picture was not written or read.
-#[derive(Drop)]
+#[derive(Clone, Copy)]
 pub enum PgmError {
     Accepted,
     // 71: the header read has not the form, or the size is outside the range.
@@ -21,14 +23,14 @@ pub enum PgmError {
 }
 
 // Of a refusal the length is 0.
-#[derive(Drop)]
+#[derive(Clone, Copy)]
 pub struct Written {
     pub error: PgmError,
     pub length: usize,
 }
 
 // Of a refusal width and height are 0.
-#[derive(Drop)]
+#[derive(Clone, Copy)]
 pub struct Picture {
     pub error: PgmError,
     pub width: u16,
@@ -102,7 +104,7 @@ pub fn write(width: u16, height: u16, pixels: &[u8], out: &mut [u8]) -> Written
         return not_written(PgmError::Room);
     }
     header::put(out, width, height);
-    bytes::copy(pixels, &mut out[start..]);
+    byte_copy::copy(pixels, &mut out[start..]);
     Written {
         error: PgmError::Accepted,
         length,
@@ -129,7 +131,7 @@ pub fn read(file: &[u8], out: &mut [u8]) -> Picture
     if out.len() < count {
         return not_read(PgmError::Room);
     }
-    bytes::copy(&file[start..], out);
+    byte_copy::copy(&file[start..], out);
     Picture {
         error: PgmError::Accepted,
         width,

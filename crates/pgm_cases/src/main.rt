@@ -1,5 +1,7 @@
 // What reading and writing answer of files near a written one, and of every size from 0 to 1,000, by its header alone (#109), to be held
 // to an independent reckoning.
+#![tactic(auto)]
+
 mod near;
 mod sizes;
 

@@ -8,7 +8,7 @@ use pgm::PgmError;
 const MOST: u16 = 1000;
 
 // How far the headers of a width reach, and whether those of one more height were written and read.
-#[derive(Drop)]
+#[derive(Clone, Copy)]
 struct Tried {
     end: usize,
     written: u64,
@@ -37,11 +37,11 @@ fn put_header(out: &mut [u8], width: u16, height: u16) -> usize
     requires room { 17 ≤ length out.old }
     ensures near { result ≤ 17 }
 {
-    bytes::copy(b"P5\n", out);
+    byte_copy::copy(b"P5\n", out);
     let width_end = put_number(out, 3, width);
-    let space_end = width_end + bytes::copy(b" ", &mut out[width_end..]);
+    let space_end = width_end + byte_copy::copy(b" ", &mut out[width_end..]);
     let height_end = put_number(out, space_end, height);
-    height_end + bytes::copy(b"\n255\n", &mut out[height_end..])
+    height_end + byte_copy::copy(b"\n255\n", &mut out[height_end..])
 }
 
 // A header alone has no pixels, so that 72 says that it is read.
@@ -78,7 +78,7 @@ fn try_height(headers: &mut [u8], at: usize, width: u16, height: u16) -> Tried
             read,
         };
     }
-    let end = at + bytes::copy(&header[..length], &mut headers[at..]);
+    let end = at + byte_copy::copy(&header[..length], &mut headers[at..]);
     Tried {
         end,
         written: 1,

@@ -1,1 +1,2 @@
 // Theorems of pictures as PGM (#109). There is no code here: the definitions stand in pgm/specs, the laws in proofs/.
+#![tactic(auto)]

@@ -1,4 +1,6 @@
 // The chip at power-on (mod.rs, `new`): the configuration, the table and the lent buffers are tested, then all of it is set up.
+#![tactic(auto)]
+
 ghost use Rattle.std.specs.Prelude.{◌≡◌, ◌≤◌, ◌<◌, ◌^◌, length};
 ghost use Rattle.config.specs.Answer.{is_accepted, first_of, answer_of};
 ghost use Rattle.gates_laws.specs.OneToOne.{Scanned};
@@ -13,7 +15,7 @@ use guard_lengths::Lengths;
 use panel::{Display, Panel};
 
 // Why a start was refused.
-#[derive(Drop)]
+#[derive(Clone, Copy)]
 pub enum StartError {
     // 1 to 6, 12 and 14, or `Accepted` for none.
     Parameters(ConfigError),
@@ -24,14 +26,14 @@ pub enum StartError {
 }
 
 // The chip that was started, or the one that a refused start hands back and every call refuses.
-#[derive(Drop)]
+#[derive(Clone, Copy)]
 pub struct Started {
     pub error: StartError,
     pub state: Ssd1677,
 }
 
 // A refused start's number and its value, 0 where it has none (SCOPE, Refusals); number 0 for an accepted one.
-#[derive(Drop)]
+#[derive(Clone, Copy)]
 pub struct StartRefusal {
     pub number: u8,
     pub value: usize,

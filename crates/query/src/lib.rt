@@ -1,5 +1,7 @@
 // What a host changes in a state beside the events (mod.rs, `set_ambient`, `take_diagnostics`). Each call refuses a state with 13. What can
 // be asked of one is defined here too; the functions are in `query_busy` and `query_state`.
+#![tactic(auto)]
+
 ghost use Rattle.std.specs.Prelude.{◌≡◌};
 ghost use Rattle.guard.specs.Refusals.{refusal_number};
 ghost use Rattle.query.specs.Outcome.{outcome, state_guarded};
@@ -11,14 +13,14 @@ use diagnostic::Journal;
 use guard::Refusal;
 
 // The state that a call leaves, or the one that it was handed and refuses.
-#[derive(Drop)]
+#[derive(Clone, Copy)]
 pub struct CallAnswer {
     pub refusal: Refusal,
     pub state: Ssd1677,
 }
 
 // How many records were waiting in the log, and the state in which none does.
-#[derive(Drop)]
+#[derive(Clone, Copy)]
 pub struct Taken {
     pub refusal: Refusal,
     pub state: Ssd1677,

@@ -1,4 +1,6 @@
 // Whether a chip is busy, and its next deadline (mod.rs, `is_busy`, `busy_pin`, `next_deadline`). Each call refuses a state with 13.
+#![tactic(auto)]
+
 ghost use Rattle.std.specs.Prelude.{◌≡◌};
 ghost use Rattle.guard.specs.Refusals.{refusal_number};
 ghost use Rattle.query.specs.Outcome.{outcome};
@@ -9,14 +11,14 @@ use guard::Refusal;
 use query::check_state;
 
 // Whether the controller is busy, or the level of its pin.
-#[derive(Drop)]
+#[derive(Clone, Copy)]
 pub struct Level {
     pub refusal: Refusal,
     pub level: bool,
 }
 
 // The next instant at which something changes without a call.
-#[derive(Drop)]
+#[derive(Clone, Copy)]
 pub struct NextDeadline {
     pub refusal: Refusal,
     pub deadline: Deadline,

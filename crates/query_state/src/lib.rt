@@ -1,5 +1,7 @@
 // What a state holds of its parameters, its image and its log (mod.rs, `config`, `panel_image`, `dropped_diagnostics`). Each call refuses
 // a state with 13.
+#![tactic(auto)]
+
 ghost use Rattle.std.specs.Prelude.{◌≡◌};
 ghost use Rattle.guard.specs.Refusals.{refusal_number};
 ghost use Rattle.query.specs.Outcome.{outcome};
@@ -12,21 +14,21 @@ use guard::Refusal;
 use query::check_state;
 
 // The parameters that the chip was built with.
-#[derive(Drop)]
+#[derive(Clone, Copy)]
 pub struct ConfigAnswer {
     pub refusal: Refusal,
     pub config: Ssd1677Config,
 }
 
 // The header of the image that the glass shows.
-#[derive(Drop)]
+#[derive(Clone, Copy)]
 pub struct Image {
     pub refusal: Refusal,
     pub image: PanelImage,
 }
 
 // How many diagnostics found no room.
-#[derive(Drop)]
+#[derive(Clone, Copy)]
 pub struct Dropped {
     pub refusal: Refusal,
     pub count: u64,

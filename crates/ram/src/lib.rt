@@ -1,6 +1,8 @@
 // The two RAM planes (datasheet §6.5; ram.rs), with the counter of `counter` by the same name.
 //
 // A data byte holds eight pixels, the most significant bit at the lowest X of the byte. The planes are the caller's, lent for each call.
+#![tactic(auto)]
+
 ghost use Rattle.std.specs.Prelude.{◌≡◌, length};
 ghost use Rattle.numbers.specs.Lists.{tab};
 ghost use Rattle.ram.specs.Plane.{plane_of, index_of, read_at, wrote_at, written_at, bit_at};
@@ -14,7 +16,7 @@ pub const ROW_BYTES: usize = RAM_SOURCES as usize / 8;
 pub const PLANE_BYTES: usize = ROW_BYTES * RAM_GATES as usize;
 
 // The two RAM planes.
-#[derive(Drop)]
+#[derive(Clone, Copy)]
 pub enum Plane {
     // Written by 0x24: 1 is white, 0 black.
     BlackWhite,
@@ -35,7 +37,7 @@ impl Plane {
 }
 
 // The place of a counter's byte in a plane.
-#[derive(Drop)]
+#[derive(Clone, Copy)]
 pub enum Place {
     At(usize),
     // Past the RAM.
@@ -56,7 +58,7 @@ pub fn index(at: Counter) -> Place
 }
 
 // What a read finds.
-#[derive(Drop)]
+#[derive(Clone, Copy)]
 pub enum Byte {
     Is(u8),
     // Past the RAM, or past the end of a plane that is shorter than the RAM.
@@ -96,7 +98,7 @@ pub fn write(plane: &mut [u8], at: Counter, byte: u8) -> bool
 }
 
 // The bit of a pixel.
-#[derive(Drop)]
+#[derive(Clone, Copy)]
 pub enum Pixel {
     Is(bool),
     // Its byte is not there.

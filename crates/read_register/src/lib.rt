@@ -1,4 +1,6 @@
 // What the read commands give of the registers (mod.rs, `read_byte`).
+#![tactic(auto)]
+
 ghost use Rattle.std.specs.Prelude.{◌≡◌, [], ◌∷◌};
 ghost use Rattle.numbers.specs.Choice.{pick};
 ghost use Rattle.registers.specs.Read.{answer, byte_of, temperature_bytes, option_bytes, status_byte, read_register};

@@ -1,4 +1,6 @@
 // A byte that the MCU reads, once the clock has moved (mod.rs, `read_data` and `read_byte`).
+#![tactic(auto)]
+
 ghost use Rattle.std.specs.Prelude.{◌≡◌, length, List, ℕ};
 ghost use Rattle.ram.specs.Plane.{plane_of, read_at};
 ghost use Rattle.device.specs.declared.Current.TheVariants as current;
@@ -11,7 +13,7 @@ use diagnostic::DiagnosticKind;
 use ram::Byte;
 
 // The state that a read leaves, and the byte: none when the chip drives nothing.
-#[derive(Drop)]
+#[derive(Clone, Copy)]
 pub struct Reading {
     pub state: Ssd1677,
     pub byte: Byte,

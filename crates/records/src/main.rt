@@ -1,4 +1,6 @@
 // The log after 1,100 reports, of every kind in turn, to be held to the oracle's records of the same diagnostics.
+#![tactic(auto)]
+
 ghost use Rattle.std.specs.Prelude.{◌<◌, ◌≡◌, length};
 
 use config::DisplayMode;

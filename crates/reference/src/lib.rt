@@ -1,5 +1,7 @@
 // Reference waveforms for the OTP of the X4's panel, a GDEQ0426T82, as a table that can be lent (reference.rs). No source publishes the
 // waveforms that the panel's maker stored: these three are built for the model, and an interface showing the panel must say so.
+#![tactic(auto)]
+
 ghost use Rattle.std.specs.Prelude.{◌≡◌};
 ghost use Rattle.reference.specs.Reference.{reference_table};
 

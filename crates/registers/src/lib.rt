@@ -1,5 +1,7 @@
 // The registers (mod.rs; datasheet Table 7-1): their reset values. What a parameter byte stores in them and what the read commands give of
 // them is defined here too; the functions are `store` and `read_register`.
+#![tactic(auto)]
+
 ghost use Rattle.std.specs.Prelude.{◌≡◌};
 ghost use Rattle.registers.specs.Reset.{reset_of};
 

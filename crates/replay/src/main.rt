@@ -1,4 +1,6 @@
 // Replays runs of the whole device: lines of docs/replay-format.md on standard input, its answers on standard output.
+#![tactic(auto)]
+
 use libc::STDIN_FILENO;
 
 mod calls;
@@ -22,7 +24,7 @@ use run::Run;
 const CHUNK: usize = 65529;
 
 // What was read of the input.
-#[derive(Drop)]
+#[derive(Clone, Copy)]
 pub struct Input {
     pub run: Run,
     pub ended: bool,

@@ -27,7 +27,7 @@ pub const BUFFERS: usize = 9;
 // A buffer that no line names is lent as long as the panel asks.
 pub const RIGHT: usize = 18446744073709551615;
 
-#[derive(Drop)]
+#[derive(Clone, Copy)]
 pub struct Progress {
     // Lines taken.
     pub lines: u64,
@@ -46,7 +46,7 @@ pub struct Progress {
     pub ended: bool,
 }
 
-#[derive(Drop)]
+#[derive(Clone, Copy)]
 pub struct Run {
     pub progress: Progress,
     pub state: Ssd1677,

@@ -1,4 +1,6 @@
 // The reset line, and what a reset restores (mod.rs, `set_reset`, `restore_registers`).
+#![tactic(auto)]
+
 ghost use Rattle.std.specs.Prelude.{◌≡◌, length};
 ghost use Rattle.counts.specs.Counts.{picture};
 ghost use Rattle.world.specs.World.{with_glass, with_glass_log};

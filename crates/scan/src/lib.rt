@@ -1,5 +1,7 @@
 // Which RAM pixel each pixel of the glass shows, and the LUT that its bits choose (panel.rs; datasheet Table 8-2), with the gates and rows
 // of `gates` by the same name.
+#![tactic(auto)]
+
 ghost use Rattle.std.specs.Prelude.{◌≡◌, ◌+◌, ◌*◌, ◌≤◌, ◌<◌, length};
 ghost use Rattle.numbers.specs.Lists.{tab};
 ghost use Rattle.ram.specs.Plane.{bit_at};
@@ -12,7 +14,7 @@ pub use gates::{Row, gate_of_row, ram_row_of_gate};
 use panel::UNDRIVEN;
 
 // The RAM-plane options of 0x21: a nibble per plane, normal, read as 0, or inverted.
-#[derive(Drop)]
+#[derive(Clone, Copy)]
 pub enum PlaneOption {
     Normal,
     Zero,
@@ -44,7 +46,7 @@ impl PlaneOption {
 }
 
 // What the display reads from the controller's registers.
-#[derive(Drop)]
+#[derive(Clone, Copy)]
 pub struct Scan {
     // MUX + 1: the gates scanned, from G0.
     pub lines: u16,

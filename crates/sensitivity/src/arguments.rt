@@ -8,7 +8,7 @@ use shift_report::words::{CodeWord, VoltageWord};
 const LONGEST: usize = 20;
 
 // The frame period of each frame-rate code.
-#[derive(Drop)]
+#[derive(Clone, Copy)]
 pub struct GivenPeriods {
     pub frame_period: [u64; 16],
     // The first argument that is no number; 0 where each is one.

@@ -1,5 +1,7 @@
 // How far a change of one voltage may shift the picture (SCOPE, Sensitivity; #112). The voltage and its two codes are arguments, the
 // setting is standard input. A refusal is its number on standard output; any other failure is said in words on standard error.
+#![tactic(auto)]
+
 mod arguments;
 mod say;
 

@@ -1,4 +1,6 @@
 // The 112 bytes of a setting (datasheet Figure 6-6) read into codes, and the codes into a waveform.
+#![tactic(auto)]
+
 ghost use Rattle.std.specs.Prelude.{◌≡◌, ◌+◌, ◌/◌, ◌%◌, ◌<◌};
 ghost use Rattle.waveform.specs.Setting.{codes_of, frame_rate_of, group_codes_of, timed, waveform_of};
 ghost use Rattle.setting.specs.Word.{codes_in_word};

@@ -1,4 +1,6 @@
 // The setting of the drive sheet on standard input (docs/drive-sheet.md).
+#![tactic(auto)]
+
 use libc::{STDERR_FILENO, STDIN_FILENO, STDOUT_FILENO};
 
 // One byte more than a sheet has, so that longer input is seen to be longer.

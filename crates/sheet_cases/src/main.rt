@@ -1,6 +1,8 @@
 // Drive sheets, both ways, of the cases that stand one after the other on standard input. A case is 584 bytes: `t` for a text or `s` for
 // a setting, how many bytes it has, the low byte first, and these with zeros behind them. A text is answered as `sheet` answers it. A
 // setting is answered by the text of its sheet and by what `sheet` answers to that.
+#![tactic(auto)]
+
 use libc::{STDIN_FILENO, STDOUT_FILENO};
 
 // One byte more than a sheet has.
@@ -30,7 +32,7 @@ fn answer_setting(setting: &[u8; 112]) {
 fn setting_case(body: &[u8]) {
     let mut setting = [0u8; 112];
     if 112 <= body.len() {
-        bytes::copy(&body[0..112], &mut setting);
+        byte_copy::copy(&body[0..112], &mut setting);
     }
     answer_setting(&setting);
 }

@@ -1,4 +1,6 @@
 // A drive sheet as text (docs/drive-sheet.md; #104): written, read, and the setting or the refusal that a text is answered with.
+#![tactic(auto)]
+
 mod lines;
 mod places;
 
@@ -16,7 +18,7 @@ pub const TEXT_BYTES: usize = 580;
 pub const SETTING_BYTES: usize = 112;
 
 // What a text says.
-#[derive(Drop)]
+#[derive(Clone, Copy)]
 pub struct Drawing {
     // The first line that no sheet that fits the columns has there, counted from 1; 0 where the text is such a sheet's.
     pub bad_line: usize,

@@ -1,4 +1,6 @@
 // What `sensitivity` writes (SCOPE, Sensitivity): a line for each LUT, or a refusal's number.
+#![tactic(auto)]
+
 pub mod words;
 
 ghost use Rattle.std.specs.Prelude.{◌≡◌, ◌+◌, ◌<◌, ◌≤◌, length};

@@ -5,13 +5,13 @@ ghost use Rattle.shift_report.specs.Words.{voltage_word, hex_value, code_word};
 
 use voltage_shift::DrivingVoltage;
 
-#[derive(Drop)]
+#[derive(Clone, Copy)]
 pub enum VoltageWord {
     Names(DrivingVoltage),
     NoVoltage,
 }
 
-#[derive(Drop)]
+#[derive(Clone, Copy)]
 pub enum CodeWord {
     Writes(u8),
     NoCode,

@@ -2,6 +2,8 @@
 // value, the buffers are lent. Time is the host's, an instant in cycles of the configuration's time base with every call; the chip never reads a clock. What the
 // host must hand over is tested first (SCOPE, Refusals): a refused call hands back the state as given and alters no
 // byte of any buffer.
+#![tactic(auto)]
+
 pub use command::is_read_command;
 pub use driven::{ReadAnswer, read_data};
 pub use high::write_data;

@@ -1,4 +1,6 @@
 // What 0x22 asks for, and what the stages of an activation change (mod.rs, `activate`).
+#![tactic(auto)]
+
 ghost use Rattle.std.specs.Prelude.{◌≡◌, length};
 ghost use Rattle.stages.specs.Run.{control_of, step, noted, waited};
 ghost use Rattle.stages.specs.Stages.{mode_of};
@@ -7,7 +9,7 @@ use config::DisplayMode;
 use diagnostic::{DiagnosticKind, Journal};
 
 // The bits of Display Update Control 2 (0x22), from bit 7 down, one stage each but for the mode.
-#[derive(Drop)]
+#[derive(Clone, Copy)]
 pub struct Control {
     pub clock_on: bool,
     pub analog_on: bool,
@@ -35,7 +37,7 @@ pub fn control_of(byte: u8) -> Control
 }
 
 // What the stages change, and the time that they have taken so far.
-#[derive(Drop)]
+#[derive(Clone, Copy)]
 pub struct Run {
     pub clock: bool,
     pub analog: bool,

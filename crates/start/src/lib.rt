@@ -1,4 +1,6 @@
 // What 0x12, 0x28 and the RAM commands do when their byte arrives (mod.rs, `start_command`, `powered`).
+#![tactic(auto)]
+
 ghost use Rattle.std.specs.Prelude.{◌≡◌, length};
 ghost use Rattle.world.specs.World.{with_log};
 ghost use Rattle.start.specs.Start.{soft_reset, is_powered, unpowered, vcom_sensed, pointed};

@@ -1,4 +1,6 @@
 // What a parameter byte stores in the registers (mod.rs; datasheet Table 7-1).
+#![tactic(auto)]
+
 ghost use Rattle.std.specs.Prelude.{◌≡◌};
 ghost use Rattle.registers.specs.Store.{stored};
 

@@ -1,5 +1,7 @@
 // The text of docs/replay-format.md's answers, gathered in a buffer and written when there is enough of it. What does not fit is left
 // out, and standard error says that it may be.
+#![tactic(auto)]
+
 ghost use Rattle.std.specs.Prelude.{◌≡◌, ◌<◌, [], ◌∷◌};
 ghost use Rattle.text.specs.Text.{gathered, put_of, written, decimal_of, digit_of, hex_of, truth_of};
 

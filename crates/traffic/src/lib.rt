@@ -1,4 +1,6 @@
 // Events made of a device one after the other, up to the first call that is refused: what #102 feeds from a file.
+#![tactic(auto)]
+
 ghost use Rattle.std.specs.Prelude.{◌≡◌, true, ◌+◌, ◌-◌, ◌^◌, ◌≤◌, ◌<◌, min, length};
 ghost use Rattle.numbers.specs.Choice.{pick};
 ghost use Rattle.guard.specs.Refusals.{refusal_number, accepts};
@@ -13,7 +15,7 @@ use guard::Refusal;
 use guard_lengths::Lengths;
 
 // How events ended: the refusal of the last call, the state that they leave, and how many of them were made before a refused one.
-#[derive(Drop)]
+#[derive(Clone, Copy)]
 pub struct Fed {
     pub refusal: Refusal,
     pub state: Ssd1677,

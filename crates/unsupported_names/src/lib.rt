@@ -1,4 +1,6 @@
 // The names of the commands that the model does not carry out (mod.rs, `kind`).
+#![tactic(auto)]
+
 ghost use Rattle.std.specs.Prelude.{◌≡◌, ◌≤◌, length};
 ghost use Rattle.unsupported_names.specs.Names.{padded, name_of};
 
@@ -10,7 +12,7 @@ fn name(text: &[u8]) -> Name
     ensures { result ≡ padded text.now }
 {
     let mut room = [0u8; 44];
-    let length = bytes::copy(text, &mut room);
+    let length = byte_copy::copy(text, &mut room);
     Name {
         bytes: room,
         length,

@@ -1,4 +1,6 @@
 // The parameters and the table that a start is refused for (config.rs, `validate`).
+#![tactic(auto)]
+
 ghost use Rattle.std.specs.Prelude.{◌≡◌, not, [], ◌∷◌, ◌<◌};
 ghost use Rattle.voltage.specs.Codes.{is_voltage, source_voltage, vsl_voltage, vcom_voltage};
 ghost use Rattle.config.specs.Answer.{first_of, answer_of};

@@ -1,4 +1,6 @@
 // The voltage codes of commands 0x03, 0x04 and 0x2C (waveform.rs).
+#![tactic(auto)]
+
 mod sheet;
 
 ghost use Rattle.std.specs.Prelude.{◌≡◌};
@@ -6,7 +8,7 @@ ghost use Rattle.voltage.specs.Codes.{is_voltage, source_voltage, vsl_voltage, v
 ghost use Rattle.voltage.specs.Sheet.{figure};
 
 // What a code stands for, or that the datasheet does not list it.
-#[derive(Drop)]
+#[derive(Clone, Copy)]
 pub enum Millivolts {
     Listed(i64),
     Unlisted,
@@ -23,7 +25,7 @@ pub fn is_voltage(millivolts: Millivolts) -> bool
 }
 
 // The sheet's figures for two codes.
-#[derive(Drop)]
+#[derive(Clone, Copy)]
 struct Figures {
     first: u16,
     second: u16,
@@ -59,7 +61,7 @@ pub fn source_millivolts(code: u8) -> Millivolts
 }
 
 // VSH1 and VSH2 of one setting.
-#[derive(Drop)]
+#[derive(Clone, Copy)]
 pub struct SourcePair {
     pub vsh1: Millivolts,
     pub vsh2: Millivolts,

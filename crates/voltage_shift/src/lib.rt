@@ -1,4 +1,6 @@
 // How far a change of one voltage can move a state (SCOPE, Sensitivity; #112).
+#![tactic(auto)]
+
 ghost use Rattle.std.specs.Prelude.{◌≡◌, ◌<◌, ◌≤◌, min, nat_abs, ◌-ℤ◌, ◌≤ℤ◌, length};
 ghost use Rattle.numbers.specs.Saturation.{largest};
 ghost use Rattle.config.specs.Answer.{first_of};
@@ -14,7 +16,7 @@ use voltage::Millivolts;
 use waveform::{Group, Waveform};
 
 // The voltages that drive (0x04).
-#[derive(Drop)]
+#[derive(Clone, Copy)]
 pub enum DrivingVoltage {
     Vsh1,
     Vsh2,
@@ -22,7 +24,7 @@ pub enum DrivingVoltage {
 }
 
 // How far the states of a LUT may shift.
-#[derive(Drop)]
+#[derive(Clone, Copy)]
 pub struct Shift {
     // In millivolts × nanoseconds, as states are.
     pub bound: u64,
@@ -30,7 +32,7 @@ pub struct Shift {
     pub steps: u8,
 }
 
-#[derive(Drop)]
+#[derive(Clone, Copy)]
 pub struct Shifts {
     pub lut0: Shift,
     pub lut1: Shift,
@@ -38,7 +40,7 @@ pub struct Shifts {
     pub lut3: Shift,
 }
 
-#[derive(Drop)]
+#[derive(Clone, Copy)]
 pub enum Bounded {
     Within(Shifts),
     // 4 or 5.
@@ -233,7 +235,7 @@ fn waveform_of(setting: &[u8], frame_period: [u64; 16]) -> Waveform
     ensures { result ≡ waveform_of setting.now frame_period }
 {
     let mut copied = [0u8; 112];
-    bytes::copy(setting, &mut copied);
+    byte_copy::copy(setting, &mut copied);
     setting::from_setting(&copied, &frame_period)
 }
 

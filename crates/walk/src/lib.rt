@@ -1,4 +1,6 @@
 // What a waveform does to a pixel: every group, each repeated, each of four phases, whole or up to a cut.
+#![tactic(auto)]
+
 pub mod phases;
 
 ghost use Rattle.std.specs.Prelude.{◌≡◌, ◌/◌, ◌<◌};

@@ -8,7 +8,7 @@ use glass::Transfer;
 use waveform::{Drive, DrivenPhase, Driving, Group, Phase};
 
 // A phase with its drive and how long it lasts, in 64 bits: both made once for all repeats of its group.
-#[derive(Drop)]
+#[derive(Clone, Copy)]
 pub(crate) struct Lasting {
     pub step: DrivenPhase,
     pub length: u64,

@@ -1,6 +1,8 @@
 // The waveform of the LUT register and what it does to a pixel (datasheet §6.6–6.7; waveform.rs).
 // A phase holds one source level and one VCOM level for some frames; the pixel sees their difference, and its optical state
 // moves in proportion to that voltage and to the time, stopping at black or white.
+#![tactic(auto)]
+
 ghost use Rattle.std.specs.Prelude.{◌≡◌};
 ghost use Rattle.waveform.specs.Voltages.{or_zero, levels_of, source_level, vcom_swing};
 
@@ -9,7 +11,7 @@ use voltage::Millivolts;
 
 // The voltages that a waveform drives with, in millivolts. DCVCOM drives no pixel: it cancels the kickback of the panel's
 // transistors, so a pixel sees the source level minus the swing of VCOM around it.
-#[derive(Drop)]
+#[derive(Clone, Copy)]
 pub struct Levels {
     pub vsh1: i64,
     pub vsh2: i64,
@@ -65,7 +67,7 @@ impl Levels {
 }
 
 // What drives a pixel or the border during the display.
-#[derive(Drop)]
+#[derive(Clone, Copy)]
 pub enum Drive {
     // The phases of a LUT, 0 to 4.
     Lut(usize),
@@ -74,7 +76,7 @@ pub enum Drive {
 }
 
 // One group as its setting has it.
-#[derive(Drop)]
+#[derive(Clone, Copy)]
 pub struct GroupCodes {
     // Frames of each phase, 0 skipping it.
     pub frames: [u8; 4],
@@ -86,7 +88,7 @@ pub struct GroupCodes {
 }
 
 // One group with the period of its frames.
-#[derive(Drop)]
+#[derive(Clone, Copy)]
 pub struct Group {
     pub frames: [u8; 4],
     pub repeats: u16,
@@ -95,14 +97,14 @@ pub struct Group {
 }
 
 // The waveform of a LUT register.
-#[derive(Drop)]
+#[derive(Clone, Copy)]
 pub struct Waveform {
     pub groups: [Group; 10],
     pub levels: Levels,
 }
 
 // One phase as it drives a pixel: the source level against VCOM, for some frames.
-#[derive(Drop)]
+#[derive(Clone, Copy)]
 pub struct Phase {
     pub frames: u64,
     pub frame_ns: u64,
@@ -110,14 +112,14 @@ pub struct Phase {
 }
 
 // A phase with the drive of all its frames, which every repeat of its group shares.
-#[derive(Drop)]
+#[derive(Clone, Copy)]
 pub struct DrivenPhase {
     pub phase: Phase,
     pub drive: i64,
 }
 
 // How much of the display counts.
-#[derive(Drop)]
+#[derive(Clone, Copy)]
 pub enum Until {
     Whole,
     // The frames that end within so many nanoseconds.
@@ -125,7 +127,7 @@ pub enum Until {
 }
 
 // What stays the same while a waveform drives a pixel.
-#[derive(Drop)]
+#[derive(Clone, Copy)]
 pub struct Driving {
     pub levels: Levels,
     pub drive: Drive,
@@ -134,7 +136,7 @@ pub struct Driving {
 }
 
 // How far a walk up to a cut has come.
-#[derive(Drop)]
+#[derive(Clone, Copy)]
 pub struct Progress {
     pub transfer: Transfer,
     pub elapsed: u64,

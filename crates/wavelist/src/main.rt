@@ -1,4 +1,6 @@
 // The listing of the setting on standard input (SCOPE, Listing).
+#![tactic(auto)]
+
 use libc::{STDIN_FILENO, STDOUT_FILENO};
 
 fn main() {

@@ -1,4 +1,6 @@
 // The listings of the settings that stand one after the other on standard input.
+#![tactic(auto)]
+
 use libc::{STDIN_FILENO, STDOUT_FILENO};
 
 // Lists the next setting, or what is left where that is shorter; answers whether to go on.
