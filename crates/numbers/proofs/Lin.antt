@@ -251,11 +251,11 @@ quot_down (negsuc n) d = neg_down (pos (suc n / d))
 
 -- a call's 64-bit result, read back, is what the call ensures of it (`ok` is the call's `.ok`)
 pub got : {r y : ℤ} → mag r < 2 ^ 63 → r ≡ y → rd r ≡ y
-got ok e = back (record { sfits = ok }) ∙ e
+got ok e = back {w = w64} (record { sfits = ok }) ∙ e
 
 -- a 64-bit field of a struct, read back (`ok` is the bound in `.struct_told .given`)
 pub field_back : (z : ℤ) → mag z < 2 ^ 63 → rd z ≡ z
-field_back z ok = back (record { sfits = ok })
+field_back z ok = back {w = w64} (record { sfits = ok })
 
 -- ---- a test `==`, which compares bits
 pub same_bits : {w : Width} {a b : ℤ} → SFits w a → SFits w b → of_z w a ≡ of_z w b → a ≡ b

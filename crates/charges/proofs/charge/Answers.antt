@@ -1,0 +1,93 @@
+-- `charges::charge` meets its contract: 5, 81 and 11 in their order, then the sum.
+use mathlib.Core.Path.{sym, ap, ◌∙◌}
+use mathlib.Core.Bool.{not}
+use mathlib.Core.List.{List, [], ◌∷◌}
+use Prim.Native.Nat.{ℕ, ◌<◌}
+use native.Mathlib.Omega.{arith}
+use lib.IntN.{ℤ, pos}
+use lib.ListN.{length}
+use borrow.Author.Tests.{eqb-true}
+use Rattle.numbers.proofs.Lin.{got}
+use Rattle.waveform.specs.declared.Drive.TheVariants.{Lut}
+use Rattle.waveform.specs.Phases.{phases_of}
+use Rattle.config.specs.Answer.{Test}
+use Rattle.config.specs.Tests.{periods_test, lent_test}
+use Rattle.charges.specs.declared.PixelLut.{PixelLut}
+use Rattle.charges.specs.declared.PixelLut.TheVariants.{Lut0, Lut1, Lut2, Lut3}
+use Rattle.charges.specs.Charge.{drive_sum, charge_of, long_period_test, lut_number, charged_of}
+use Rattle.charges.proofs.Answers.{unturned, none_long, at_first, at_long, at_lent, at_none}
+use Rattle.charges.proofs.charge.Goals.{After-has_long_period-long, Start}
+use Rattle.charges.proofs.charge.Goals as goal
+
+-- ---- the tests, and the sum
+abbrev Asked : Type 0
+Asked = After-has_long_period-long
+
+abbrev start : Asked → Start
+start c = c.before.before.before.before
+
+abbrev periods : Asked → List ℕ
+periods c = (start c).args.t1
+
+abbrev setting : Asked → List ℕ
+setting c = (start c).args.setting.now
+
+abbrev first : Asked → List Test
+first c = periods_test (periods c) ∷ []
+
+abbrev long : Asked → Test
+long c = long_period_test (periods c)
+
+abbrev lent : Asked → Test
+lent c = lent_test (length (setting c)) 112
+
+abbrev sum : Asked → ℤ
+sum c = charge_of (setting c) (periods c) (lut_number (start c).args.lut)
+
+pub returns-then-not-accepted : goal.returns-then-not-accepted
+unfolding charged_of
+returns-then-not-accepted c =
+    let a = c.before.before in
+    at_first (first a) (long a) (lent a) (pos 0) (sum a) a.periods_error-error.ensures (ap not (sym a.is_accepted-accepted.ensures) ∙ c.if-not-accepted.true)
+
+pub returns-then-long : goal.returns-then-long
+unfolding charged_of
+returns-then-long c =
+    let a = c.before.before.before in
+    at_long (first a) (long a) (lent a) (pos 0) (sum a) a.periods_error-error.ensures (ap not (sym a.is_accepted-accepted.ensures) ∙ c.if-not-accepted.false)
+    (sym a.has_long_period-long.ensures ∙ c.if-long.true)
+
+pub returns-then-other : goal.returns-then-other
+unfolding charged_of
+returns-then-other c =
+    let a = c.before.before.before.before in
+    at_lent (first a) (long a) (lent a) (pos 0) (sum a) a.periods_error-error.ensures (ap not (sym a.is_accepted-accepted.ensures) ∙ c.if-not-accepted.false)
+    (sym a.has_long_period-long.ensures ∙ c.if-long.false) c.if-other.true
+
+pub waveform_of-waveform-requires : goal.waveform_of-waveform-requires
+waveform_of-waveform-requires c =
+    let test = c.before.before in
+    let a = test.before.before.before in
+    (eqb-true (length (setting a)) 112 (unturned _ test.if-other.false), none_long (periods a) (sym a.has_long_period-long.ensures ∙ test.if-long.false))
+
+below_4 : (lut : PixelLut) → lut_number lut < 4
+below_4 Lut0 = omega arith
+below_4 Lut1 = omega arith
+below_4 Lut2 = omega arith
+below_4 Lut3 = omega arith
+
+pub charge_of-requires : goal.charge_of-requires
+charge_of-requires c =
+    let wave = c.before.before in
+    let a = wave.before.before.before.before.before in record { lut = omega (arith, c.number_of_lem.ensures, below_4 (start a).args.lut); bounded = wave.waveform_of-waveform.ensures.bounded }
+
+pub returns-then-not-accepted : goal.returns
+unfolding charged_of
+returns-then-not-accepted c =
+    let number = c.before.before in
+    let wave = number.before in
+    let test = wave.before.before in
+    let a = test.before.before.before in
+    at_none (first a) (long a) (lent a) (pos 0) (sum a) a.periods_error-error.ensures (ap not (sym a.is_accepted-accepted.ensures) ∙ test.if-not-accepted.false)
+    (sym a.has_long_period-long.ensures ∙ test.if-long.false) test.if-other.false
+    (got c.charge_of.type_inv c.charge_of.ensures ∙ (λ i. drive_sum (phases_of (wave.waveform_of-waveform.ensures.is i) (Lut (number.number_of_lem.ensures i)))))

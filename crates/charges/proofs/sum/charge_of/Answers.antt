@@ -1,0 +1,56 @@
+-- `charges::sum::charge_of` meets its contract: the charge of one group after the other, no sum of which leaves 64 bits.
+use mathlib.Core.Path.{◌≡◌, ap, ◌∙◌}
+use mathlib.Core.List.{List}
+use Prim.Native.Nat.{ℕ, ◌+◌, ◌-◌, ◌≤◌}
+use native.Mathlib.Omega.{arith}
+use lib.IntN.{◌+ℤ◌, nat_abs}
+use mir.Syntax.{w64}
+use mir.Val.{to_z}
+use Rattle.numbers.proofs.Lin.{rd, got}
+use Rattle.waveform.specs.declared.Drive.TheVariants.{Lut}
+use Rattle.waveform.specs.declared.Phase.{Phase}
+use Rattle.waveform.specs.Phases.{joined}
+use Rattle.charges.specs.Charge.{drive_sum}
+use Rattle.charges.proofs.Sums.{sum_none, sum_more}
+use Rattle.charges.proofs.Bounds.{fits_as, read_back, groups_of, groups_within}
+use borrow.Author.Rules.{rules}
+use Rattle.charges.proofs.sum.charge_of.Goals as goal
+
+pub loop-k-init : goal.loop-k-init
+loop-k-init c = (search rules, sum_none _)
+
+pub group_charge-sum-requires : goal.group_charge-sum-requires
+group_charge-sum-requires c =
+    let s = c.before.before.before.before in
+    (record { listable = s.requires.bounded.listable; takes = omega (arith, s.requires.lut) }, s.requires.bounded.groups_bounded c.loop-k.k (omega arith))
+
+-- ---- after a turn
+abbrev Turn : Type 0
+Turn = goal.After-group_charge-sum
+
+abbrev groups_in : Turn → ℕ → List Phase
+groups_in c = groups_of c.before.before.before.before.before.args.t1 (Lut c.before.before.before.before.before.args.lut)
+
+sum_is : (c : Turn) → to_z w64 c.before.before.before.loop.sum +ℤ rd c.group-charge.result ≡ drive_sum (joined (c.before.before.before.loop.k + 1) (groups_in c))
+sum_is c =
+    let l = c.before.before.before.loop in
+    (λ i. l.invariant.1 i +ℤ got c.group-charge.type_inv c.group-charge.ensures i) ∙ sum_more (groups_in c) l.k
+
+small : (c : Turn) → nat_abs (drive_sum (joined (c.before.before.before.loop.k + 1) (groups_in c))) ≤ 9223372036854775807
+small c =
+    let l = c.before.before.before.loop in
+    let s = c.before.before.before.before.before in
+    omega (arith, groups_within s.args.t1 (Lut s.args.lut) s.requires.1 (l.k + 1) (omega arith))
+
+pub overflow_add-sum : goal.overflow_add-sum
+overflow_add-sum c = fits_as (sum_is c) (small c)
+
+pub loop-k-preserved : goal.loop-k-preserved
+loop-k-preserved c = (omega arith, read_back (sum_is c) (small c))
+
+pub returns : goal.returns
+returns c =
+    let l = c.loop-k in
+    let s = c.args in
+    let e : l.k ≡ 10 = omega arith in
+    l.invariant.1 ∙ ap (λ (n : ℕ). drive_sum (joined n (groups_of s.t1 (Lut s.lut)))) e

@@ -1,0 +1,22 @@
+use mathlib.Core.Path.{◌≡◌}
+use mathlib.Core.List.{List}
+use Prim.Native.Nat.{ℕ, ◌-◌, ◌≤◌}
+use mir.Syntax.{w64}
+use mir.Val.{to_z}
+use Rattle.waveform.specs.declared.Driving.{Driving}
+use Rattle.waveform.specs.declared.Group.{Group}
+use Rattle.waveform.specs.declared.Phase.{Phase}
+use Rattle.waveform.specs.Phases.{driven, joined}
+use Rattle.waveform.specs.Walks.{phase_in}
+use Rattle.charges.specs.Charge.{drive_sum}
+use Rattle.charges.proofs.sum.pass_charge.Given as goal
+
+abbrev pub phases_in : Driving → Group → ℕ → List Phase
+phases_in d g k = driven (phase_in d g k)
+
+-- the sum is kept as its bits
+abbrev pub invariant-loop-phase : goal.invariant-loop-phase
+invariant-loop-phase l = (l.phase ≤ 4) × (to_z w64 l.sum ≡ drive_sum (joined l.phase (phases_in l.driving l.group)))
+
+abbrev pub decreases-loop-phase : goal.decreases-loop-phase
+decreases-loop-phase l = 4 - l.phase

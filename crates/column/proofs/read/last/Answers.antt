@@ -1,0 +1,10 @@
+-- `column::read::last` meets its contract.
+use mathlib.Core.Path.{sym, ap, ◌∙◌}
+use Rattle.column.specs.Reading.{last_of}
+use Rattle.column.specs.declared.read.Column.{Column}
+use Rattle.column.proofs.read.last.Goals as goal
+
+pub returns-in_default : goal.returns
+returns-in_default c =
+    let s = c.args in
+    c.digit.ensures ∙ ap (λ (f : Column). last_of f s.byte) (sym c.in-Number.is)

@@ -1,0 +1,57 @@
+-- `combine::transfer` meets its contract. Assumes nothing.
+use mathlib.Core.Path.{sym, ap, subst, ◌∙◌}
+use lib.IntN.{ℤ, pos}
+use lib.Signed.{◌≤ℤ◌}
+use Rattle.numbers.proofs.Lin.{back}
+use Rattle.glass.specs.declared.Transfer.{Transfer}
+use Rattle.glass.specs.Transfers.{apply_t}
+use Rattle.waveform.specs.declared.Until.{Until}
+use Rattle.waveform.specs.declared.Waveform.{Waveform}
+use Rattle.waveform.specs.Setting.{waveform_of}
+use Rattle.waveform.specs.Walks.{Walkable, whole_of, cut_of, transfer_of}
+use Rattle.combine.specs.Settled.{settled, combined_of}
+use Rattle.combine.proofs.transfer.Goals.{Start}
+use Rattle.combine.proofs.transfer.Goals as goal
+
+-- the waveform of the setting
+abbrev decoded : Start → Waveform
+decoded s = waveform_of s.args.setting.now s.args.frame_period.now
+
+pub transfer_whole-requires : goal.transfer_whole-requires
+transfer_whole-requires c =
+    let s = c.before.before in
+    (s.requires.0, subst (λ (z : ℤ). pos 1 ≤ℤ z) (sym (back s.ranges.swing)) s.requires.1)
+
+pub transfer_cut-requires : goal.transfer_cut-requires
+transfer_cut-requires c =
+    let s = c.before.before.before.before in
+    subst (λ (w : Waveform). Walkable w s.args.drive) (sym c.from_setting-decoded.ensures) s.requires.0
+
+pub returns-in-Whole : goal.returns-in-Whole
+returns-in-Whole c =
+    let s = c.before.before.before in
+    let a = s.args in
+    let black = a.positive-drives-black in
+    let swing = back s.ranges.swing in
+    let whole = c.in-Whole.is in (
+      c.transfer_whole.ensures.value
+          ∙ ap (λ (z : ℤ). settled (whole_of (decoded s) a.drive z black)) swing
+          ∙ sym (ap (combined_of (decoded s) a.drive a.swing black) whole),
+      λ z. c.transfer_whole.ensures.alike z
+          ∙ ap (λ (y : ℤ). apply_t (whole_of (decoded s) a.drive y black) z) swing
+          ∙ sym (ap (λ (u : Until). apply_t (transfer_of (decoded s) a.drive a.swing black u) z) whole),
+    )
+
+pub returns-in-Cut : goal.returns-in-Cut
+returns-in-Cut c =
+    let call = c.before in
+    let s = call.before.before.before.before in
+    let a = s.args in
+    let black = a.positive-drives-black in
+    let known = call.until-1.given in
+    let e =
+    c.transfer_cut.ensures
+    ∙ (λ i. cut_of (call.from_setting-decoded.ensures i) a.drive (back s.ranges.swing i) black known.0.0) in (
+      e ∙ sym (ap (combined_of (decoded s) a.drive a.swing black) known.1),
+      λ z. ap (λ (t : Transfer). apply_t t z) (e ∙ sym (ap (transfer_of (decoded s) a.drive a.swing black) known.1)),
+    )

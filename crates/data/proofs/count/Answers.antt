@@ -1,0 +1,5 @@
+-- `data::count` meets its contract.
+use Rattle.data.proofs.count.Goals as goal
+
+pub returns : goal.returns
+returns c = rw c.saturating_add_u16-received.ensures

@@ -1,0 +1,34 @@
+-- `drive_sheet::groups::any_bad_repeats` meets its contract.
+use mathlib.Core.Path.{◌≡◌, ap, ◌∙◌}
+use Prim.Native.Nat.{◌-◌}
+use native.Mathlib.Omega.{arith}
+use Rattle.otp.specs.Search.{any_of}
+use Rattle.otp.proofs.Search.{any_none, any_more}
+use Rattle.drive_sheet.proofs.groups.any_bad_repeats.Invariants.{refused}
+use Rattle.drive_sheet.proofs.groups.any_bad_repeats.Goals as goal
+
+pub loop-k-init : goal.loop-k-init
+loop-k-init c = (omega arith, any_none _)
+
+pub offset_bounds-sheet-k : goal.offset_bounds-sheet-k
+offset_bounds-sheet-k c = omega arith
+
+pub bounds-sheet-k : goal.bounds-sheet-k
+bounds-sheet-k c = omega arith
+
+pub bad_repeats-one-requires : goal.bad_repeats-one-requires
+bad_repeats-one-requires c = tt
+
+pub overflow_add-k : goal.overflow_add-k
+overflow_add-k c = omega arith
+
+pub loop-k-smaller : goal.loop-k-smaller
+loop-k-smaller c = omega arith
+
+pub loop-k-preserved : goal.loop-k-preserved
+loop-k-preserved c = (omega arith, any_more _ _ _ _ c.loop-k.invariant.1 c.bad_repeats-one.ensures)
+
+pub returns : goal.returns
+returns c =
+    let n : c.loop-k.k ≡ 10 = omega arith in
+    c.loop-k.invariant.1 ∙ ap (any_of (refused c.args.sheet)) n

@@ -1,0 +1,20 @@
+-- `guard_kinds::current_is_fine` meets its contract: by what is current, and by what the table gives for its command.
+use Rattle.guard_kinds.specs.Kinds.{current_fine}
+use Rattle.guard_kinds.proofs.SameKind.{of_kind, of_none}
+use Rattle.guard_kinds.proofs.current_is_fine.Goals as goal
+
+pub returns-in-Idle : goal.returns-in-Idle
+unfolding current_fine
+returns-in-Idle c = rw c.in-Idle.is
+
+pub returns-in-Ignoring : goal.returns-in-Ignoring
+unfolding current_fine
+returns-in-Ignoring c = rw c.in-Ignoring.is
+
+pub returns-in-Of : goal.returns-in-Of
+returns-in-Of c =
+    of_kind _ _ _ c.in-Active.is c.kind-known.ensures _ _
+    c.in-Of.is c.same_kind.ensures
+
+pub returns-in-Unknown : goal.returns-in-Unknown
+returns-in-Unknown c = of_none _ _ _ c.in-Active.is c.kind-known.ensures c.in-Unknown.is

@@ -1,0 +1,11 @@
+-- `guard_lengths::fits` meets its contract: by whether the buffer is lent.
+use Rattle.guard_lengths.specs.Lengths.{fits}
+use Rattle.guard_lengths.proofs.fits.Goals as goal
+
+pub returns-in-Nothing : goal.returns-in-Nothing
+unfolding fits
+returns-in-Nothing c = rw c.in-Nothing.is
+
+pub returns-in-Of : goal.returns-in-Of
+unfolding fits
+returns-in-Of c = rw c.in-Of.is

@@ -1,0 +1,11 @@
+-- `line::listed::command` meets its contract.
+use mathlib.Core.Path.{refl}
+use native.Mathlib.Omega.{arith}
+use Rattle.line.proofs.Within.{below, above}
+use Rattle.line.proofs.listed.command.Goals as goal
+
+pub returns-then-value-lt256 : goal.returns-then-value-lt256
+returns-then-value-lt256 c = below _ _ _ (omega arith) refl
+
+pub returns-then-value-lt256 : goal.returns
+returns-then-value-lt256 c = above _ _ _ (omega arith)

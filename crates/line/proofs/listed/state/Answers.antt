@@ -1,0 +1,14 @@
+-- `line::listed::state` meets its contract: a number that is at most the largest is below the limit.
+use mathlib.Core.Path.{refl}
+use native.Mathlib.Omega.{arith}
+use Rattle.line.proofs.Within.{below, above}
+use Rattle.line.proofs.listed.state.Goals as goal
+
+pub returns-then-number-most : goal.returns-then-number-most
+returns-then-number-most c = below _ _ _ (omega arith) (below _ _ _ (omega (arith, c.largest_of_state-most.ensures)) refl)
+
+pub returns-then-value-lt32 : goal.returns-then-value-lt32
+returns-then-value-lt32 c = below _ _ _ (omega arith) (above _ _ _ (omega (arith, c.largest_of_state-most.ensures)))
+
+pub returns-then-number-most : goal.returns
+returns-then-number-most c = above _ _ _ (omega arith)

@@ -1,0 +1,7 @@
+-- `otp::sixteenths_of` meets its contract.
+use mathlib.Core.Path.{◌∙◌}
+use Rattle.numbers.proofs.Lin.{back}
+use Rattle.otp.proofs.sixteenths_of.Goals as goal
+
+pub returns : goal.returns
+returns c = back (record { sfits = c.sixteenths.type_inv }) ∙ c.sixteenths.ensures ∙ c.from_register.ensures

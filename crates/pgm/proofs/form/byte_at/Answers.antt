@@ -1,0 +1,7 @@
+-- `pgm::form::byte_at` meets its contract.
+use mathlib.Core.Path.{sym}
+use lib.ListN.{get_or-eq_default}
+use Rattle.pgm.proofs.form.byte_at.Goals as goal
+
+pub returns-then-at-file : goal.returns
+returns-then-at-file c = sym (get_or-eq_default c.args.file.now 0 c.if-at-file.false)

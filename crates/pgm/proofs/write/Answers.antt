@@ -1,0 +1,55 @@
+-- `pgm::write` meets its contract: the header, and then the pixels.
+use mathlib.Core.Path.{sym, ◌∙◌}
+use native.Mathlib.Omega.{arith}
+use borrow.Author.Tests.{not_true, not_false}
+use Rattle.pgm.specs.Form.{pgm_header}
+use Rattle.pgm.proofs.Headers.{most}
+use Rattle.pgm.proofs.Parts.{filled}
+use Rattle.pgm.proofs.Answers.{write_answered, write_71, write_72, write_73, write_written}
+use Rattle.pgm.proofs.write.Goals as goal
+
+pub returns-then-not-fine : goal.returns-then-not-fine
+returns-then-not-fine c =
+    let fine = c.before.before in
+    let test = fine.before in
+    let s = test.args in
+    write_answered s.width s.height s.pixels.now s.out.now
+    (write_71 s.width s.height s.pixels.now s.out.now (sym test.is_in_range.ensures ∙ not_true _ fine.if-not-fine.true) c.not_written.ensures)
+
+pub overflow_mul-count : goal.overflow_mul-count
+overflow_mul-count c =
+    let test = c.before.before in
+    let s = test.args in
+    omega (arith, most s.width s.height (sym test.is_in_range.ensures ∙ not_false _ c.if-not-fine.false))
+
+pub returns-then-pixels-count : goal.returns-then-pixels-count
+returns-then-pixels-count c =
+    let fine = c.before.before.before in
+    let test = fine.before in
+    let s = test.args in
+    let ranged = sym test.is_in_range.ensures ∙ not_false _ fine.if-not-fine.false in
+    write_answered s.width s.height s.pixels.now s.out.now (write_72 s.width s.height s.pixels.now s.out.now ranged (λ e. omega arith) c.not_written-then-pixels-count.ensures)
+
+pub returns-then-out-length : goal.returns-then-out-length
+returns-then-out-length c =
+    let count = c.before.before.before in
+    let fine = count.before.before in
+    let test = fine.before in
+    let s = test.args in
+    let ranged = sym test.is_in_range.ensures ∙ not_false _ fine.if-not-fine.false in
+    write_answered s.width s.height s.pixels.now s.out.now
+    (write_73 s.width s.height s.pixels.now s.out.now ranged (omega arith) (omega (arith, count.byte_count-start.ensures.count)) c.not_written-then-out-length.ensures)
+
+pub returns-then-not-fine : goal.returns
+returns-then-not-fine c =
+    let copy = c.before.before.before in
+    let put = copy.before.before.before.before in
+    let count = put.before.before.before in
+    let fine = count.before.before in
+    let test = fine.before in
+    let s = test.args in
+    let ranged = sym test.is_in_range.ensures ∙ not_false _ fine.if-not-fine.false in
+    let start = count.byte_count-start in let whole = write_answered s.width s.height s.pixels.now s.out.now
+    (write_written s.width s.height s.pixels.now s.out.now ranged (omega arith) (omega (arith, start.ensures.count)) (omega (arith, start.ensures.count))
+    (filled (pgm_header s.width s.height) s.pixels.now s.out.now put.put.new.out copy.copy.new.dst start.result start.ensures.count put.put.ensures
+    copy.copy.ensures.front)) in record { file = whole.0; within = whole.1 }

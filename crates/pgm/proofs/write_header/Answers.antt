@@ -1,0 +1,32 @@
+-- `pgm::write_header` meets its contract.
+use mathlib.Core.Path.{sym, ◌∙◌}
+use native.Mathlib.Omega.{arith}
+use borrow.Author.Tests.{not_true, not_false}
+use Rattle.pgm.proofs.Answers.{header_answered, header_71, header_73, header_written_is}
+use Rattle.pgm.proofs.write_header.Goals as goal
+
+pub returns-then-not-fine : goal.returns-then-not-fine
+returns-then-not-fine c =
+    let fine = c.before.before in
+    let test = fine.before in
+    let s = test.args in
+    header_answered s.width s.height s.out.now (header_71 s.width s.height s.out.now (sym test.is_in_range.ensures ∙ not_true _ fine.if-not-fine.true) c.not_written.ensures)
+
+pub returns-then-out-length : goal.returns-then-out-length
+returns-then-out-length c =
+    let count = c.before.before.before in
+    let fine = count.before in
+    let test = fine.before in
+    let s = test.args in
+    let ranged = sym test.is_in_range.ensures ∙ not_false _ fine.if-not-fine.false in
+    header_answered s.width s.height s.out.now (header_73 s.width s.height s.out.now ranged (omega (arith, count.byte_count-length.ensures.count)) c.not_written-then-out-length.ensures)
+
+pub returns-then-not-fine : goal.returns
+returns-then-not-fine c =
+    let put = c.before.before.before in
+    let count = put.before.before.before in
+    let fine = count.before in
+    let test = fine.before in
+    let s = test.args in
+    let ranged = sym test.is_in_range.ensures ∙ not_false _ fine.if-not-fine.false in let whole = header_answered s.width s.height s.out.now
+    (header_written_is s.width s.height s.out.now ranged (omega (arith, count.byte_count-length.ensures.count)) count.byte_count-length.ensures.count put.put.ensures) in record { header = whole.0; within = whole.1 }

@@ -1,0 +1,9 @@
+-- `query::check_state` meets its contract.
+use Rattle.query.proofs.Cases.{is_fine, is_not_fine}
+use Rattle.query.proofs.check_state.Goals as goal
+
+pub returns-then-state_is_fine : goal.returns-then-state_is_fine
+returns-then-state_is_fine c = is_fine _ _ c.state_is_fine.ensures c.if-state_is_fine.true
+
+pub returns-then-state_is_fine : goal.returns
+returns-then-state_is_fine c = is_not_fine _ _ c.state_is_fine.ensures c.if-state_is_fine.false

@@ -1,0 +1,24 @@
+-- `write`: what `index` told, put into the definitions; past the end of a short plane `set` changes nothing.
+use mathlib.Core.Path.{sym, ◌∙◌}
+use lib.Seq.{set_out}
+use borrow.Author.Tests.{lt-ltb, le-ltb}
+use Rattle.ram.specs.Plane.{wrote_at, written_at}
+use Rattle.ram.proofs.write.Goals as goal
+
+pub returns-then-i-plane : goal.returns-then-i-plane
+unfolding wrote_at written_at
+returns-then-i-plane c =
+    let place = sym c.in-At.is ∙ c.index.ensures in
+    (rw (← place, lt-ltb _ _ c.if-i-plane.true), rw (← place))
+
+pub returns-else-i-plane : goal.returns-else-i-plane
+unfolding wrote_at written_at
+returns-else-i-plane c =
+    let place = sym c.in-At.is ∙ c.index.ensures in
+    (rw (← place, le-ltb _ _ c.if-i-plane.false), rw (← place) (sym (set_out _ _ _ c.if-i-plane.false)))
+
+pub returns-in-Outside : goal.returns-in-Outside
+unfolding wrote_at written_at
+returns-in-Outside c =
+    let place = sym c.in-Outside.is ∙ c.index.ensures in
+    (rw (← place), rw (← place))

@@ -1,0 +1,5 @@
+-- `reading::count` meets its contract.
+use Rattle.reading.proofs.count.Goals as goal
+
+pub returns : goal.returns
+returns c = rw c.saturating_add_u16-read.ensures

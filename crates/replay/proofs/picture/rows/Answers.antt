@@ -1,0 +1,12 @@
+-- `replay::picture::rows` is safe and ends: each row ends past its beginning and within the pixels.
+use Prim.Native.Nat.{◌-◌}
+use native.Mathlib.Omega.{arith}
+use Rattle.replay.proofs.picture.rows.Goals as goal
+
+pub loop-i-smaller : goal.loop-i-smaller
+loop-i-smaller c =
+    let end = c.before.before.before.before.before.before.before in
+    omega (arith, end.part_end-end.ensures.0, end.part_end-end.ensures.1)
+
+pub loop-i-preserved : goal.loop-i-preserved
+loop-i-preserved c = c.part_end-end.ensures.1

@@ -1,0 +1,52 @@
+-- `sheet_text::lines::put_frames` meets its contract.
+use mathlib.Core.Path.{◌≡◌, refl, ap, ◌∙◌}
+use Prim.Native.Nat.{ℕ, ◌-◌}
+use native.Mathlib.Omega.{arith}
+use Rattle.waveform.specs.Phases.{joined}
+use Rattle.column.specs.Columns.{natural, buffer, appended}
+use Rattle.listing.proofs.Joined.{joined_none, joined_more}
+use Rattle.sheet_text.specs.Text.{frames_text}
+use Rattle.sheet_text.proofs.lines.put_frames.Invariants.{textIn}
+use Rattle.sheet_text.proofs.lines.put_frames.Goals as goal
+
+pub loop-phase-init : goal.loop-phase-init
+loop-phase-init c = let s = c.args in (joined_none s.at s.out.now _, omega arith, omega arith, refl)
+
+pub bounds-group-phase : goal.bounds-group-phase
+bounds-group-phase c = omega arith
+
+pub wide-frames-requires : goal.wide-frames-requires
+wide-frames-requires c = tt
+
+pub put-next-requires : goal.put-next-requires
+put-next-requires c = let s = c.before.before.before.before.before.before in (omega arith, omega (arith, s.requires))
+
+pub overflow_add-phase : goal.overflow_add-phase
+overflow_add-phase c = omega arith
+
+pub loop-phase-smaller : goal.loop-phase-smaller
+loop-phase-smaller c = omega arith
+
+pub loop-phase-preserved : goal.loop-phase-preserved
+loop-phase-preserved c =
+    let put = c.before.before.before in
+    let wide = put.before.before in
+    let l = wide.before.before.before in
+    let s = l.before.before in
+    let a = s.args in
+    let frames = put.put-next.ensures.text ∙ ap (λ (n : ℕ). appended (buffer l.loop-phase.next l.loop-phase.out) (natural 4 n)) wide.wide-frames.ensures in (
+      joined_more a.at a.out.now (textIn a.t3) l.loop-phase.phase (omega (arith, s.requires)) l.loop-phase.invariant.0 frames,
+      omega (arith, put.put-next.ensures.end),
+      omega arith,
+      omega arith,
+    )
+
+pub shape_of-out : goal.shape_of-out
+shape_of-out c = c.loop-phase.invariant.3
+
+pub returns : goal.returns
+unfolding frames_text
+returns c =
+    let l = c.before in
+    let a = l.args in
+    let e : l.loop-phase.phase ≡ 4 = omega arith in record { text = l.loop-phase.invariant.0 ∙ ap (λ (n : ℕ). appended (buffer a.at a.out.now) (joined n (textIn a.t3))) e; end = omega arith }

@@ -1,0 +1,46 @@
+-- `shift_report::put` meets its contract.
+use mathlib.Core.Path.{◌≡◌, ap, ◌∙◌}
+use mathlib.Core.List.{List}
+use Prim.Native.Nat.{ℕ}
+use Rattle.column.specs.Columns.{Buffer, buffer, appended}
+use Rattle.voltage_shift.specs.declared.Bounded.{Bounded}
+use Rattle.voltage_shift.specs.Bounds.{shift_answer}
+use Rattle.shift_report.specs.Report.{number_line, shift_text}
+use Rattle.shift_report.proofs.put.Goals as goal
+
+-- the text of an answer
+said : (o : Bounded) (d text : List ℕ) {b : Buffer} → b ≡ appended (buffer 0 d) text → text ≡ shift_text (shift_answer o) → b ≡ appended (buffer 0 d) (shift_text (shift_answer o))
+said o d text e f = e ∙ ap (appended (buffer 0 d)) f
+
+pub returns-in-Within : goal.returns-in-Within
+unfolding shift_text shift_answer
+returns-in-Within c =
+    let l = c.before.before.before in
+    let b = l.before.before.before in
+    let s = b.before.before.before in
+    (said s.args.bounded s.args.out.now _ l.put_lines.ensures.text (rw b.in-Within.is), l.put_lines.ensures.end)
+
+pub returns-in-Refused : goal.returns-in-Refused
+unfolding shift_text shift_answer
+returns-in-Refused c =
+    let l = c.before.before.before in
+    let n = l.before in
+    let b = n.before.before.before in
+    let s = b.before.before.before in
+    (said s.args.bounded s.args.out.now _ l.put_number.ensures.text (ap number_line n.number_of_lem.ensures ∙ rw b.in-Refused.is), l.put_number.ensures.end)
+
+pub returns-in-NotASetting : goal.returns-in-NotASetting
+unfolding shift_text shift_answer
+returns-in-NotASetting c =
+    let l = c.before.before.before in
+    let e = l.before.before in
+    let s = e.before.before.before in
+    (said s.args.bounded s.args.out.now _ l.put_number-in-NotASetting.ensures.text (rw e.in-NotASetting.is), l.put_number-in-NotASetting.ensures.end)
+
+pub returns-in-UnlistedCode : goal.returns-in-UnlistedCode
+unfolding shift_text shift_answer
+returns-in-UnlistedCode c =
+    let l = c.before.before.before in
+    let e = l.before.before in
+    let s = e.before.before.before in
+    (said s.args.bounded s.args.out.now _ l.put_number-in-UnlistedCode.ensures.text (rw e.in-UnlistedCode.is), l.put_number-in-UnlistedCode.ensures.end)

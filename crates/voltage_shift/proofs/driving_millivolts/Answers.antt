@@ -1,0 +1,21 @@
+-- `voltage_shift::driving_millivolts` meets its contract.
+use mathlib.Core.Path.{◌≡◌, sym, subst, ◌∙◌}
+use Prim.Native.Nat.{ℕ}
+use Rattle.voltage.specs.declared.Millivolts.{Millivolts}
+use Rattle.waveform.specs.Voltages.{or_zero, Listable}
+use Rattle.voltage_shift.specs.declared.DrivingVoltage.{DrivingVoltage}
+use Rattle.voltage_shift.specs.Shift.{driving_millivolts}
+use Rattle.voltage_shift.proofs.Listed.{driving_listable}
+use Rattle.voltage_shift.proofs.driving_millivolts.Goals as goal
+
+listed : (v : DrivingVoltage) (code : ℕ) {r : Millivolts} → r ≡ driving_millivolts v code → (r ≡ driving_millivolts v code) × Listable (or_zero r)
+listed v code e = (e, subst (λ (m : Millivolts). Listable (or_zero m)) (sym e) (driving_listable v code))
+
+pub returns-in-Vsh1 : goal.returns-in-Vsh1
+returns-in-Vsh1 c = let s = c.before.before.before in listed s.args.driving s.args.code (c.source_millivolts.ensures ∙ rw c.in-Vsh1.is)
+
+pub returns-in-Vsh2 : goal.returns-in-Vsh2
+returns-in-Vsh2 c = let s = c.before.before.before in listed s.args.driving s.args.code (c.source_millivolts-in-Vsh2.ensures ∙ rw c.in-Vsh2.is)
+
+pub returns-in-Vsl : goal.returns-in-Vsl
+returns-in-Vsl c = let s = c.before.before.before in listed s.args.driving s.args.code (c.vsl_millivolts.ensures ∙ rw c.in-Vsl.is)

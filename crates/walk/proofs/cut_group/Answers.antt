@@ -1,0 +1,29 @@
+-- `walk::cut_group` meets its contract. Assumes nothing.
+use mathlib.Core.Path.{◌≡◌, sym, ◌∙◌}
+use mathlib.Core.Bool.{false}
+use Prim.Native.Nat.{◌+◌}
+use native.Mathlib.Omega.{arith}
+use Rattle.waveform.specs.Walks.{group_in}
+use Rattle.waveform_laws.specs.Total.{total}
+use Rattle.waveform_laws.proofs.Lasting.{total_group}
+use Rattle.waveform_laws.proofs.Steps.{stopped_stays}
+use Rattle.walk.proofs.Within.{within}
+use Rattle.walk.proofs.cut_group.Goals as goal
+
+pub returns-then-progress : goal.returns-then-progress
+returns-then-progress c = let s = c.args in sym (stopped_stays s.driving s.until s.progress (group_in s.driving s.group) c.if-progress.true)
+
+pub returns-then-end-lt18446744073709551615 : goal.returns-then-end-lt18446744073709551615
+returns-then-end-lt18446744073709551615 c =
+    let tested = c.before.before.before in
+    let added = tested.before in
+    let length = added.before in
+    let going = length.before in
+    let s = going.args in
+    let ps = group_in s.driving s.group in
+    let t = total_group s.driving.levels s.driving.drive s.group in
+    let short = c.if-end-lt18446744073709551615.true in
+    let ends = tested.if-end-until.true in
+    let e : added.saturating_add_u64-end.result ≡ s.progress.elapsed + total ps = omega (arith, added.saturating_add_u64-end.ensures, length.group_ns.ensures) in
+    (λ i. record { transfer = c.group_transfer-moved.ensures i; elapsed = e i; stopped = false })
+    ∙ sym (within s.driving s.until s.progress ps going.if-progress.false (omega arith) (omega arith))

@@ -1,0 +1,41 @@
+-- `walk::cut_groups` meets its contract. Assumes nothing.
+use mathlib.Core.Path.{◌≡◌, ap, ◌∙◌}
+use native.Mathlib.Omega.{arith}
+use Prim.Native.Nat.{ℕ, ◌-◌}
+use mathlib.Core.List.{foldl}
+use mathlib.Core.Logic.{⊎_elim}
+use lib.ListN.{get_or}
+use Rattle.waveform.specs.Phases.{no_group, joined}
+use Rattle.waveform.specs.Walks.{group_in, cut_step}
+use Rattle.waveform_laws.proofs.Joined.{fold_none, fold_more}
+use Rattle.walk.proofs.Made.{idle_walk}
+use borrow.Author.Rules.{rules}
+use Rattle.walk.proofs.cut_groups.Goals as goal
+
+pub loop-k-init : goal.loop-k-init
+loop-k-init c = (search rules, fold_none _ _ _)
+
+pub cut_group-moved-requires : goal.cut_group-moved-requires
+cut_group-moved-requires c =
+    let m = c.before.before.before.before in
+    (m.requires.0 m.loop-k.k (omega arith), m.requires.1)
+
+pub loop-k-preserved : goal.loop-k-preserved
+loop-k-preserved c =
+    let m = c.before.before.before.before in
+    let s = m.args in
+    let step = cut_step s.driving s.until in
+    let g = get_or s.t3.groups m.loop-k.k no_group in (
+      omega arith,
+      fold_more step s.progress (λ j. group_in s.driving (get_or s.t3.groups j no_group)) m.loop-k.k m.loop-k.invariant.1
+          (⊎_elim
+          (λ w. w.2 ∙ w.1.ensures)
+          (λ w. w.1 ∙ idle_walk step s.driving g m.loop-k.moved c.idle.ensures w.0.left)
+          c.if-not-idle.branch),
+    )
+
+pub returns : goal.returns
+returns c =
+    let s = c.args in
+    let e : c.loop-k.k ≡ 10 = omega arith in
+    c.loop-k.invariant.1 ∙ ap (λ (k : ℕ). foldl (cut_step s.driving s.until) s.progress (joined k (λ j. group_in s.driving (get_or s.t3.groups j no_group)))) e

@@ -1,0 +1,61 @@
+-- `walk::group_transfer` meets its contract. Assumes nothing.
+use mathlib.Core.Path.{◌≡◌, ap, ◌∙◌}
+use native.Mathlib.Omega.{arith}
+use Prim.Native.Nat.{ℕ, ◌-◌}
+use mathlib.Core.List.{List, foldl}
+use Rattle.waveform.specs.declared.Phase.{Phase}
+use Rattle.waveform.specs.Phases.{phases_in, joined}
+use Rattle.waveform.specs.Walks.{whole_step}
+use Rattle.waveform_laws.proofs.Joined.{fold_none, fold_more}
+use Rattle.waveform_laws.proofs.Stepped.{steps_are, pass_is}
+use Rattle.walk.proofs.group_transfer.Goals as goal
+
+pub step_of-first-requires : goal.step_of-first-requires
+step_of-first-requires c = (omega arith, c.requires)
+
+pub step_of-second-requires : goal.step_of-second-requires
+step_of-second-requires c = (omega arith, c.requires)
+
+pub step_of-third-requires : goal.step_of-third-requires
+step_of-third-requires c = (omega arith, c.requires)
+
+pub step_of-fourth-requires : goal.step_of-fourth-requires
+step_of-fourth-requires c = (omega arith, c.requires)
+
+pub times-repeats-requires : goal.times-repeats-requires
+times-repeats-requires c = tt
+
+pub loop-k-init : goal.loop-k-init
+loop-k-init c = (omega arith, fold_none _ _ _)
+
+pub whole_pass-moved-requires : goal.whole_pass-moved-requires
+whole_pass-moved-requires c = tt
+
+pub overflow_add-k : goal.overflow_add-k
+overflow_add-k c = omega (arith, c.times-repeats.ensures.1)
+
+pub loop-k-preserved : goal.loop-k-preserved
+loop-k-preserved c =
+    let m = c.before.before in
+    let fourth = m.before.before in
+    let third = fourth.before in
+    let second = third.before in
+    let first = second.before in
+    let a = first.args in (
+      omega arith,
+      fold_more (whole_step a.driving) a.transfer (λ j. phases_in first.step_of_lem.result.phase second.step_of-second.result.phase third.step_of-third.result.phase fourth.step_of-fourth.result.phase) m.loop-k.k m.loop-k.invariant.1
+          (c.whole_pass-moved.ensures ∙ pass_is a.driving a.group first.step_of_lem.ensures second.step_of-second.ensures third.step_of-third.ensures fourth.step_of-fourth.ensures m.loop-k.moved),
+    )
+
+pub returns : goal.returns
+returns c =
+    let fourth = c.before.before.before in
+    let third = fourth.before in
+    let second = third.before in
+    let first = second.before in
+    let a = first.args in
+    let e : c.loop-k.k ≡ a.group.repeats = omega (arith, c.times-repeats.ensures.0) in
+    c.loop-k.invariant.1
+    ∙ ap (λ (k : ℕ). foldl (whole_step a.driving) a.transfer (joined k (λ j. phases_in first.step_of_lem.result.phase second.step_of-second.result.phase third.step_of-third.result.phase fourth.step_of-fourth.result.phase))) e
+    ∙ ap (λ (l : List Phase). foldl (whole_step a.driving) a.transfer (joined a.group.repeats (λ j. l)))
+    (steps_are a.driving a.group first.step_of_lem.ensures second.step_of-second.ensures third.step_of-third.ensures fourth.step_of-fourth.ensures)

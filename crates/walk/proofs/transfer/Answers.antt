@@ -1,0 +1,22 @@
+-- `walk::transfer` meets its contract. Assumes nothing.
+use mathlib.Core.Path.{sym, ap, ◌∙◌}
+use lib.IntN.{ℤ}
+use Rattle.numbers.proofs.Lin.{back}
+use Rattle.waveform.specs.Walks.{whole_of, cut_of, transfer_of}
+use Rattle.walk.proofs.transfer.Goals as goal
+
+pub returns-in-Whole : goal.returns-in-Whole
+returns-in-Whole c =
+    let s = c.before.before.before in
+    let a = s.args in
+    c.transfer_whole.ensures
+    ∙ ap (λ (z : ℤ). whole_of a.waveform a.drive z a.positive-drives-black) (back s.ranges.swing)
+    ∙ sym (ap (transfer_of a.waveform a.drive a.swing a.positive-drives-black) c.in-Whole.is)
+
+pub returns-in-Cut : goal.returns-in-Cut
+returns-in-Cut c =
+    let s = c.before.before.before.before in
+    let a = s.args in
+    c.transfer_cut.ensures
+    ∙ ap (λ (z : ℤ). cut_of a.waveform a.drive z a.positive-drives-black c.in-Cut.cut) (back s.ranges.swing)
+    ∙ sym (ap (transfer_of a.waveform a.drive a.swing a.positive-drives-black) c.in-Cut.is)
