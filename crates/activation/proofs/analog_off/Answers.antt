@@ -8,6 +8,6 @@ pub returns-then-wanted-run : goal.returns-then-wanted-run
 unfolding analog_off
 returns-then-wanted-run c = took _ _ _ _ c.if-wanted-run.true c.wait.ensures
 
-pub returns-then-wanted-run : goal.returns
+pub returns : goal.returns
 unfolding analog_off
-returns-then-wanted-run c = passed _ _ _ _ c.if-wanted-run.false refl
+returns c = passed _ _ _ _ c.if-wanted-run.false refl

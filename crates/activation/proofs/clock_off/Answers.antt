@@ -8,6 +8,6 @@ pub returns-then-wanted : goal.returns-then-wanted
 unfolding clock_off
 returns-then-wanted c = took _ _ _ _ c.if-wanted.true refl
 
-pub returns-then-wanted : goal.returns
+pub returns : goal.returns
 unfolding clock_off
-returns-then-wanted c = passed _ _ _ _ c.if-wanted.false refl
+returns c = passed _ _ _ _ c.if-wanted.false refl

@@ -11,5 +11,5 @@ returns-then-run c = no_analog _ _ _ c.args.state _ _ _ _ c.if-wanted-run.true _
 pub returns-then-wanted-run : goal.returns-then-wanted-run
 returns-then-wanted-run c = no_clock _ _ _ c.args.state _ _ _ _ c.if-wanted-run.true _ c.if-run.false c.note-next-then-wanted-run.ensures
 
-pub returns-then-run-2 : goal.returns
-returns-then-run-2 c = shows_not _ _ _ c.args.state _ _ _ _ c.if-wanted-run.false
+pub returns : goal.returns
+returns c = shows_not _ _ _ c.args.state _ _ _ _ c.if-wanted-run.false

@@ -11,6 +11,6 @@ pub returns-then-two-options : goal.returns-then-two-options
 unfolding warned
 returns-then-two-options c = took _ _ _ _ (ping_pong c.args.two (get_or c.args.options 5 0) true c.if-two-options.true) c.note.ensures
 
-pub returns-then-two-options : goal.returns
+pub returns : goal.returns
 unfolding warned
-returns-then-two-options c = passed _ _ _ _ (ping_pong c.args.two (get_or c.args.options 5 0) false c.if-two-options.false) refl
+returns c = passed _ _ _ _ (ping_pong c.args.two (get_or c.args.options 5 0) false c.if-two-options.false) refl

@@ -10,9 +10,9 @@ returns-then-is_bad_table c =
     let s = c.before.before.before.before.before.before in
     refused_is s.args.config s.args.otp.now (sym c.is_bad_table.ensures ∙ c.if-is_bad_table.true)
 
-pub returns-then-is_bad_table : goal.returns
+pub returns : goal.returns
 unfolding outcome_of
-returns-then-is_bad_table c =
+returns c =
     let d = c.before.before.before.before in
     let s = d.before.before.before.before.before in
     answered_is s.args.config s.args.otp.now _ _ _ (sym d.is_bad_table.ensures ∙ d.if-is_bad_table.false) c.is_approximate-glass.ensures

@@ -34,7 +34,7 @@ returns-then-command c =
     let s = c.before.before.before.before.before.before.before.before.before.before.before.before.before.before.before.before.before in
     points (kept s) s.args.command (given s) (ne_eqb _ _ c.if-command-eq18.false) (ne_eqb _ _ c.if-command-eq32.false) (ne_eqb _ _ c.if-command-eq40.false) _ c.if-command.true c.point.ensures
 
-pub returns-then-command-eq18 : goal.returns
-returns-then-command-eq18 c =
+pub returns : goal.returns
+returns c =
     let s = c.before.before.before.before.before.before.before.before.before.before.before.before.before in
     starts_nothing (kept s) s.args.command (given s) (ne_eqb _ _ c.if-command-eq18.false) (ne_eqb _ _ c.if-command-eq32.false) (ne_eqb _ _ c.if-command-eq40.false) c.if-command.false

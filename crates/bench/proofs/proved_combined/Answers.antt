@@ -27,7 +27,7 @@ returns-then-can_combine c =
           (call.combined-whole.ensures ∙ (λ i. settled (whole_transfer a.setting.now a.periods.now (Lut a.lut) (swing i) a.positive-drives-black))),
     )
 
-pub returns-then-can_combine : goal.returns
-returns-then-can_combine c =
+pub returns : goal.returns
+returns c =
     let s = c.before.before in
     let a = s.args in record { value = sym c.if-can_combine.false ∙ c.can_combine.ensures ∙ ap (λ (z : ℤ). combinable a.periods.now a.lut z) (back s.ranges.swing); out_after = refl }

@@ -54,8 +54,8 @@ returns-then-can_finish c =
     (call.finish-finished.ensures
     ∙ (λ i. finished (ending (until.display_of-display.ensures i) a.positive-drives-black a.periods.now a.at (until.until_of-until.ensures i)) a.luts.now (glass (panel i) a.states.now (picture a.pixels.now a.counts.now)))))
 
-pub returns-then-can_finish : goal.returns
-returns-then-can_finish c =
+pub returns : goal.returns
+returns c =
     let s = started c.before.before in
     let a = s.args in
     let e = ap (λ (z : ℤ). finishable a.periods.now z (length a.states.now) (length a.luts.now) (length a.pixels.now) (length a.counts.now)) (sym (back s.fits.swing))

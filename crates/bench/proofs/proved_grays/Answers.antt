@@ -21,7 +21,7 @@ returns-then-can_gray c =
       call.paint_grays.ensures ∙ ap (λ (z : ℤ). grays z a.states.now) (back s.ranges.swing),
     )
 
-pub returns-then-can_gray : goal.returns
-returns-then-can_gray c =
+pub returns : goal.returns
+returns c =
     let s = c.before.before.before.before in
     let a = s.args in record { value = sym c.if-can_gray.false ∙ c.can_gray.ensures ∙ ap (λ (z : ℤ). grayable z (length a.states.now) (length a.pixels.now)) (back s.ranges.swing); pixels_after = refl }

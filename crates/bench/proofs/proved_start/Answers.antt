@@ -23,5 +23,5 @@ returns-then-can_scan c =
           ∙ (λ i. tab (length a.luts.now) (lut_of a.gates.now a.red.now a.black_white.now (call.geometry_of-geometry.ensures i) (call.scan_of-scan.ensures i))),
     )
 
-pub returns-then-can_scan : goal.returns
-returns-then-can_scan c = record { value = sym c.if-can_scan.false ∙ c.can_scan.ensures; luts_after = refl }
+pub returns : goal.returns
+returns c = record { value = sym c.if-can_scan.false ∙ c.can_scan.ensures; luts_after = refl }

@@ -24,5 +24,5 @@ returns-then-can_walk c =
           ∙ (λ i. setting_transfer a.setting.now a.periods.now (Lut a.lut) (back s.ranges.swing i) a.positive-drives-black (call.until_of-until.ensures i))),
     )
 
-pub returns-then-can_walk : goal.returns
-returns-then-can_walk c = record { value = sym c.if-can_walk.false ∙ c.can_walk.ensures; out_after = refl }
+pub returns : goal.returns
+returns c = record { value = sym c.if-can_walk.false ∙ c.can_walk.ensures; out_after = refl }

@@ -7,11 +7,11 @@ use Rattle.world.specs.World.{world}
 use Rattle.traffic.specs.Traffic.{event_at, shortest}
 use Rattle.bench_device.specs.Whole.{config_of}
 use Rattle.bench_device.proofs.Events.{ran_on}
-use Rattle.bench_device.proofs.proved_traffic.Goals.{After-config_of, After-feed-fed, After-new-started}
+use Rattle.bench_device.proofs.proved_traffic.Goals.{After-config_of, After-feed-fed, After-header_of, After-new-started}
 use Rattle.bench_device.proofs.proved_traffic.Goals as goal
 
 -- the events behind the header
-abbrev events : goal.After-header_of → After-feed-fed
+abbrev events : After-header_of → After-feed-fed
 events c = c.before.before.before.before.before.before.before.before.before.before.before.before.before.before.before.before.before
 
 -- the start behind the events

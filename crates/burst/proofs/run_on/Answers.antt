@@ -58,8 +58,8 @@ pub shape_of-plane : goal.shape_of-plane
 shape_of-plane c = c.loop-i.invariant.1
 
 -- src/lib.rt:107:1
-pub returns-then-not-taken : goal.returns
-returns-then-not-taken c =
+pub returns : goal.returns
+returns c =
     let s = c.before.before.before.before.before.before.before in
     let m = c.loop-i in
     let none : s.args.count - m.i ≡ 0 = omega (arith, c.loop-i-test.false) in

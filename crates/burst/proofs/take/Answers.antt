@@ -18,8 +18,8 @@ returns-then-kind-quiet c =
     leaves_it s.args.course s.args.kind s.args.time s.args.byte _ s.args.reached s.args.plane.now _ c.max_u64-latest.ensures c.is_quiet-quiet.ensures
     _ c.if-kind-quiet.true c.if-write.false w.value (w.plane_after ∙ untouched _ _ _ (sym w.value ∙ c.if-write.false))
 
-pub returns-then-write : goal.returns
-returns-then-write c =
+pub returns : goal.returns
+returns c =
     let s = c.before.before.before.before.before in
     passes_it s.args.course s.args.kind s.args.time s.args.byte _ s.args.reached s.args.plane.now _ c.max_u64-latest.ensures c.is_quiet-quiet.ensures
     c.if-kind-quiet.false

@@ -8,6 +8,6 @@ pub returns-then-display : goal.returns-then-display
 unfolding display_end
 returns-then-display c = took _ _ _ _ c.if-display.true refl
 
-pub returns-then-display : goal.returns
+pub returns : goal.returns
 unfolding display_end
-returns-then-display c = passed _ _ _ _ c.if-display.false refl
+returns c = passed _ _ _ _ c.if-display.false refl

@@ -9,6 +9,6 @@ pub returns-then-config : goal.returns-then-config
 unfolding pin_at
 returns-then-config c = took _ _ _ _ c.if-config.true c.busy-is_busy.ensures
 
-pub returns-then-config : goal.returns
+pub returns : goal.returns
 unfolding pin_at
-returns-then-config c = passed _ _ _ _ c.if-config.false (ap not c.busy-is_busy.ensures)
+returns c = passed _ _ _ _ c.if-config.false (ap not c.busy-is_busy.ensures)

@@ -81,9 +81,9 @@ charge_of-requires c =
     let wave = c.before.before in
     let a = wave.before.before.before.before.before in record { lut = omega (arith, c.number_of_lem.ensures, below_4 (start a).args.lut); bounded = wave.waveform_of-waveform.ensures.bounded }
 
-pub returns-then-not-accepted : goal.returns
+pub returns : goal.returns
 unfolding charged_of
-returns-then-not-accepted c =
+returns c =
     let number = c.before.before in
     let wave = number.before in
     let test = wave.before.before in

@@ -14,8 +14,8 @@ returns-then-is_accepted c =
     goes_on (periods_test s.frame-period ∷ []) (table_test s.otp.now ∷ []) _ _ periods.periods_error-periods.ensures
     (sym test.is_accepted.ensures ∙ test.if-is_accepted.true) c.table_error.ensures
 
-pub returns-then-is_accepted : goal.returns
-returns-then-is_accepted c =
+pub returns : goal.returns
+returns c =
     let periods = c.before.before.before in
     let s = periods.args in
     stops (periods_test s.frame-period ∷ []) (table_test s.otp.now ∷ []) _ periods.periods_error-periods.ensures

@@ -11,12 +11,12 @@ use Rattle.otp.specs.Table.{entry_count, table_test}
 use Rattle.charges.specs.Charge.{long_period_test}
 use Rattle.charges.specs.Report.{charge_text, reported_of}
 use Rattle.charges.proofs.Answers.{unturned, none_long, at_first, at_long, at_lent, at_none}
-use Rattle.charges.proofs.report.Goals.{Start}
+use Rattle.charges.proofs.report.Goals.{After-has_long_period-long_period, Start}
 use Rattle.charges.proofs.report.Goals as goal
 
 -- ---- the tests, and what is left of the buffer
 abbrev Asked : Type 0
-Asked = goal.After-has_long_period-long_period
+Asked = After-has_long_period-long_period
 
 abbrev start : Asked → Start
 start c = c.before.before.before.before.before
@@ -67,9 +67,9 @@ put_text-requires c =
     let test = c.before.before.before in
     let a = test.before.before.before in record { room = eqb-true (length (out a)) (88 * entry_count (table a)) (unturned _ test.if-other_length.false); periods = none_long (periods a) (sym a.has_long_period-long_period.ensures ∙ test.if-long_period.false) }
 
-pub returns-then-not-accepted : goal.returns
+pub returns : goal.returns
 unfolding reported_of
-returns-then-not-accepted c =
+returns c =
     let put = c.before.before.before in
     let test = put.before.before.before in
     let a = test.before.before.before in

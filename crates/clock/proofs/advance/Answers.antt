@@ -15,7 +15,7 @@ end_display-shown-requires c =
     let s = c.before.before.before.before.before.before.before.before.before.before in
     ready_now s.args.state _ _ s.args.states.now s.args.luts.now s.args.pixels.now s.args.counts.now c.move_clock-moved.ensures s.requires
 
-pub returns-then-is_quiet : goal.returns
-returns-then-is_quiet c =
+pub returns : goal.returns
+returns c =
     let s = c.args in
     advances s.luts.now s.time (with_glass s.state s.states.now (picture s.pixels.now s.counts.now)) _ _ _ _ c.move_clock-moved.ensures c.end_display-shown.ensures c.lower_busy-bus.ensures c.set_bus.ensures

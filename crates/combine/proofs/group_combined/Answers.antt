@@ -18,7 +18,7 @@ use Rattle.combine.specs.Acts.{Repeated, swing_in}
 use Rattle.combine.specs.Groups.{timed_group}
 use Rattle.combine.proofs.Powers.{Swing, swing_is, acts_as}
 use Rattle.combine.proofs.Phases.{walk_extends, start_acts, drive_again}
-use Rattle.combine.proofs.group_combined.Goals.{After-repeats-repeats}
+use Rattle.combine.proofs.group_combined.Goals.{After-repeats-repeats, After-struct_told-1, Start}
 use Rattle.combine.proofs.group_combined.Goals as goal
 
 once_is : (d : Driving) (g : Group) → g.repeats ≡ 1 → four_in d g ≡ group_in d g
@@ -26,7 +26,7 @@ unfolding joined
 once_is d g e = ap (λ (n : ℕ). joined n (λ k. four_in d g)) (sym e)
 
 -- the group that is read, and how often it runs
-abbrev group_at : (c : goal.Start) → Group
+abbrev group_at : (c : Start) → Group
 group_at c = timed_group c.args.setting.now c.args.frame_period.now c.args.group
 
 repeats_are : (c : After-repeats-repeats) → c.repeats-repeats.result ≡ (group_at c.before).repeats
@@ -34,7 +34,7 @@ unfolding group_codes_of
 repeats_are c = c.repeats-repeats.ensures
 
 -- the swing of the group's walk, as the machine has it
-swing_in : (c : goal.After-struct_told-1) → Swing c.args.driving.swing
+swing_in : (c : After-struct_told-1) → Swing c.args.driving.swing
 swing_in c = swing_is (record { sfits = c.struct_told-1.given.1.1.0.1 }) c.requires.1.some
 
 pub returns-then-once : goal.returns-then-once
@@ -55,8 +55,8 @@ returns-then-once c =
 pub repeated-requires : goal.repeated-requires
 repeated-requires c = tt
 
-pub returns-then-once : goal.returns
-returns-then-once c =
+pub returns : goal.returns
+returns c =
     let test = c.before in
     let call = test.before in
     let told = call.before.before in

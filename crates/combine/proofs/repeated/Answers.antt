@@ -27,5 +27,5 @@ loop-left-preserved c =
     (λ w. halving_of w.1 c.then-power.ensures (halving_even more w.0.left m.loop-left.invariant))
     c.if-left-eq1.branch
 
-pub returns-then-times-eq0 : goal.returns
-returns-then-times-eq0 c = halving_end (λ h. omega (arith, c.loop-left-test.false)) c.then.ensures c.loop-left.invariant
+pub returns : goal.returns
+returns c = halving_end (λ h. omega (arith, c.loop-left-test.false)) c.then.ensures c.loop-left.invariant

@@ -16,9 +16,9 @@ returns-then-transfer c =
     let hi = field_back t.hi g.1.1.0.1 in
     took _ _ _ _ (sym (λ i. le_z (hi i) (lo i)) ∙ c.if-transfer.true) (λ i. record { add = pos 0; lo = lo i; hi = hi i })
 
-pub returns-then-transfer : goal.returns
+pub returns : goal.returns
 unfolding settled
-returns-then-transfer c =
+returns c =
     let t = c.args.transfer in
     let g = c.struct_told-1.given in
     let lo = field_back t.lo g.1.0.1 in

@@ -5,5 +5,5 @@ use Rattle.numbers.proofs.Cases.{passed}
 use Rattle.glass.specs.Transfers.{identity_t}
 use Rattle.combine.proofs.start.Goals as goal
 
-pub returns-then-once : goal.returns
-returns-then-once c = let s = c.before.before in passed _ _ _ _ c.if-once.false (c.identity.ensures ∙ ap identity_t (back s.ranges.swing))
+pub returns : goal.returns
+returns c = let s = c.before.before in passed _ _ _ _ c.if-once.false (c.identity.ensures ∙ ap identity_t (back s.ranges.swing))

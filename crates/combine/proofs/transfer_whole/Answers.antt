@@ -25,20 +25,21 @@ use Rattle.combine.proofs.Powers.{Swing, swing_is, sane, acts_as}
 use Rattle.combine.proofs.Phases.{walk_acts, walk_extends, start_acts, drive_none, drive_more}
 use Rattle.combine.proofs.Unique.{unique, settled_alike}
 use Rattle.combine.proofs.transfer_whole.Invariants.{of}
+use Rattle.combine.proofs.transfer_whole.Goals.{After-from_setting-levels, Start}
 use Rattle.combine.proofs.transfer_whole.Goals as goal
 
 -- what drives, by its levels and its swing
-abbrev driving : goal.Start → Levels → ℤ → Driving
+abbrev driving : Start → Levels → ℤ → Driving
 driving s levels swing = record { levels = levels; drive = s.args.drive; swing = swing; positive_drives_black = s.args.positive_drives_black }
 
 -- the same as the machine reads them
-abbrev machine : goal.After-from_setting-levels → Driving
+abbrev machine : After-from_setting-levels → Driving
 machine c = driving c.before c.from_setting-levels.result (rd c.args.swing)
 
-swings : (s : goal.Start → Swing s.args.swing
+swings : (s : Start → Swing s.args.swing
 swings s = swing_is s.ranges.swing s.requires.1
 
-swings_in : (s : goal.Start → Swing (rd s.args.swing)
+swings_in : (s : Start → Swing (rd s.args.swing)
 swings_in s = subst Swing (sym (back s.ranges.swing)) (swings s)
 
 pub loop-k-init : goal.loop-k-init

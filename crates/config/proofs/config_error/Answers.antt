@@ -54,8 +54,8 @@ returns-then-is_accepted c =
     goes_on (panel g) (rest g) _ _ e.geometry_error-geometry.ensures (sym d.is_accepted.ensures ∙ d.if-is_accepted.true)
     (stops (swing g) (after_swing g) _ d.swing_error-swing.ensures (sym c.is_accepted-then-is_accepted.ensures ∙ c.if-is_accepted-2.false))
 
-pub returns-then-is_accepted-3 : goal.returns
-returns-then-is_accepted-3 c =
+pub returns : goal.returns
+returns c =
     let e = c.before.before in
     let g = e.args.config in
     stops (panel g) (rest g) _ e.geometry_error-geometry.ensures (sym c.is_accepted.ensures ∙ c.if-is_accepted.false)

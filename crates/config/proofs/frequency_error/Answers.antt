@@ -11,6 +11,6 @@ pub returns-then-frequency-eq0 : goal.returns-then-frequency-eq0
 unfolding answer_of
 returns-then-frequency-eq0 c = refuses (frequency_test c.args.frequency) [] _ (eq-eqb _ 0 c.if-frequency-eq0.true) refl
 
-pub returns-then-frequency-eq0 : goal.returns
+pub returns : goal.returns
 unfolding answer_of
-returns-then-frequency-eq0 c = passes (frequency_test c.args.frequency) [] _ (ne_eqb _ 0 c.if-frequency-eq0.false) (none_left _ refl)
+returns c = passes (frequency_test c.args.frequency) [] _ (ne_eqb _ 0 c.if-frequency-eq0.false) (none_left _ refl)

@@ -27,9 +27,9 @@ returns-then-native-panel c =
     (passes (panel_outside_ram p) (odd_rows_with_gd p ∷ []) _ c.if-sources-panel.false
     (refuses (odd_rows_with_gd p) [] _ c.if-native-panel.true refl))
 
-pub returns-then-panel : goal.returns
+pub returns : goal.returns
 unfolding answer_of
-returns-then-panel c =
+returns c =
     let p = c.args.panel in
     passes (empty_panel p) (panel_outside_ram p ∷ odd_rows_with_gd p ∷ []) _ c.if-panel.false
     (passes (panel_outside_ram p) (odd_rows_with_gd p ∷ []) _ c.if-sources-panel.false

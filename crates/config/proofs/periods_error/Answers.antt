@@ -37,9 +37,9 @@ loop-code-smaller c = omega arith
 pub loop-code-preserved : goal.loop-code-preserved
 loop-code-preserved c = (omega arith, below_more _ _ c.loop-code.invariant.1 (ne_eqb _ 0 c.if-periods-code-eq0.false))
 
-pub returns-then-periods-code-eq0 : goal.returns
+pub returns : goal.returns
 unfolding answer_of
-returns-then-periods-code-eq0 c =
+returns c =
     let periods = c.args.periods in
     let n : c.loop-code.code ≡ 16 = omega arith in
     let e = lowest_none (is_zero periods) 16 (rw n at c.loop-code.invariant.1) in

@@ -11,6 +11,6 @@ pub returns-then-optics-eq0 : goal.returns-then-optics-eq0
 unfolding answer_of
 returns-then-optics-eq0 c = refuses (swing_test c.args.optics) [] _ (eq-eqb _ 0 c.if-optics-eq0.true) refl
 
-pub returns-then-optics-eq0 : goal.returns
+pub returns : goal.returns
 unfolding answer_of
-returns-then-optics-eq0 c = passes (swing_test c.args.optics) [] _ (ne_eqb _ 0 c.if-optics-eq0.false) (none_left _ refl)
+returns c = passes (swing_test c.args.optics) [] _ (ne_eqb _ 0 c.if-optics-eq0.false) (none_left _ refl)

@@ -6,5 +6,5 @@ use Rattle.data.proofs.report_extra.Goals as goal
 pub returns-then-active : goal.returns-then-active
 returns-then-active c = took _ _ _ _ c.if-active.true refl
 
-pub returns-then-active : goal.returns
-returns-then-active c = passed _ _ _ _ c.if-active.false c.report.ensures
+pub returns : goal.returns
+returns c = passed _ _ _ _ c.if-active.false c.report.ensures

@@ -6,5 +6,5 @@ use Rattle.data.proofs.report_range.Goals as goal
 pub returns-then-active : goal.returns-then-active
 returns-then-active c = past c.args.active (with_log c.args.state c.args.log.now) c.if-active.true
 
-pub returns-then-active : goal.returns
-returns-then-active c = past_first c.args.active (with_log c.args.state c.args.log.now) _ c.if-active.false c.report.ensures
+pub returns : goal.returns
+returns c = past_first c.args.active (with_log c.args.state c.args.log.now) _ c.if-active.false c.report.ensures

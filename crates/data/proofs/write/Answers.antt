@@ -20,8 +20,8 @@ shape_of-black_white c = c.write_other.auto.black_white ∙ c.stream-step.auto.b
 pub shape_of-red : goal.shape_of-red
 shape_of-red c = c.write_other.auto.red ∙ c.stream-step.auto.red
 
-pub returns-then-step : goal.returns
-returns-then-step c =
+pub returns : goal.returns
+returns c =
     let s = c.args in
     let k = c.stream-step in
     not_taken s.byte s.state s.black_white.now s.red.now k.result k.new.black_white k.new.red k.ensures.done_value k.ensures.by_index

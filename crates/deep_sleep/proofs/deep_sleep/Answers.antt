@@ -17,5 +17,5 @@ shape_of-log-then-low-eq3 c = c.check-noted.auto.log
 pub returns-then-low-eq3 : goal.returns-then-low-eq3
 returns-then-low-eq3 c = let s = c.before.before.before.before.before.before.before.before.before.before.before.before.before.before.before.before.before.before.before.before in loses s.args.byte (given s) _ _ c.check-noted.ensures c.mode-low.ensures _ _ _ c.if-low-eq3.true c.fill.ensures c.fill-then-low-eq3.ensures c.fall_asleep.ensures
 
-pub returns-then-low-eq0 : goal.returns
-returns-then-low-eq0 c = let s = c.before.before.before.before.before.before.before.before.before.before.before.before in keeps s.args.byte (given s) _ _ c.check-noted.ensures c.mode-low.ensures _ c.if-low-eq0.false c.if-low-eq3.false c.fall_asleep-2.ensures
+pub returns : goal.returns
+returns c = let s = c.before.before.before.before.before.before.before.before.before.before.before.before in keeps s.args.byte (given s) _ _ c.check-noted.ensures c.mode-low.ensures _ c.if-low-eq0.false c.if-low-eq3.false c.fall_asleep-2.ensures

@@ -6,6 +6,6 @@ pub returns-then-journal : goal.returns-then-journal
 unfolding reserved_reported
 returns-then-journal c = rw c.if-journal.true
 
-pub returns-then-journal : goal.returns
+pub returns : goal.returns
 unfolding reserved_reported
-returns-then-journal c = rw c.if-journal.false c.report.ensures
+returns c = rw c.if-journal.false c.report.ensures

@@ -54,9 +54,9 @@ last_byte-requires c =
     let s = c.before.before.before in
     subst Coded (sym s.requires.1.found) (all_coded s.args.sheet s.requires.1.passes.supplied)
 
-pub returns-then-at-lt50 : goal.returns
+pub returns : goal.returns
 unfolding sheet_byte
-returns-then-at-lt50 c =
+returns c =
     let m = c.before in
     let s = m.before.before.before in
     let at = s.args.at in

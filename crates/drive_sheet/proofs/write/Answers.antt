@@ -77,8 +77,8 @@ fill-requires c =
     let found = all.before.before.before.before.before.before.before in
     (all.if-out-ne-SETTING_BYTES.false, record { passes = writable all; found = found.find_codes-codes.ensures.codes })
 
-pub returns-then-out-ne-SETTING_BYTES : goal.returns
-returns-then-out-ne-SETTING_BYTES c =
+pub returns : goal.returns
+returns c =
     let all = c.before.before.before.before.before in
     let tested = all.before.before.before.before in
     let s = start tested in

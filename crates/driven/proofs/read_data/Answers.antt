@@ -39,8 +39,8 @@ returns-then-is_accepted c =
     let s = started a in
     read_moves s.args.luts.now s.args.black_white.now s.args.red.now s.args.time (given s) _ _ _ a.before.before.planes-log-lent.ensures a.before.check.ensures a.is-accepted.ensures _ _ p.if1.taken advanced.advance-present.ensures c.read-reading.ensures
 
-pub returns-then-is_accepted : goal.returns
-returns-then-is_accepted c =
+pub returns : goal.returns
+returns c =
     let a = c.before.before in
     let s = started a in
     read_refused s.args.luts.now s.args.black_white.now s.args.red.now s.args.time (given s) _ _ _ a.planes_log_lent-lengths.ensures a.check-refusal.ensures a.is_accepted.ensures c.if-is_accepted.false

@@ -8,7 +8,7 @@ use Rattle.panel.specs.declared.Panel.{Panel}
 use Rattle.finish.specs.declared.refresh.DisplayDrive.{DisplayDrive}
 use Rattle.finish.specs.Refresh.{AllWalkable, waveform_in}
 use Rattle.finish.proofs.Steps.{finishes}
-use Rattle.finish.proofs.finish.Goals.{After-count, After-display_drive-refresh, After-repaint, Start}
+use Rattle.finish.proofs.finish.Goals.{After-count, After-display_drive-refresh, After-drive_border-moved, After-repaint, Start}
 use Rattle.finish.proofs.finish.Goals as goal
 
 drivable : (c : After-display_drive-refresh) → AllWalkable (waveform_in c.display_drive-refresh.result)
@@ -40,7 +40,7 @@ publish-requires c =
 
 pub returns : goal.returns
 returns c =
-    let driven : goal.After-drive_border-moved = search in
+    let driven : After-drive_border-moved = search in
     let counted : After-count = search in
     let painted : After-repaint = search in
     let call : After-display_drive-refresh = search in

@@ -2,9 +2,10 @@
 use Prim.Native.Nat.{◌*◌, ◌%◌, ◌≤◌}
 use native.Mathlib.Omega.{arith}
 use Rattle.frequency.proofs.Apart.{up_rest, up_met}
+use Rattle.frequency.proofs.nanos_to_cycles.Goals.{After-saturating_mul_u64-whole}
 use Rattle.frequency.proofs.nanos_to_cycles.Goals as goal
 
-rest : (c : goal.After-saturating_mul_u64-whole) → c.args.ns % 1000000000 * c.args.frequency ≤ 999999999 * 4294967295
+rest : (c : After-saturating_mul_u64-whole) → c.args.ns % 1000000000 * c.args.frequency ≤ 999999999 * 4294967295
 rest c = let s = c.before in up_rest s.args.frequency s.args.ns s.ranges.frequency.fits
 
 pub overflow_mul-rest : goal.overflow_mul-rest

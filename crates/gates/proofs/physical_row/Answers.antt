@@ -13,6 +13,6 @@ pub returns-then-geometry : goal.returns-then-geometry
 unfolding physical_row
 returns-then-geometry c = rw (c.if-geometry.true, ← c.native_row-row.ensures)
 
-pub returns-then-geometry : goal.returns
+pub returns : goal.returns
 unfolding physical_row
-returns-then-geometry c = rw (c.if-geometry.false, ← c.native_row-row.ensures)
+returns c = rw (c.if-geometry.false, ← c.native_row-row.ensures)

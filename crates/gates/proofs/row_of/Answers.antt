@@ -36,6 +36,6 @@ pub returns-then-scan-3 : goal.returns-then-scan-3
 unfolding row_of
 returns-then-scan-3 c = rw (c.if-scan.false, c.if-scan-3.true) (exchanged c.args.gate)
 
-pub returns-then-even : goal.returns
+pub returns : goal.returns
 unfolding row_of
-returns-then-even c = rw (c.if-scan.false, c.if-scan-3.false)
+returns c = rw (c.if-scan.false, c.if-scan-3.false)

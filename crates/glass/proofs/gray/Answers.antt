@@ -8,6 +8,7 @@ use Rattle.glass.specs.Greys.{gray_z}
 use Rattle.numbers.proofs.Lin.{whole, rd, ranged, back, unsigned, abs_pos, abs_back}
 use Rattle.numbers.proofs.Quot.{gray_lt}
 use Rattle.glass.proofs.Grey.{gray_low, gray_high, gray_mid}
+use Rattle.glass.proofs.gray.Goals.{Else-swing-state}
 use Rattle.glass.proofs.gray.Goals as goal
 
 pub returns-then-state-le0 : goal.returns-then-state-le0
@@ -22,13 +23,13 @@ overflow_cast-state c = let s = c.before.before in unsigned s.ranges.state (omeg
 pub overflow_cast-swing : goal.overflow_cast-swing
 overflow_cast-swing c = let s = c.before.before in unsigned s.ranges.swing (omega whole)
 
-abbrev state : goal.Else-swing-state → ℕ
+abbrev state : Else-swing-state → ℕ
 state c = nat_abs (rd c.args.state)
 
-abbrev swing : goal.Else-swing-state → ℕ
+abbrev swing : Else-swing-state → ℕ
 swing c = nat_abs (rd c.args.swing)
 
-within : (c : goal.Else-swing-state) → (state c < swing c) × (swing c < 9223372036854775808)
+within : (c : Else-swing-state) → (state c < swing c) × (swing c < 9223372036854775808)
 within c =
     let s = c.before.before in
     let f = ranged s.ranges.state in
@@ -45,8 +46,8 @@ nearest-requires c = within c
 pub overflow_cast-result : goal.overflow_cast-result
 overflow_cast-result c = record { fits = omega (arith, c.nearest.ensures, gray_lt _ _ (within c.before).0) }
 
-pub returns-then-state-le0 : goal.returns
-returns-then-state-le0 c =
+pub returns : goal.returns
+returns c =
     let s = c.before.before.before in
     c.nearest.ensures
     ∙ gray_mid (state c.before) (swing c.before) (within c.before).0

@@ -20,8 +20,8 @@ returns-then-highest-transfer c =
     subst (λ (m : Move). Does t m) (sym (λ i. record { lo = lo i; hi = lo i; add = pos 0 }))
     (all_below t (word (record { sfits = g.0.1 })) (word (record { sfits = g.1.0.1 })) (word (record { sfits = g.1.1.0.1 })) (omega whole))
 
-pub returns-then-highest-transfer : goal.returns
-returns-then-highest-transfer c =
+pub returns : goal.returns
+returns c =
     let low-call = c.before.before.before.before in
     let sum = low-call.before.before.before.before.before.before in
     let s = sum.before.before in

@@ -22,9 +22,9 @@ returns-then-not-counted c =
     (passed _ _ _ _ (ap not (sym c.lengths_fit-fit.ensures) ∙ c.if-not-fit.false)
     (took _ _ _ _ (ap not (sym c.counts_fit-counted.ensures) ∙ c.if-not-counted.true) refl))
 
-pub returns-then-not-fine : goal.returns
+pub returns : goal.returns
 unfolding guarded
-returns-then-not-fine c =
+returns c =
     passed _ _ _ _ (ap not (sym c.state_is_fine-fine.ensures) ∙ c.if-not-fine.false)
     (passed _ _ _ _ (ap not (sym c.lengths_fit-fit.ensures) ∙ c.if-not-fit.false)
     (passed _ _ _ _ (ap not (sym c.counts_fit-counted.ensures) ∙ c.if-not-counted.false) refl))

@@ -14,7 +14,7 @@ returns-then-bad c =
     table_decides _ _ _ _ c.check-refusal.ensures _ (sym c.is_accepted-accepted.ensures ∙ not_false _ c.if-not-accepted.false)
     (took _ _ _ _ (sym c.is_bad_table-bad.ensures ∙ c.if-bad.true) refl)
 
-pub returns-then-not-accepted : goal.returns
-returns-then-not-accepted c =
+pub returns : goal.returns
+returns c =
     table_decides _ _ _ _ c.check-refusal.ensures _ (sym c.is_accepted-accepted.ensures ∙ not_false _ c.if-not-accepted.false)
     (passed _ _ _ _ (sym c.is_bad_table-bad.ensures ∙ c.if-bad.false) refl)

@@ -14,8 +14,8 @@ step-b-requires c = bounded _ _ c.step-a.ensures
 pub step-c-requires : goal.step-c-requires
 step-c-requires c = bounded _ _ c.step-b.ensures
 
-pub step-a-requires : goal.step-requires
-step-a-requires c = bounded _ _ c.step-c.ensures
+pub step-requires : goal.step-requires
+step-requires c = bounded _ _ c.step-c.ensures
 
 -- four steps, one after the other, each of a byte that is known
 steps : (h : ℕ) {a b d r x y z w x' y' z' w' : ℕ} → a ≡ step_of h x → b ≡ step_of a y → d ≡ step_of b z → r ≡ step_of d w → x ≡ x' → y ≡ y' → z ≡ z' → w ≡ w'

@@ -18,8 +18,8 @@ returns-then-is_negative c =
     negative s.args.state (c.magnitude_i64-size.ensures ∙ ap nat_abs (back s.ranges.state))
     (sym (c.is_negative.ensures ∙ ap (λ (z : ℤ). lt_z z (pos 0)) (back s.ranges.state)) ∙ c.if-is_negative.true)
 
-pub returns-then-is_negative : goal.returns
-returns-then-is_negative c =
+pub returns : goal.returns
+returns c =
     let s = c.before.before.before in
     positive s.args.state (c.magnitude_i64-size.ensures ∙ ap nat_abs (back s.ranges.state))
     (sym (c.is_negative.ensures ∙ ap (λ (z : ℤ). lt_z z (pos 0)) (back s.ranges.state)) ∙ c.if-is_negative.false)

@@ -7,8 +7,8 @@ use Rattle.hash.specs.Hash.{hash_from, pattern_of, four_of, state_bytes}
 use Rattle.hash.proofs.Laws.{hash_more, hash_below}
 use Rattle.hash.proofs.state.Goals as goal
 
-pub four-half-requires : goal.four-requires
-four-half-requires c = subst (λ (n : ℕ). n < 4294967291) (sym c.four-half.ensures) (hash_below _ _ c.requires)
+pub four-requires : goal.four-requires
+four-requires c = subst (λ (n : ℕ). n < 4294967291) (sym c.four-half.ensures) (hash_below _ _ c.requires)
 
 halves : (h : ℕ) {n m a r : ℕ} → n ≡ m → a ≡ hash_from h (four_of n) → r ≡ hash_from a (four_of (n / 2 ^ 32)) → r ≡ hash_from h (four_of m ++ four_of (m / 2 ^ 32) ++ [])
 halves h {n} {m} e ea er =

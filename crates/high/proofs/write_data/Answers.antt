@@ -3,7 +3,7 @@ use Rattle.counts.specs.Counts.{picture}
 use Rattle.world.specs.World.{with_ram, WithPlanes, with_planes}
 use Rattle.data.proofs.Taken.{taken, not_taken, still_not}
 use Rattle.high.proofs.Cases.{data_ready, data_log, data_moves, data_rests, data_refused}
-use Rattle.high.proofs.write_data.Goals.{After-is_accepted, After-stream-step, Start}
+use Rattle.high.proofs.write_data.Goals.{After-is_accepted, After-move_clock-moved, After-stream-step, Start, Then-is_accepted}
 use Rattle.high.proofs.write_data.Goals as goal
 
 -- the state and the buffers as lent
@@ -15,11 +15,11 @@ abbrev started : After-is_accepted → Start
 started c = c.before.before.before.before.before.before.before.before.before.before
 
 -- the test behind a clock moved
-abbrev passed : goal.After-move_clock-moved → goal.Then-is_accepted
+abbrev passed : After-move_clock-moved → Then-is_accepted
 passed c = c.before.before
 
 -- the clock moved behind a byte streamed
-abbrev moved : After-stream-step → goal.After-move_clock-moved
+abbrev moved : After-stream-step → After-move_clock-moved
 moved c = c.before.before.before.before.before.before
 
 pub returns-then-step : goal.returns-then-step
@@ -72,8 +72,8 @@ returns-then-is_accepted c =
     let s = started a in
     data_moves s.args.luts.now s.args.time s.args.byte (given s) _ _ _ a.planes_log_lent-lengths.ensures a.check-refusal.ensures a.is_accepted.ensures _ _ p.if-is_accepted.true c.advance-present.ensures c.write-state.ensures
 
-pub returns-then-step : goal.returns
-returns-then-step c =
+pub returns : goal.returns
+returns c =
     let a = c.before.before in
     let s = started a in
     data_refused s.args.luts.now s.args.time s.args.byte (given s) _ _ _ a.planes_log_lent-lengths.ensures a.check-refusal.ensures a.is_accepted.ensures c.if-is_accepted.false

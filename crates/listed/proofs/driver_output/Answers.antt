@@ -22,8 +22,8 @@ returns-then-index-eq1 c =
       up start.mux 679,
     )
 
-pub returns-then-index-eq0 : goal.returns
-returns-then-index-eq0 c =
+pub returns : goal.returns
+returns c =
     let start = c.args in
     rw (ne_eqb start.index 0 c.if-index-eq0.false, ne_eqb start.index 1 c.if-index-eq1.false)
     (agree (λ (b : ℕ). eqb (bit_and b 0xF9) 0) (λ (b : ℕ). eqb (b % 2) 0 && ltb b 8) tt start.byte (omega arith))

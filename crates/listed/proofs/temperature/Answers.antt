@@ -5,5 +5,5 @@ use Rattle.listed.proofs.temperature.Goals as goal
 pub returns-then-index-eq0 : goal.returns-then-index-eq0
 returns-then-index-eq0 c = rw (eq-eqb c.args.index 0 c.if-index-eq0.true)
 
-pub returns-then-index-eq0 : goal.returns
-returns-then-index-eq0 c = rw (ne_eqb c.args.index 0 c.if-index-eq0.false, c.low_nibble.ensures)
+pub returns : goal.returns
+returns c = rw (ne_eqb c.args.index 0 c.if-index-eq0.false, c.low_nibble.ensures)

@@ -12,5 +12,5 @@ returns-then-index-eq0 c =
       c.low_nibble.ensures,
     )
 
-pub returns-then-index-eq0 : goal.returns
-returns-then-index-eq0 c = rw (ne_eqb c.args.index 0 c.if-index-eq0.false)
+pub returns : goal.returns
+returns c = rw (ne_eqb c.args.index 0 c.if-index-eq0.false)

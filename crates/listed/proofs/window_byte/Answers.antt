@@ -12,7 +12,7 @@ returns-then-index-lt2 c =
     let start = c.args in
     rw (ne_eqb (start.index % 2) 0 c.if-index-eq0.false, lt-ltb start.index 2 (omega arith), c.two_bits.ensures)
 
-pub returns-then-index-eq0 : goal.returns
-returns-then-index-eq0 c =
+pub returns : goal.returns
+returns c =
     let start = c.args in
     rw (ne_eqb (start.index % 2) 0 c.if-index-eq0.false, le-ltb start.index 2 (omega arith), c.two_bits-2.ensures)

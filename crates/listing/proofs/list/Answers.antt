@@ -55,8 +55,8 @@ returns-then-setting-eq-SETTING_BYTES c =
       omega (arith, put.put_listing.ensures.end),
     )
 
-pub returns-then-out-lt-ROOM : goal.returns
-returns-then-out-lt-ROOM c =
+pub returns : goal.returns
+returns c =
     let put = c.before.before.before in
     let test = put.before.before in
     let s = test.args in record { text = roomy s.setting.now s.out.now not_a_setting (omega arith) put.put_not_a_setting.ensures.text (not_text s.setting.now test.if-setting-eq-SETTING_BYTES.false); within = omega (arith, put.put_not_a_setting.ensures.end) }

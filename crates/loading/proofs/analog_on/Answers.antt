@@ -14,6 +14,6 @@ pub returns-then-wanted-run : goal.returns-then-wanted-run
 unfolding analog_on
 returns-then-wanted-run c = took _ _ _ _ c.if-wanted-run.true (passed _ _ _ _ c.if-run.false c.note.ensures)
 
-pub returns-then-run : goal.returns
+pub returns : goal.returns
 unfolding analog_on
-returns-then-run c = passed _ _ _ _ c.if-wanted-run.false refl
+returns c = passed _ _ _ _ c.if-wanted-run.false refl

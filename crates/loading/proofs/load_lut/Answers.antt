@@ -7,6 +7,6 @@ returns-then-entry-eq-ENTRY_BYTES c =
     let found = c.find_waveform-entry.ensures in
     finds _ _ _ _ _ found.0 _ _ c.if-entry-eq-ENTRY_BYTES.true c.setting_of-lut.ensures found.1
 
-pub returns-then-entry-eq-ENTRY_BYTES : goal.returns
-returns-then-entry-eq-ENTRY_BYTES c =
+pub returns : goal.returns
+returns c =
     finds_none _ _ _ _ _ c.find_waveform-entry.ensures.0 _ c.if-entry-eq-ENTRY_BYTES.false c.note.ensures

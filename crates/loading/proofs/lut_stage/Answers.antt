@@ -14,6 +14,6 @@ pub returns-then-wanted : goal.returns-then-wanted
 unfolding lut_loaded
 returns-then-wanted c = took _ _ _ _ c.if-wanted.true (passed _ _ _ _ c.if-run.false c.note.ensures)
 
-pub returns-then-run : goal.returns
+pub returns : goal.returns
 unfolding lut_loaded
-returns-then-run c = passed _ _ _ _ c.if-wanted.false refl
+returns c = passed _ _ _ _ c.if-wanted.false refl

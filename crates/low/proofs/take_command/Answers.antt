@@ -3,7 +3,7 @@ use mathlib.Core.Path.{◌∙◌}
 use Rattle.counts.specs.Counts.{picture}
 use Rattle.world.specs.World.{with_buffers, lent}
 use Rattle.low.proofs.Cases.{still_activatable, takes}
-use Rattle.low.proofs.take_command.Goals.{After-advance-present, After-begin, After-close_command-closed, Start}
+use Rattle.low.proofs.take_command.Goals.{After-advance-present, After-begin, After-begin-arg-5-1, After-close_command-arg-1, After-close_command-closed, Start}
 use Rattle.low.proofs.take_command.Goals as goal
 
 -- a place of the code is found by its type: where the code starts, from the clock's move
@@ -11,11 +11,11 @@ abbrev start : goal.After-advance-arg4 → Start
 start c = search
 
 -- the clock's move, from the close of the last command
-abbrev moving : goal.After-close_command-arg-1 → After-advance-present
+abbrev moving : After-close_command-arg-1 → After-advance-present
 moving c = search
 
 -- and that close, from the new command's begin
-abbrev closing : goal.After-begin-arg-5-1 → After-close_command-closed
+abbrev closing : After-begin-arg-5-1 → After-close_command-closed
 closing c = search
 
 pub close_command-closed-requires : goal.close_command-closed-requires

@@ -2,7 +2,7 @@
 use Rattle.counts.specs.Counts.{picture}
 use Rattle.world.specs.World.{WithBuffers, with_buffers, Lent, lent}
 use Rattle.low.proofs.Cases.{command_activatable, command_moves, command_refused}
-use Rattle.low.proofs.write_command.Goals.{After-take_command-state, Start, Then-is_accepted}
+use Rattle.low.proofs.write_command.Goals.{After-shared_slice_known-4-1, After-take_command-arg-then-is_accepted-4-1, After-take_command-state, Start, Then-is_accepted}
 use Rattle.low.proofs.write_command.Goals as goal
 
 -- what is lent and stays as it is
@@ -14,11 +14,11 @@ abbrev given : Start → WithBuffers
 given s = with_buffers s.args.state s.args.states.now s.args.luts.now (picture s.args.pixels.now s.args.counts.now) s.args.log.now
 
 -- a place of the code is found by its type: where the code starts, from the lengths
-abbrev start : goal.After-shared_slice_known-4-1 → Start
+abbrev start : After-shared_slice_known-4-1 → Start
 start c = search
 
 -- and the test of the refusal, from the call that an accepted command makes
-abbrev passing : goal.After-take_command-arg-then-is_accepted-4-1 → Then-is_accepted
+abbrev passing : After-take_command-arg-then-is_accepted-4-1 → Then-is_accepted
 passing c = search
 
 pub take_command-state-requires : goal.take_command-state-requires
@@ -50,8 +50,8 @@ returns-then-is_accepted c =
     passed.if1.taken
     left.take_command-state.ensures
 
-pub returns-then-is_accepted : goal.returns
-returns-then-is_accepted c =
+pub returns : goal.returns
+returns c =
     let tested = c.before.before in
     let checked = tested.before in
     let lengths = checked.before in

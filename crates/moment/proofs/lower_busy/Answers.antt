@@ -7,7 +7,7 @@ returns-then-has_come c =
     let s = c.before.before.before in
     falls s.args.bus s.args.bus.busy_until s.args.moment _ c.has_come.ensures _ c.if-has_come.true c.set_until.ensures
 
-pub returns-then-has_come : goal.returns
-returns-then-has_come c =
+pub returns : goal.returns
+returns c =
     let s = c.before.before in
     stays s.args.bus s.args.bus.busy_until s.args.moment _ c.has_come.ensures c.if-has_come.false

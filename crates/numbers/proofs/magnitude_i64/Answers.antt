@@ -3,6 +3,7 @@ use mathlib.Core.Path.{◌≡◌}
 use Prim.Native.Nat.{◌+◌}
 use lib.IntN.{ℤ, pos, nat_abs, ◌+ℤ◌, ◌-ℤ◌}
 use Rattle.numbers.proofs.Lin.{whole, rd, ranged, add_out, sub_out, fits_is, unsigned, abs_pos, abs_neg, abs_back}
+use Rattle.numbers.proofs.magnitude_i64.Goals.{Then-a-lt0}
 use Rattle.numbers.proofs.magnitude_i64.Goals as goal
 
 abbrev next : ℤ → ℤ
@@ -25,7 +26,7 @@ overflow_cast-result c =
     unsigned {z = minus a} (overflow_sub-result c) (omega (whole, ranged c.ranges.a, ranged (overflow_add-result c), add_out (rd a) (pos 1), sub_out (pos 0) (rd (next a))))
 
 -- one more than the size of -(a + 1) is the size of a
-size : (c : goal.Then-a-lt0) → nat_abs (rd (minus c.args.a)) + 1 ≡ nat_abs c.args.a
+size : (c : Then-a-lt0) → nat_abs (rd (minus c.args.a)) + 1 ≡ nat_abs c.args.a
 size c =
     let a = c.args.a in
     let f = ranged c.ranges.a in

@@ -5,19 +5,19 @@ use native.Mathlib.Nat.{mul-zero}
 use native.Mathlib.Omega.{arith}
 use Rattle.numbers.specs.Saturation.{largest}
 use Rattle.numbers.proofs.Quot.{mul_below, mul_within, mul_past}
-use Rattle.numbers.proofs.saturating_mul_u64.Goals.{Start}
+use Rattle.numbers.proofs.saturating_mul_u64.Goals.{Else-b-a, Start, Then-b-a, Then-b-lt4294967296}
 use Rattle.numbers.proofs.saturating_mul_u64.Goals as goal
 
 abbrev product : Start → ℕ
 product s = s.args.a * s.args.b
 
-narrow : (c : goal.Then-b-lt4294967296) → product c.before.before < 2 ^ 64
+narrow : (c : Then-b-lt4294967296) → product c.before.before < 2 ^ 64
 narrow c = mul_below 32 c.if-a-lt4294967296.true c.if-b-lt4294967296.true
 
-small : (c : goal.Else-b-a) → product c.before.before.before ≤ largest 64
+small : (c : Else-b-a) → product c.before.before.before ≤ largest 64
 small c = mul_within c.args.a c.args.b (largest 64) (let h = c.if-b-eq0.false in omega arith) c.if-b-a.false
 
-large : (c : goal.Then-b-a) → largest 64 < product c.before.before.before
+large : (c : Then-b-a) → largest 64 < product c.before.before.before
 large c = mul_past c.args.a c.args.b (largest 64) (let h = c.if-b-eq0.false in omega arith) c.if-b-a.true
 
 pub overflow_mul-result : goal.overflow_mul-result

@@ -8,6 +8,6 @@ pub returns-then-is_bad_table : goal.returns-then-is_bad_table
 unfolding found_entry
 returns-then-is_bad_table c = took _ _ _ _ (sym c.is_bad_table.ensures ∙ c.if-is_bad_table.true) refl
 
-pub returns-then-is_bad_table : goal.returns
+pub returns : goal.returns
 unfolding found_entry
-returns-then-is_bad_table c = passed _ _ _ _ (sym c.is_bad_table.ensures ∙ c.if-is_bad_table.false) c.last_covering.ensures
+returns c = passed _ _ _ _ (sym c.is_bad_table.ensures ∙ c.if-is_bad_table.false) c.last_covering.ensures

@@ -6,6 +6,7 @@ use Rattle.otp.specs.declared.FoundEntry.TheVariants.{At}
 use Rattle.otp.specs.Table.{entry_count}
 use Rattle.otp.specs.Waveform.{found_entry, part_of, place_of}
 use Rattle.otp.proofs.Found.{found_is, found_few}
+use Rattle.otp.proofs.find_waveform.Goals.{In-At}
 use Rattle.otp.proofs.find_waveform.Goals as goal
 
 pub returns-in_default : goal.returns-in_default
@@ -15,12 +16,12 @@ returns-in_default c =
     (ap (part_of s.args.otp.now) e, ap place_of e)
 
 -- what `find_entry` found
-told : (c : goal.In-At)
+told : (c : In-At)
     → let s = c.before.before.before.before.before.before in found_entry s.args.otp.now s.args.mode s.args.register ≡ At c.in-At.entry
 told c = sym c.find_entry.ensures ∙ c.in-At.is
 
 -- the entry found is one of the table's
-within : (c : goal.In-At) → c.in-At.entry < entry_count c.args.otp.now
+within : (c : In-At) → c.in-At.entry < entry_count c.args.otp.now
 within c =
     let s = c.before.before.before.before.before.before in
     (found_is s.args.otp.now s.args.mode s.args.register _ (told c)).within
@@ -40,8 +41,8 @@ overflow_add-end c = let h = within c in omega arith
 pub slice_bounds-result-end-2 : goal.slice_bounds-result-end-2
 slice_bounds-result-end-2 c = let h = within c in omega arith
 
-pub returns-in_default : goal.returns
-returns-in_default c =
+pub returns : goal.returns
+returns c =
     let s = c.before.before.before.before.before.before.before in
     let entry = c.in-At.entry in
     let e : 118 * entry + 118 - 118 * entry ≡ 118 = omega arith in

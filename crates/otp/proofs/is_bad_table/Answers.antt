@@ -6,6 +6,6 @@ pub returns-then-otp-entries : goal.returns-then-otp-entries
 unfolding bad_table
 returns-then-otp-entries c = rw c.if-otp-entries.true
 
-pub returns-then-otp-entries : goal.returns
+pub returns : goal.returns
 unfolding bad_table
-returns-then-otp-entries c = rw c.if-otp-entries.false c.any_bad_entry.ensures
+returns c = rw c.if-otp-entries.false c.any_bad_entry.ensures

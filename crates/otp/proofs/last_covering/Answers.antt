@@ -24,5 +24,5 @@ pub loop-entry-preserved : goal.loop-entry-preserved
 loop-entry-preserved c =
     (omega arith, c.loop-entry.invariant.1 ∙ last_pass _ _ c.loop-entry-test.true (sym c.covers_register.ensures ∙ c.if-covers_register.false))
 
-pub returns-then-covers_register : goal.returns
-returns-then-covers_register c = let z : c.loop-entry.entry ≡ 0 = omega arith in sym (c.loop-entry.invariant.1 ∙ rw z (last_none _))
+pub returns : goal.returns
+returns c = let z : c.loop-entry.entry ≡ 0 = omega arith in sym (c.loop-entry.invariant.1 ∙ rw z (last_none _))

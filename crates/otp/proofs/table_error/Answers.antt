@@ -10,6 +10,6 @@ pub returns-then-is_bad_table : goal.returns-then-is_bad_table
 unfolding answer_of
 returns-then-is_bad_table c = refuses (table_test _) [] _ (sym c.is_bad_table.ensures ∙ c.if-is_bad_table.true) refl
 
-pub returns-then-is_bad_table : goal.returns
+pub returns : goal.returns
 unfolding answer_of
-returns-then-is_bad_table c = passes (table_test _) [] _ (sym c.is_bad_table.ensures ∙ c.if-is_bad_table.false) (none_left _ refl)
+returns c = passes (table_test _) [] _ (sym c.is_bad_table.ensures ∙ c.if-is_bad_table.false) (none_left _ refl)

@@ -8,9 +8,10 @@ use Rattle.glass.specs.declared.RefreshKind.TheVariants.{PowerOn}
 use Rattle.glass.specs.Greys.{level_z}
 use Rattle.panel.specs.Start.{swing_of, panel_at_power_on}
 use Rattle.panel_laws.proofs.Start.{some_swing}
+use Rattle.panel_start.proofs.at_power_on.Goals.{After-to_i64-swing}
 use Rattle.panel_start.proofs.at_power_on.Goals as goal
 
-swing : (c : goal.After-to_i64-swing) → rd c.to_i64-swing.result ≡ swing_of c.args.optics
+swing : (c : After-to_i64-swing) → rd c.to_i64-swing.result ≡ swing_of c.args.optics
 swing c = got c.to_i64-swing.type_inv c.to_i64-swing.ensures
 
 pub level-border-requires : goal.level-border-requires

@@ -76,8 +76,8 @@ slice_bounds-copy-start c =
     let found = sym test.is_header-fine.ensures ∙ not_false _ fine.if-not-fine.false in
     omega (arith, count.byte_count-start.ensures.count, found_within size.result.width size.result.height s.file.now found)
 
-pub returns-then-not-fine : goal.returns
-returns-then-not-fine c =
+pub returns : goal.returns
+returns c =
     let copy = c.before.before.before in
     let full = copy.before.before.before.before in
     let count = full.before in

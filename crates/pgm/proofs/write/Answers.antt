@@ -40,8 +40,8 @@ returns-then-out-length c =
     write_answered s.width s.height s.pixels.now s.out.now
     (write_73 s.width s.height s.pixels.now s.out.now ranged (omega arith) (omega (arith, count.byte_count-start.ensures.count)) c.not_written-then-out-length.ensures)
 
-pub returns-then-not-fine : goal.returns
-returns-then-not-fine c =
+pub returns : goal.returns
+returns c =
     let copy = c.before.before.before in
     let put = copy.before.before.before.before in
     let count = put.before.before.before in

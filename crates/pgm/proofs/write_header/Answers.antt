@@ -21,8 +21,8 @@ returns-then-out-length c =
     let ranged = sym test.is_in_range.ensures ∙ not_false _ fine.if-not-fine.false in
     header_answered s.width s.height s.out.now (header_73 s.width s.height s.out.now ranged (omega (arith, count.byte_count-length.ensures.count)) c.not_written-then-out-length.ensures)
 
-pub returns-then-not-fine : goal.returns
-returns-then-not-fine c =
+pub returns : goal.returns
+returns c =
     let put = c.before.before.before in
     let count = put.before.before.before in
     let fine = count.before in

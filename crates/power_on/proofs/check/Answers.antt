@@ -27,8 +27,8 @@ returns-then-is_accepted c =
     let s : Start = search in
     refuses_buffer s.args.config s.args.otp.now s.args.lengths _ _ _ asked.validate-error.ensures asked.lengths_fit-fit.ensures asked.counts_fit-counted.ensures (sym asked.is_accepted.ensures ∙ valid.if-is_accepted.true) c.if-fit.false
 
-pub returns-then-counted : goal.returns
-returns-then-counted c =
+pub returns : goal.returns
+returns c =
     let asked = c.before.before in
     let s : Start = search in
     refuses_parameters s.args.config s.args.otp.now s.args.lengths _ _ _ asked.validate-error.ensures asked.lengths_fit-fit.ensures asked.counts_fit-counted.ensures (sym asked.is_accepted.ensures ∙ c.if-is_accepted.false)

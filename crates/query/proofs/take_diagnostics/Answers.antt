@@ -7,6 +7,6 @@ pub returns-then-is_accepted : goal.returns-then-is_accepted
 unfolding diagnostics_taken
 returns-then-is_accepted c = grants _ _ c.check_state-refusal.ensures _ _ _ _ c.is_accepted.ensures c.if-is_accepted.true (takes _ _ _ c.none_waiting.ensures c.set_journal-state.ensures)
 
-pub returns-then-is_accepted : goal.returns
+pub returns : goal.returns
 unfolding diagnostics_taken
-returns-then-is_accepted c = refuses _ _ c.check_state-refusal.ensures _ _ _ c.is_accepted.ensures c.if-is_accepted.false
+returns c = refuses _ _ c.check_state-refusal.ensures _ _ _ c.is_accepted.ensures c.if-is_accepted.false

@@ -7,6 +7,6 @@ pub returns-then-is_accepted : goal.returns-then-is_accepted
 unfolding deadline_asked
 returns-then-is_accepted c = grants _ _ c.check_state-refusal.ensures _ _ _ _ c.is_accepted.ensures c.if-is_accepted.true c.deadline-deadline.ensures
 
-pub returns-then-is_accepted : goal.returns
+pub returns : goal.returns
 unfolding deadline_asked
-returns-then-is_accepted c = refuses _ _ c.check_state-refusal.ensures _ _ _ c.is_accepted.ensures c.if-is_accepted.false
+returns c = refuses _ _ c.check_state-refusal.ensures _ _ _ c.is_accepted.ensures c.if-is_accepted.false

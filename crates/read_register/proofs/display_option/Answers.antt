@@ -20,5 +20,5 @@ returns-then-index-lt11 c =
     here 11 (option_bytes c.args.regs) c.args.index _ (omega arith)
     (option_later c.args.regs.display_option _ _ c.args.index (omega (arith, second, third)))
 
-pub returns-then-index-eq0 : goal.returns
-returns-then-index-eq0 c = past 11 (option_bytes c.args.regs) c.args.index (omega arith)
+pub returns : goal.returns
+returns c = past 11 (option_bytes c.args.regs) c.args.index (omega arith)

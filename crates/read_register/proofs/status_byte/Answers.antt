@@ -15,7 +15,7 @@ returns-then-index-eq0 c =
     (rw (c.flag-hv_not_ready.ensures, c.flag-vci_low.ensures, c.flag-operating.ensures)
     (joined c.args.status.hv_not_ready c.args.status.vci_low c.args.busy)))
 
-pub returns-then-index-eq0 : goal.returns
-returns-then-index-eq0 c =
+pub returns : goal.returns
+returns c =
     let later : c.args.index ≡ 0 → ⊥ = c.if-index-eq0.false in
     past 1 (status_byte c.args.status c.args.busy ∷ []) c.args.index (omega (arith, later))

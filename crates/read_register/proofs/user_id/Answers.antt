@@ -7,5 +7,5 @@ use Rattle.read_register.proofs.user_id.Goals as goal
 pub returns-then-index-lt10 : goal.returns-then-index-lt10
 returns-then-index-lt10 c = here 10 c.args.regs.user_id c.args.index _ (omega arith) refl
 
-pub returns-then-index-lt10 : goal.returns
-returns-then-index-lt10 c = past 10 c.args.regs.user_id c.args.index (omega arith)
+pub returns : goal.returns
+returns c = past 10 c.args.regs.user_id c.args.index (omega arith)

@@ -20,7 +20,7 @@ returns-then-display-state c =
     let s = c.before.before.before.before.before.before.before.before.before.before.before.before.before.before.before.before.before.before.before.before.before.before.before in
     cuts s.args.luts.now (given s) _ _ c.if-display-state.true c.report-noted.ensures c.finish_cut.ensures
 
-pub returns-then-display-state : goal.returns
-returns-then-display-state c =
+pub returns : goal.returns
+returns c =
     let s = c.before.before.before.before.before.before.before.before.before.before.before.before in
     drops s.args.luts.now (given s) _ _ c.if-display-state.false c.stop-off.ensures c.set_display.ensures

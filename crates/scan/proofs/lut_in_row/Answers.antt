@@ -18,9 +18,9 @@ pub bit_in_row-requires-2 : goal.bit_in_row-requires-2
 bit_in_row-requires-2 c =
     let s = c.before.before.before.before.before.before.before.before in record { whole = omega arith; in_ram = subst (λ r. row_or r 0 < 680) c.in-Is.is s.requires.in_ram; driven = omega arith }
 
-pub returns-in_default : goal.returns
+pub returns : goal.returns
 unfolding lut_in_row lut_of_pixels
-returns-in_default c =
+returns c =
     let b = c.before.before.before.before.before in
     rw (b.in-Is.is, ← b.bit_in_row.ensures, ← c.bit_in_row-2.ensures, ← c.apply-high.ensures, ← c.apply-low.ensures)
     c.lut_of_bits.ensures

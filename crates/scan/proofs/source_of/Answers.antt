@@ -6,6 +6,6 @@ pub returns-then-geometry : goal.returns-then-geometry
 unfolding source_of
 returns-then-geometry c = rw c.if-geometry.true
 
-pub returns-then-geometry : goal.returns
+pub returns : goal.returns
 unfolding source_of
-returns-then-geometry c = rw c.if-geometry.false
+returns c = rw c.if-geometry.false

@@ -3,12 +3,13 @@ use mathlib.Core.List.{[], ◌∷◌}
 use Prim.Native.Nat.{◌+◌, ◌*◌}
 use lib.ListN.{get_or}
 use Rattle.waveform.specs.Setting.{group_codes_of}
+use Rattle.setting.proofs.group_codes.Goals.{Start}
 use Rattle.setting.proofs.group_codes.Goals as goal
 
 pub returns : goal.returns
 unfolding group_codes_of
 returns c =
-    let s : goal.Start = search in
+    let s : Start = search in
     let l = s.args.setting.now in
     let at = 5 * s.args.group in
     λ i. record {

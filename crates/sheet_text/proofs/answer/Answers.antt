@@ -51,8 +51,8 @@ returns-then-drawing-eq0 c =
       omega (arith, put.put_setting.ensures.end),
     )
 
-pub returns-then-out-lt-SETTING_BYTES : goal.returns
-returns-then-out-lt-SETTING_BYTES c =
+pub returns : goal.returns
+returns c =
     let put = c.before.before.before in
     let test = put.before.before in
     let read = test.before.before in

@@ -73,8 +73,8 @@ returns-then-text-eq-TEXT_BYTES c =
     let long = m.requires in
     ends s.text.now s.written.now l.loop-i.line l.loop-i.i (omega (arith, m.min_u64-end.ensures, long)) (omega (arith, m.min_u64-end.ensures, long)) ∙ sym l.loop-i.invariant.0
 
-pub returns-then-byte-written : goal.returns
-returns-then-byte-written c =
+pub returns : goal.returns
+returns c =
     let l = c.before.before.before in
     let m = l.before in
     let s = m.args in

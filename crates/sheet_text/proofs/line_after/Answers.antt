@@ -7,5 +7,5 @@ use Rattle.sheet_text.proofs.line_after.Goals as goal
 pub returns-then-byte-eq10 : goal.returns-then-byte-eq10
 returns-then-byte-eq10 c = took _ _ _ _ (eq-eqb c.args.byte 10 c.if-byte-eq10.true) refl
 
-pub returns-then-byte-eq10 : goal.returns
-returns-then-byte-eq10 c = passed _ _ _ _ (ne_eqb c.args.byte 10 c.if-byte-eq10.false) refl
+pub returns : goal.returns
+returns c = passed _ _ _ _ (ne_eqb c.args.byte 10 c.if-byte-eq10.false) refl

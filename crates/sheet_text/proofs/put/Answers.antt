@@ -24,7 +24,7 @@ returns-then-out-lt-TEXT_BYTES c =
     let s = c.args in
     (took _ _ _ _ (lt-ltb (length s.out.now) 580 (omega arith)) refl, search rules)
 
-pub returns-then-out-lt-TEXT_BYTES : goal.returns
-returns-then-out-lt-TEXT_BYTES c =
+pub returns : goal.returns
+returns c =
     let put = c.before.before.before in
     let s = put.args in record { text = roomy s.sheet s.out.now (omega arith) put.put_sheet.ensures.text; within = omega (arith, put.put_sheet.ensures.end) }

@@ -21,8 +21,8 @@ returns-then-number-eq0 c =
       search rules,
     )
 
-pub returns-then-number-eq0 : goal.returns
-returns-then-number-eq0 c =
+pub returns : goal.returns
+returns c =
     let put = c.before.before.before in
     let wide = put.before in
     let test = wide.before.before in

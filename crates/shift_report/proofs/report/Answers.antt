@@ -24,8 +24,8 @@ returns-then-out-lt-ROOM c =
     let s = c.args in
     (took _ _ _ _ (lt-ltb (length s.out.now) 112 (omega arith)) refl, search rules)
 
-pub returns-then-out-lt-ROOM : goal.returns
-returns-then-out-lt-ROOM c =
+pub returns : goal.returns
+returns c =
     let put = c.before.before.before in
     let b = put.before.before in
     let s = b.args in

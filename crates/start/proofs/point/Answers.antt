@@ -5,5 +5,5 @@ use Rattle.start.proofs.point.Goals as goal
 pub returns-then-within : goal.returns-then-within
 returns-then-within c = points _ _ _ c.within.ensures c.if-within.true
 
-pub returns-then-within : goal.returns
-returns-then-within c = points_not _ _ _ _ c.within.ensures c.if-within.false c.report.ensures
+pub returns : goal.returns
+returns c = points_not _ _ _ _ c.within.ensures c.if-within.false c.report.ensures

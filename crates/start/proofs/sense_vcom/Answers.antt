@@ -15,5 +15,5 @@ overflow_mul-seconds c = omega (arith, c.low_nibble-low.ensures)
 pub returns-then-powered : goal.returns-then-powered
 returns-then-powered c = senses _ _ _ _ _ c.low_nibble-low.ensures c.powered.ensures c.if-powered.true c.busy_for-bus.ensures c.set_bus.ensures
 
-pub returns-then-powered : goal.returns
-returns-then-powered c = senses_not _ _ _ c.powered.ensures c.if-powered.false c.report_unpowered.ensures
+pub returns : goal.returns
+returns c = senses_not _ _ _ c.powered.ensures c.if-powered.false c.report_unpowered.ensures

@@ -7,5 +7,5 @@ use Rattle.text.proofs.digit.Goals as goal
 pub returns-then-d-lt10 : goal.returns-then-d-lt10
 returns-then-d-lt10 c = took _ _ _ _ (lt-ltb c.args.d 10 c.if-d-lt10.true) refl
 
-pub returns-then-d-lt10 : goal.returns
-returns-then-d-lt10 c = passed _ _ _ _ (le-ltb c.args.d 10 c.if-d-lt10.false) refl
+pub returns : goal.returns
+returns c = passed _ _ _ _ (le-ltb c.args.d 10 c.if-d-lt10.false) refl

@@ -9,6 +9,6 @@ pub returns-then-at-lt-ROOM : goal.returns-then-at-lt-ROOM
 unfolding put_of
 returns-then-at-lt-ROOM c = took _ _ _ _ (lt-ltb _ _ c.if-at-lt-ROOM.true) refl
 
-pub returns-then-at-lt-ROOM : goal.returns
+pub returns : goal.returns
 unfolding put_of
-returns-then-at-lt-ROOM c = passed _ _ _ _ (le-ltb _ _ c.if-at-lt-ROOM.false) refl
+returns c = passed _ _ _ _ (le-ltb _ _ c.if-at-lt-ROOM.false) refl

@@ -9,7 +9,7 @@ returns-then-is c =
     let s = c.args in
     c.put.ensures ∙ ap (λ (b : Bool). put_of (gathered s.at s.text.now) (truth_of b)) (sym c.if-is.true)
 
-pub returns-then-is : goal.returns
-returns-then-is c =
+pub returns : goal.returns
+returns c =
     let s = c.args in
     c.put-2.ensures ∙ ap (λ (b : Bool). put_of (gathered s.at s.text.now) (truth_of b)) (sym c.if-is.false)

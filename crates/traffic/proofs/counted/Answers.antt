@@ -10,7 +10,7 @@ returns-then-is_accepted c =
     let at = c.args.at in
     ap (λ (b : Bool). pick b (at + 1) at) (sym c.if-is_accepted.true ∙ c.is_accepted.ensures)
 
-pub returns-then-is_accepted : goal.returns
-returns-then-is_accepted c =
+pub returns : goal.returns
+returns c =
     let at = c.args.at in
     ap (λ (b : Bool). pick b (at + 1) at) (sym c.if-is_accepted.false ∙ c.is_accepted.ensures)

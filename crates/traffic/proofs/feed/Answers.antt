@@ -115,8 +115,8 @@ shape_of-red c = c.loop-i.invariant.1.5
 pub shape_of-log : goal.shape_of-log
 shape_of-log c = c.loop-i.invariant.1.6
 
-pub returns-then-not-is_accepted : goal.returns
-returns-then-not-is_accepted c =
+pub returns : goal.returns
+returns c =
     let m = c.before.before in
     let s = m.before.before.before.before.before.before.before.before.before.before.before.before.before.before in
     let w = world m.loop-i.next m.loop-i.states m.loop-i.luts (picture m.loop-i.pixels m.loop-i.counts) m.loop-i.black_white m.loop-i.red s.args.gates.now m.loop-i.log in

@@ -23,7 +23,7 @@ counted-made-requires c =
     let s = c.before.before.before.before.before.before.before.before.before.before.before.before.before.before.before.before.before.before.before.before.before.before.before.before.before.before.before.before.before.before.before.before.before.before.before.before.before.before.before in
     omega (arith, c.if-count-at.false, s.requires.1, s.well-formed.1.1.1.1.1.1.1.1.1.1.0.1)
 
-pub returns-then-count-at : goal.returns
-returns-then-count-at c =
+pub returns : goal.returns
+returns c =
     let s = c.before.before.before.before.before.before.before.before.before.before.before.before.before.before.before.before.before.before.before.before.before.before.before.before.before.before.before.before.before.before.before.before.before.before.before.before.before.before.before.before in let whole = step_made (made s.args.otp.now (event_at s.args.kinds.now s.args.times.now s.args.values.now)) s.args.count s.args.at c.counted-made.result (world s.args.state s.args.states.now s.args.luts.now (picture s.args.pixels.now s.args.counts.now) s.args.black_white.now s.args.red.now s.args.gates.now s.args.log.now) c.dispatch-answer.result.refusal c.if-count-at.false c.counted-made.ensures
     (made_one s.args.otp.now (event_at s.args.kinds.now s.args.times.now s.args.values.now) s.args.at (world s.args.state s.args.states.now s.args.luts.now (picture s.args.pixels.now s.args.counts.now) s.args.black_white.now s.args.red.now s.args.gates.now s.args.log.now) c.dispatch-answer.ensures c.event_of-event.ensures) in record { made_value = whole.0; log_after = whole.1 }

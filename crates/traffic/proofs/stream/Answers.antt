@@ -18,8 +18,8 @@ returns-then-kinds-from-eq-DATA c =
     let g = stays s.kinds.now s.times.now s.values.now s.count s.from h s.state s.black_white.now s.red.now s.lengths in
     ((g.from_here, g.to_count), g.alike)
 
-pub returns-then-is_accepted : goal.returns
-returns-then-is_accepted c =
+pub returns : goal.returns
+returns c =
     let s = c.args in
     let h : s.from ≤ s.count = omega (arith, c.requires.0) in
     let g = stays s.kinds.now s.times.now s.values.now s.count s.from h s.state s.black_white.now s.red.now s.lengths in record { from_le_made = (g.from_here, g.to_count); ends_alike = g.alike }

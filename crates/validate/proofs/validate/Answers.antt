@@ -37,8 +37,8 @@ returns-then-is_accepted c =
     goes_on (config_tests g) (rest o) _ _ e.config_error-parameters.ensures (sym d.is_accepted.ensures ∙ d.if-is_accepted.true)
     (stops (table o) (voltages o) _ d.table_error-table.ensures (sym c.is_accepted-then-is_accepted.ensures ∙ c.if-is_accepted-2.false))
 
-pub returns-then-is_accepted-2 : goal.returns
-returns-then-is_accepted-2 c =
+pub returns : goal.returns
+returns c =
     let e = c.before.before.before in
     let s = e.before.before in
     stops (config_tests s.args.config) (rest s.args.otp.now) _ e.config_error-parameters.ensures (sym c.is_accepted.ensures ∙ c.if-is_accepted.false)

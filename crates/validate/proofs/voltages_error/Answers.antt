@@ -36,9 +36,9 @@ loop-entry-smaller c = omega arith
 pub loop-entry-preserved : goal.loop-entry-preserved
 loop-entry-preserved c = (omega arith, below_more _ _ c.loop-entry.invariant.1 (sym c.has_unlisted_voltage.ensures ∙ c.if-has_unlisted_voltage.false))
 
-pub returns-then-has_unlisted_voltage : goal.returns
+pub returns : goal.returns
 unfolding answer_of
-returns-then-has_unlisted_voltage c =
+returns c =
     let otp = c.args.otp.now in
     let n : c.loop-entry.entry ≡ entry_count otp = omega arith in
     let e = lowest_none (unlisted_voltage otp) (entry_count otp) (rw n at c.loop-entry.invariant.1) in

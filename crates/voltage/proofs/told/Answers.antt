@@ -18,7 +18,7 @@ returns-then-found-ne-UNLISTED c =
     passed (eqb found 65535) Unlisted (Listed (pos found)) (Listed (to_z w64 found)) (ne_eqb found 65535 (search rules))
     (ap Listed (back {w = w64} {z = pos found} (record { sfits = omega arith })))
 
-pub returns-then-found-ne-UNLISTED : goal.returns
-returns-then-found-ne-UNLISTED c =
+pub returns : goal.returns
+returns c =
     let found = c.args.found in
     took (eqb found 65535) Unlisted (Listed (pos found)) Unlisted (eq-eqb found 65535 (search rules)) refl

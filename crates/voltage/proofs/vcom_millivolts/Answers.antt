@@ -10,6 +10,7 @@ use Rattle.numbers.proofs.Lin.{whole, rd, ranged, back, sub_out, fits_is}
 use Rattle.voltage.specs.declared.Millivolts.TheVariants.{Listed}
 use Rattle.voltage.specs.Codes.{voltage, below, vcom_zero, vcom_line}
 use Rattle.voltage.proofs.Lines.{first_line, next_line}
+use Rattle.voltage.proofs.vcom_millivolts.Goals.{In-8-to-160}
 use Rattle.voltage.proofs.vcom_millivolts.Goals as goal
 
 pub returns-then-code-ne0 : goal.returns-then-code-ne0
@@ -18,10 +19,10 @@ returns-then-code-ne0 c =
     let code = c.args.code in
     next_line below vcom_zero (vcom_line ∷ []) code (λ h. omega arith) (next_line below vcom_line [] code (λ h. omega arith) refl)
 
-abbrev size : goal.In-8-to-160 → ℕ
+abbrev size : In-8-to-160 → ℕ
 size c = 200 + (c.args.code - 0x08) / 4 * 100
 
-fits : (c : goal.In-8-to-160) → SFits w64 (pos (size c))
+fits : (c : In-8-to-160) → SFits w64 (pos (size c))
 fits c = record { sfits = omega arith }
 
 pub overflow_sub-result-in-8-to-160 : goal.overflow_sub-result-in-8-to-160

@@ -10,6 +10,7 @@ use Rattle.numbers.proofs.Lin.{whole, rd, ranged, back, sub_out, fits_is}
 use Rattle.voltage.specs.declared.Millivolts.TheVariants.{Listed}
 use Rattle.voltage.specs.Codes.{voltage, below, vsl_line}
 use Rattle.voltage.proofs.Lines.{first_line, next_line}
+use Rattle.voltage.proofs.vsl_millivolts.Goals.{In-26-to-58}
 use Rattle.voltage.proofs.vsl_millivolts.Goals as goal
 
 pub returns-then-code-eq1 : goal.returns-then-code-eq1
@@ -18,10 +19,10 @@ returns-then-code-eq1 c =
     let code = c.args.code in
     next_line below vsl_line [] code (λ h. omega arith) refl
 
-abbrev size : goal.In-26-to-58 → ℕ
+abbrev size : In-26-to-58 → ℕ
 size c = 9000 + (c.args.code - 0x1A) / 2 * 500
 
-fits : (c : goal.In-26-to-58) → SFits w64 (pos (size c))
+fits : (c : In-26-to-58) → SFits w64 (pos (size c))
 fits c = record { sfits = omega arith }
 
 pub overflow_sub-result-in-26-to-58 : goal.overflow_sub-result-in-26-to-58

@@ -59,9 +59,9 @@ returns-then-is_accepted c =
     (goes_on (swing_test a.optics ∷ []) (periods_test a.frame-period ∷ r) _ _ w.swing_error-swing.ensures (sym p.is_accepted.ensures ∙ p.if-is_accepted.true)
     (stops (periods_test a.frame-period ∷ []) r _ p.periods_error-periods.ensures no))
 
-pub returns-then-is_accepted-2 : goal.returns
+pub returns : goal.returns
 unfolding bounds_of shift_answer
-returns-then-is_accepted-2 c =
+returns c =
     let w = c.before.before.before in
     let a = w.args in
     let r = setting_tests a.setting.now a.driving a.before a.after in

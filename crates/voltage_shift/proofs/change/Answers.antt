@@ -39,8 +39,8 @@ rise-requires-2 c =
     let f = read from.result from.type_inv from.ensures.range in
     let t = read to.result to.type_inv to.ensures.range in record { listable = (search (rules, f, t), search (rules, f, t)); order = le_in _ _ (omega whole) }
 
-pub returns-then-from-to : goal.returns
-returns-then-from-to c =
+pub returns : goal.returns
+returns c =
     let from = c.driving_level-from in
     let to = c.driving_level-to in
     c.rise-2.ensures ∙ (λ i. nat_abs (got from.type_inv from.ensures.is i -ℤ got to.type_inv to.ensures.is i))

@@ -6,5 +6,5 @@ use Rattle.voltage_shift.proofs.changing_frames.Goals as goal
 pub returns-then-uses_one : goal.returns-then-uses_one
 returns-then-uses_one c = (c.count.ensures.0 ∙ rw (sym c.uses_one.ensures ∙ c.if-uses_one.true), c.count.ensures.1)
 
-pub returns-then-uses_one : goal.returns
-returns-then-uses_one c = record { is = rw (sym c.uses_one.ensures ∙ c.if-uses_one.false); few = search rules }
+pub returns : goal.returns
+returns c = record { is = rw (sym c.uses_one.ensures ∙ c.if-uses_one.false); few = search rules }

@@ -12,6 +12,7 @@ use Rattle.numbers.proofs.Lin.{rd, whole, le_in, back, got}
 use Rattle.glass.specs.Greys.{level_z, gray_z}
 use Rattle.glass.proofs.Grey.{level_is}
 use Rattle.voltage_shift.proofs.Steps.{steps_here, steps_next, steps_before}
+use Rattle.voltage_shift.proofs.gray_steps.Goals.{After-level, Start, Then-level-bound}
 use Rattle.voltage_shift.proofs.gray_steps.Goals as goal
 
 -- a number below 2^63, cast to a signed one
@@ -22,8 +23,8 @@ some : (n : ℕ) → 1 ≤ n → n ≤ largest 63 → pos 1 ≤ℤ to_z w64 n
 some n h k = subst (λ (z : ℤ). pos 1 ≤ℤ z) (sym (signed n k)) (le_in (pos 1) (pos n) (omega whole))
 
 -- what the calls say of the nearest grey and its level
-module _ (c : goal.After-level) where
-  abbrev start : goal.Start
+module _ (c : After-level) where
+  abbrev start : Start
   start = c.before.before
 
   abbrev n : ℕ
@@ -47,7 +48,7 @@ gray-gray-requires c = some c.args.swing (omega arith) (omega arith)
 pub level-requires : goal.level-requires
 level-requires c = some c.args.swing (omega arith) (omega arith)
 
-short : (c : goal.Then-level-bound) → S c.before * g c.before / 255 < n c.before
+short : (c : Then-level-bound) → S c.before * g c.before / 255 < n c.before
 short c = ltb-true _ _ (sym (test c.before) ∙ c.if-level-bound.true)
 
 pub overflow_add-result : goal.overflow_add-result
@@ -56,5 +57,5 @@ overflow_add-result c = let l = c.before in record { fits = omega (arith, steps_
 pub returns-then-level-bound : goal.returns-then-level-bound
 returns-then-level-bound c = let l = c.before in steps_next (S l) (n l) (g l) (omega arith) (omega arith) (is l) (short c)
 
-pub returns-then-level-bound : goal.returns
-returns-then-level-bound c = let l = c.before in steps_here (S l) (n l) (g l) (omega arith) (omega arith) (is l) (ltb-false _ _ (sym (test l) ∙ c.if-level-bound.false))
+pub returns : goal.returns
+returns c = let l = c.before in steps_here (S l) (n l) (g l) (omega arith) (omega arith) (is l) (ltb-false _ _ (sym (test l) ∙ c.if-level-bound.false))

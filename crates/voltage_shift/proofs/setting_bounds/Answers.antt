@@ -56,9 +56,9 @@ returns-then-whole c =
     let a = l.args in
     decided a.setting.now a.driving a.before a.after _ l.is_listed.ensures l.is_listed-2.ensures _ (simp (c.if-listed.false, c.if-whole.true))
 
-pub returns-then-listed : goal.returns
+pub returns : goal.returns
 unfolding shift_answer
-returns-then-listed c =
+returns c =
     let l = c.before.before in
     let a = l.args in
     decided a.setting.now a.driving a.before a.after _ l.is_listed.ensures l.is_listed-2.ensures _ (rw c.if-whole.false)

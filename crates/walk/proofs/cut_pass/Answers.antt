@@ -12,8 +12,8 @@ returns-then-progress c =
     let s = c.args in
     sym (stopped_stays s.driving s.until s.progress (phases_in s.first.step.phase s.second.step.phase s.third.step.phase s.fourth.step.phase) c.if-progress.true)
 
-pub returns-then-progress : goal.returns
-returns-then-progress c =
+pub returns : goal.returns
+returns c =
     let three = c.before in
     let two = three.before in
     let one = two.before in

@@ -38,8 +38,8 @@ returns-then-until-end c =
     ∙ sym (step_short s.driving s.until s.progress p going (omega (arith, c.if-until-end.true, end_is a)))
     ∙ ap (foldl (cut_step s.driving s.until) s.progress) (sym (driven_some p some))
 
-pub returns-then-progress : goal.returns
-returns-then-progress c =
+pub returns : goal.returns
+returns c =
     let a = c.before.before in
     let some = a.if-phase-eq0.false in
     let going = a.if-progress.false in

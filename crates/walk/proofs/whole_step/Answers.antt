@@ -8,8 +8,8 @@ use Rattle.walk.proofs.whole_step.Goals as goal
 pub returns-then-phase-eq0 : goal.returns-then-phase-eq0
 returns-then-phase-eq0 c = let a = c.args in sym (stepped_none a.driving a.step a.transfer c.if-phase-eq0.true)
 
-pub returns-then-phase-eq0 : goal.returns
-returns-then-phase-eq0 c =
+pub returns : goal.returns
+returns c =
     let told2 = c.before.before in
     let told = told2.before in
     let test = told.before in

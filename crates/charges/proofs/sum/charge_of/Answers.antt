@@ -14,6 +14,7 @@ use Rattle.charges.specs.Charge.{drive_sum}
 use Rattle.charges.proofs.Sums.{sum_none, sum_more}
 use Rattle.charges.proofs.Bounds.{fits_as, read_back, groups_of, groups_within}
 use borrow.Author.Rules.{rules}
+use Rattle.charges.proofs.sum.charge_of.Goals.{After-group_charge-sum}
 use Rattle.charges.proofs.sum.charge_of.Goals as goal
 
 pub loop-k-init : goal.loop-k-init
@@ -26,7 +27,7 @@ group_charge-sum-requires c =
 
 -- ---- after a turn
 abbrev Turn : Type 0
-Turn = goal.After-group_charge-sum
+Turn = After-group_charge-sum
 
 abbrev groups_in : Turn → ℕ → List Phase
 groups_in c = groups_of c.before.before.before.before.before.args.t1 (Lut c.before.before.before.before.before.args.lut)

@@ -14,6 +14,7 @@ use Rattle.charges.proofs.Sums.{sum_none, sum_more}
 use Rattle.charges.proofs.Bounds.{fits_as, read_back, phases_within}
 use borrow.Author.Rules.{rules}
 use Rattle.charges.proofs.sum.pass_charge.Invariants.{phases_in}
+use Rattle.charges.proofs.sum.pass_charge.Goals.{After-drive_at-sum}
 use Rattle.charges.proofs.sum.pass_charge.Goals as goal
 
 pub loop-phase-init : goal.loop-phase-init
@@ -21,7 +22,7 @@ loop-phase-init c = (search rules, sum_none _)
 
 -- ---- after a turn
 abbrev Turn : Type 0
-Turn = goal.After-drive_at-sum
+Turn = After-drive_at-sum
 
 abbrev sum_of : Turn → ℕ → List Phase
 sum_of c = phases_in c.before.before.before.args.driving c.before.before.before.args.group

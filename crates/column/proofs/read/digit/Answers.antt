@@ -21,8 +21,8 @@ returns-then-units-n c =
     (a_digit s.n s.byte (omega arith) (omega arith)
     ∙ ap (λ b. pick b (Number (10 * s.n + (s.byte - 48))) Other) (le-ltb (10 * s.n + (s.byte - 48)) (2 ^ 64) (omega (arith, c.wide-units.ensures))))
 
-pub returns-then-byte-lt48 : goal.returns
-returns-then-byte-lt48 c =
+pub returns : goal.returns
+returns c =
     let s = c.args in
     sym
     (a_digit s.n s.byte (omega arith) (omega arith)

@@ -4,7 +4,7 @@ use Rattle.column.specs.Reading.{last_of}
 use Rattle.column.specs.declared.read.Column.{Column}
 use Rattle.column.proofs.read.last.Goals as goal
 
-pub returns-in_default : goal.returns
-returns-in_default c =
+pub returns : goal.returns
+returns c =
     let s = c.args in
     c.digit.ensures ∙ ap (λ (f : Column). last_of f s.byte) (sym c.in-Number.is)

@@ -48,8 +48,8 @@ loop-i-preserved c =
 pub bounds-column-units : goal.bounds-column-units
 bounds-column-units c = omega arith
 
-pub returns-then-column-eq0 : goal.returns
-returns-then-column-eq0 c =
+pub returns : goal.returns
+returns c =
     let l = c.loop-i in
     let s = c.args.column.now in
     let there : length s - 1 ≡ l.i = omega arith in

@@ -16,8 +16,8 @@ returns-then-n-byte-2 c =
     passed _ _ _ _ c.if-n-byte.false (took _ _ _ _ c.if-n-byte-2.true refl)
     ∙ ap (λ (f : Column). step_of f s.byte) (sym c.in-Number.is)
 
-pub returns-in_default : goal.returns
-returns-in_default c =
+pub returns : goal.returns
+returns c =
     let s = c.args in
     passed _ _ _ _ c.if-n-byte.false (passed _ _ _ _ c.if-n-byte-2.false c.digit.ensures)
     ∙ ap (λ (f : Column). step_of f s.byte) (sym c.in-Number.is)

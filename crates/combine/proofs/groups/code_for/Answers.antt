@@ -6,9 +6,10 @@ use Rattle.waveform.specs.declared.Drive.{Drive}
 use Rattle.waveform.specs.Phases.{Takes, code_for}
 use Rattle.waveform.specs.Setting.{codes_of}
 use Rattle.combine.proofs.Bytes.{code_at}
+use Rattle.combine.proofs.groups.code_for.Goals.{In-Lut}
 use Rattle.combine.proofs.groups.code_for.Goals as goal
 
-lut_below : (c : goal.In-Lut) → c.in-Lut.lut < 5
+lut_below : (c : In-Lut) → c.in-Lut.lut < 5
 lut_below c = subst Takes c.in-Lut.is c.requires.2
 
 pub overflow_mul-lut : goal.overflow_mul-lut

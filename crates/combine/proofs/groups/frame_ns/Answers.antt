@@ -4,9 +4,10 @@ use Prim.Native.Nat.{ℕ, ◌<◌}
 use native.Mathlib.Omega.{arith}
 use lib.ListN.{get_or}
 use Rattle.waveform_laws.proofs.Decoded.{rate_below}
+use Rattle.combine.proofs.groups.frame_ns.Goals.{After-frame_rate_code-rate}
 use Rattle.combine.proofs.groups.frame_ns.Goals as goal
 
-below : (c : goal.After-frame_rate_code-rate) → c.frame_rate_code-rate.result < 16
+below : (c : After-frame_rate_code-rate) → c.frame_rate_code-rate.result < 16
 below c = subst (λ (n : ℕ). n < 16) (sym c.frame_rate_code-rate.ensures) (rate_below c.args.setting.now c.args.group)
 
 pub offset_bounds-frame_period-rate : goal.offset_bounds-frame_period-rate

@@ -11,23 +11,23 @@ use Rattle.waveform.specs.Phases.{code_for, phase_of}
 use Rattle.waveform.specs.Setting.{codes_of, group_codes_of}
 use Rattle.waveform_laws.proofs.Range.{source_listable, vcom_listable}
 use Rattle.combine.proofs.Bytes.{code_at}
-use Rattle.combine.proofs.groups.phase_of.Goals.{Start}
+use Rattle.combine.proofs.groups.phase_of.Goals.{After-vcom_swing-vcom, Start}
 use Rattle.combine.proofs.groups.phase_of.Goals as goal
 
-abbrev start : goal.After-vcom_swing-vcom → Start
+abbrev start : After-vcom_swing-vcom → Start
 start c = c.before.before.before.before.before.before.before
 
 -- the codes of the group
-abbrev codes : goal.After-vcom_swing-vcom → List ℕ
+abbrev codes : After-vcom_swing-vcom → List ℕ
 codes c = codes_of (start c).args.setting.now (start c).args.group
 
 -- the two levels, read back
-source_is : (c : goal.After-vcom_swing-vcom) → rd c.source-source.result ≡ source_level (start c).args.driving.levels (code_for (start c).args.driving.drive (codes c) (start c).args.phase)
+source_is : (c : After-vcom_swing-vcom) → rd c.source-source.result ≡ source_level (start c).args.driving.levels (code_for (start c).args.driving.drive (codes c) (start c).args.phase)
 source_is c =
     let call = c.before.before.before.before in
     got call.source-source.type_inv (call.source-source.ensures ∙ ap (source_level (start c).args.driving.levels) call.code_for.ensures)
 
-vcom_is : (c : goal.After-vcom_swing-vcom) → rd c.vcom_swing-vcom.result ≡ vcom_swing (start c).args.driving.levels (get_or (codes c) (16 + (start c).args.phase) 0)
+vcom_is : (c : After-vcom_swing-vcom) → rd c.vcom_swing-vcom.result ≡ vcom_swing (start c).args.driving.levels (get_or (codes c) (16 + (start c).args.phase) 0)
 vcom_is c =
     let s = start c in
     got c.vcom_swing-vcom.type_inv (c.vcom_swing-vcom.ensures

@@ -7,16 +7,17 @@ use lib.IntN.{ℤ, pos, ◌*ℤ◌}
 use mir.Syntax.{w8, w16}
 use mir.Val.{SFits, to_z, of_z}
 use Rattle.numbers.proofs.Lin.{whole, up, down, ranged, back, fits_is, scale_up, scale_down, up_le, down_le}
+use Rattle.config.proofs.Temperature.from_celsius.Goals.{Start}
 use Rattle.config.proofs.Temperature.from_celsius.Goals as goal
 
 pub overflow_cast-result : goal.overflow_cast-result
 overflow_cast-result c = fits_is (omega (whole, ranged c.ranges.celsius))
 
 -- the number of degrees, as it is read back from eight bits
-abbrev degrees : goal.Start → ℤ
+abbrev degrees : Start → ℤ
 degrees c = to_z w8 (of_z w8 c.args.celsius)
 
-abbrev wide : goal.Start → ℤ
+abbrev wide : Start → ℤ
 wide c = to_z w16 (of_z w16 (degrees c))
 
 -- a multiple by at most 16 of a number of eight bits

@@ -27,8 +27,8 @@ overflow_sub-result c =
     let r = c.args.register in
     fits_is (omega (whole, eq_out (read r), sub_out (to_z w16 (bit_and r 4095)) (pos 4096)))
 
-pub returns-then-value-eq0 : goal.returns
-returns-then-value-eq0 c =
+pub returns : goal.returns
+returns c =
     let r = c.args.register in
     let h : 2048 ≤ r % 4096 = by r c.if-value-eq0.false in
     back (overflow_sub-result c) ∙ ap (λ (z : ℤ). z -ℤ pos 4096) (read r) ∙ high_half r (omega (arith, h))

@@ -15,8 +15,8 @@ returns-then-warmest-sixteenths c =
     let f = ranged s.ranges.sixteenths in
     rw (is_le (negsuc 2047) s.args.sixteenths (omega whole), not_le s.args.sixteenths (pos 2047) (omega whole))
 
-pub returns-then-sixteenths-coldest : goal.returns
-returns-then-sixteenths-coldest c =
+pub returns : goal.returns
+returns c =
     let s = c.before.before.before.before.before.before in
     let f = ranged s.ranges.sixteenths in
     rw (is_le (negsuc 2047) s.args.sixteenths (omega whole), is_le s.args.sixteenths (pos 2047) (omega whole), back s.ranges.sixteenths)

@@ -6,6 +6,7 @@ use mir.Syntax.{w16}
 use mir.Val.{SFits, to_z, of_z}
 use Rattle.numbers.proofs.Lin.{whole, down, ranged, add_out, sub_out, fits_is, unsigned, abs_pos, abs_back, back, down_le, up_le}
 use Rattle.config.proofs.Registers.{at_or_above, below}
+use Rattle.config.proofs.Temperature.register.Goals.{Then-sixteenths-lt0}
 use Rattle.config.proofs.Temperature.register.Goals as goal
 
 -- as it is read back from sixteen bits
@@ -18,7 +19,7 @@ next a = rd a +ℤ pos 1
 abbrev minus : ℤ → ℤ
 minus a = pos 0 -ℤ rd (next a)
 
-field : (c : goal.Then-sixteenths-lt0) → SFits w16 c.args.self.0
+field : (c : Then-sixteenths-lt0) → SFits w16 c.args.self.0
 field c = record { sfits = c.struct_told-1.given.0.1 }
 
 pub overflow_add-result : goal.overflow_add-result
@@ -34,7 +35,7 @@ overflow_cast-result c =
     let a = c.args.self.0 in
     unsigned {z = minus a} (overflow_sub-result c) (omega (whole, ranged (field c), ranged (overflow_add-result c), add_out (rd a) (pos 1), sub_out (pos 0) (rd (next a))))
 
-size : (c : goal.Then-sixteenths-lt0) → nat_abs (rd (minus c.args.self.0)) + 1 ≡ down c.args.self.0
+size : (c : Then-sixteenths-lt0) → nat_abs (rd (minus c.args.self.0)) + 1 ≡ down c.args.self.0
 size c =
     let a = c.args.self.0 in
     let f = ranged (field c) in
@@ -50,8 +51,8 @@ returns-then-sixteenths-lt0 c = below c.args.self.0 _ (size c)
 pub overflow_cast-result-2 : goal.overflow_cast-result-2
 overflow_cast-result-2 c = let f : SFits w16 c.args.self.0 = record { sfits = c.struct_told-1.given.0.1 } in unsigned f (omega (whole, ranged f))
 
-pub returns-then-sixteenths-lt0 : goal.returns
-returns-then-sixteenths-lt0 c =
+pub returns : goal.returns
+returns c =
     let a = c.args.self.0 in
     let f : SFits w16 a = record { sfits = c.struct_told-1.given.0.1 } in
     ap (λ (z : ℤ). nat_abs z % 4096) (back f) ∙ at_or_above a (omega (whole, ranged f, down_le a 0 (omega (whole, ranged f))))

@@ -10,7 +10,7 @@ returns-then-increments c =
     let a = c.args in
     past_up a.at a.end ∙ ap (λ (b : Bool). is_past (axis_step b a.at a.end)) (sym c.if-increments.true)
 
-pub returns-then-increments : goal.returns
-returns-then-increments c =
+pub returns : goal.returns
+returns c =
     let a = c.args in
     past_down a.at a.end ∙ ap (λ (b : Bool). is_past (axis_step b a.at a.end)) (sym c.if-increments.false)

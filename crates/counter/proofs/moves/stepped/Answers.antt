@@ -21,7 +21,7 @@ overflow_sub-result c =
     let a = c.args in
     omega (arith, room_down a.at a.end (ap (λ (b : Bool). is_past (axis_step b a.at a.end)) (sym c.if-increments.false) ∙ c.requires))
 
-pub returns-then-increments : goal.returns
-returns-then-increments c =
+pub returns : goal.returns
+returns c =
     let a = c.args in
     step_down a.at a.end (ap (λ (b : Bool). is_past (axis_step b a.at a.end)) (sym c.if-increments.false) ∙ c.requires) ∙ ap (λ (b : Bool). axis_step b a.at a.end) (sym c.if-increments.false)

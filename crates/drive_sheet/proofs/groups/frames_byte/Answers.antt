@@ -15,6 +15,6 @@ overflow_sub-result c = omega (arith, (repeats_within c.args.group c.requires).0
 pub overflow_cast-result : goal.overflow_cast-result
 overflow_cast-result c = record { fits = omega (arith, (repeats_within c.args.group c.requires).1) }
 
-pub returns-then-place-lt4 : goal.returns
+pub returns : goal.returns
 unfolding frames_byte
-returns-then-place-lt4 c = rw (le-ltb c.args.place 4 c.if-place-lt4.false)
+returns c = rw (le-ltb c.args.place 4 c.if-place-lt4.false)

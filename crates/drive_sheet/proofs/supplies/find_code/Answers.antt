@@ -54,8 +54,8 @@ loop-code-smaller c = omega arith
 pub loop-code-preserved : goal.loop-code-preserved
 loop-code-preserved c = (omega arith, below_more _ _ c.loop-code.invariant.1 (sym c.stands_for.ensures ∙ c.if-stands_for.false))
 
-pub returns-then-millivolts-eq0 : goal.returns
-returns-then-millivolts-eq0 c =
+pub returns : goal.returns
+returns c =
     let m = c.before in
     let s = m.before.before in
     let z = s.args.millivolts in

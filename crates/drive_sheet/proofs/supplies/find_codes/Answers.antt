@@ -13,6 +13,7 @@ use Rattle.numbers.proofs.Lin.{field_back}
 use Rattle.drive_sheet.specs.declared.Supply.TheVariants.{Vsh1, Vsh2, Vsl, Vcom}
 use Rattle.drive_sheet.specs.Supplies.{supply_code}
 use Rattle.drive_sheet.specs.Bytes.{no_group_codes, group_at, Formed}
+use Rattle.drive_sheet.proofs.supplies.find_codes.Goals.{After-struct_told-1}
 use Rattle.drive_sheet.proofs.supplies.find_codes.Goals as goal
 
 -- an array owns its elements, so what is known of it is known of each
@@ -24,7 +25,7 @@ each_at f own none (x ∷ xs) (u ∷ us) s zero l = (u, s.0)
 each_at f own none (x ∷ xs) (u ∷ us) s (suc k) l = each_at f own none xs us s.1 k (le_of_suc-le-suc l)
 
 -- a struct that is read knows the lengths of its arrays
-formed : (c : goal.After-struct_told-1) → Formed c.args.sheet
+formed : (c : After-struct_told-1) → Formed c.args.sheet
 formed c =
     let told = c.struct_told-1.given.0 in
     let ten = sym (length-map c.args.sheet.groups _) ∙ told.1.0.1 in

@@ -7,10 +7,11 @@ use Rattle.numbers.proofs.Lin.{rd, back, field_back}
 use Rattle.numbers.proofs.Hold.{clamped}
 use Rattle.glass_tables.specs.Moves.{moved_by}
 use Rattle.glass_tables.proofs.Moved.{sum_fits}
+use Rattle.glass_tables.proofs.Move.apply.Goals.{After-struct_told-3-1}
 use Rattle.glass_tables.proofs.Move.apply.Goals as goal
 
 -- what is added
-sum : (c : goal.After-struct_told-3-1)
+sum : (c : After-struct_told-3-1)
     → rd c.clamp_i64.result +ℤ rd c.args.self.add
     ≡ moved_by c.args.self c.args.state
 sum c =

@@ -4,10 +4,11 @@ use lib.IntN.{ℤ, ◌-ℤ◌}
 use Rattle.numbers.specs.Saturation.{least}
 use Rattle.numbers.proofs.Lin.{whole, rd, ranged, unsigned, abs_pos, abs_back, sub_out, fits_is}
 use Rattle.glass_tables.proofs.Found.{bits_neg, bits_pos}
+use Rattle.glass_tables.proofs.greys.bits.Goals.{Then-state-lt0}
 use Rattle.glass_tables.proofs.greys.bits.Goals as goal
 
 -- how far a state below 0 lies above the least
-abbrev above : goal.Then-state-lt0 → ℤ
+abbrev above : Then-state-lt0 → ℤ
 above c = rd c.args.state -ℤ least
 
 pub overflow_sub-result : goal.overflow_sub-result
@@ -37,5 +38,5 @@ returns-then-state-lt0 c =
 pub overflow_cast-result-2 : goal.overflow_cast-result-2
 overflow_cast-result-2 c = let s = c.before in unsigned s.ranges.state (omega (whole, ranged s.ranges.state))
 
-pub returns-then-state-lt0 : goal.returns
-returns-then-state-lt0 c = let s = c.before in abs_back s.ranges.state ∙ bits_pos s.args.state (omega (whole, ranged s.ranges.state))
+pub returns : goal.returns
+returns c = let s = c.before in abs_back s.ranges.state ∙ bits_pos s.args.state (omega (whole, ranged s.ranges.state))

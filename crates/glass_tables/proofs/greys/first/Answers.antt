@@ -7,13 +7,14 @@ use lib.Pow.{pow_mono, shl_exact}
 use lib.IntN.{pos}
 use Rattle.numbers.proofs.Lin.{back}
 use Rattle.glass.specs.Greys.{gray_z}
+use Rattle.glass_tables.proofs.greys.first.Goals.{Start}
 use Rattle.glass_tables.proofs.greys.first.Goals as goal
 
 -- the shift loses nothing
-exact : (c : goal.Start) → (c.args.step * 2 ^ c.args.shift) % 2 ^ 64 ≡ c.args.step * 2 ^ c.args.shift
+exact : (c : Start) → (c.args.step * 2 ^ c.args.shift) % 2 ^ 64 ≡ c.args.step * 2 ^ c.args.shift
 exact c = shl_exact 9 c.args.shift 64 (omega arith) (omega arith)
 
-begins : (c : goal.Start) → c.args.step * 2 ^ c.args.shift < 9223372036854775808
+begins : (c : Start) → c.args.step * 2 ^ c.args.shift < 9223372036854775808
 begins c = omega (arith, mul-le-mul {n₁ = c.args.step} {m₁ = 2 ^ c.args.shift} {n₂ = 511} {m₂ = 18014398509481984} (omega arith) (pow_mono {i = c.args.shift} {j = 54} (omega arith)))
 
 pub overflow_cast-step : goal.overflow_cast-step

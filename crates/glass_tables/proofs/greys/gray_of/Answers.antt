@@ -15,6 +15,7 @@ use Rattle.glass_tables.specs.Greys.{bits_of, firsts_of, grey_end, ends_of}
 use Rattle.glass.proofs.Grey.{gray_low, gray_high}
 use Rattle.glass_tables.proofs.Found.{bits_pos, bits_within, within_lt, gray_within, first_le, past, before}
 use borrow.Author.Tests.{ltb-true, ltb-false}
+use Rattle.glass_tables.proofs.greys.gray_of.Goals.{After-bits-found, Else-swing-found, Start, Then-ends-first}
 use Rattle.glass_tables.proofs.greys.gray_of.Goals as goal
 
 pub overflow_cast-swing : goal.overflow_cast-swing
@@ -22,7 +23,7 @@ overflow_cast-swing c =
     let s = c.before in
     unsigned s.ranges.swing (omega (whole, ranged s.ranges.swing, s.requires.some))
 
-found_is : (c : goal.After-bits-found) → c.bits-found.result ≡ bits_of c.args.state
+found_is : (c : After-bits-found) → c.bits-found.result ≡ bits_of c.args.state
 found_is c = c.bits-found.ensures ∙ ap bits_of (back c.ranges.state)
 
 -- ---- a state that is not from 0 to the swing
@@ -44,25 +45,25 @@ returns-else-state-lt0 c =
     (is_le s.args.swing s.args.state (omega (whole, abs_back s.ranges.swing, found_is call, ltb-true, c.if-swing-found.true)))
 
 -- ---- a state from 0 to the swing
-abbrev start : goal.Else-swing-found → goal.Start
+abbrev start : Else-swing-found → Start
 start c = c.before.before
 
-abbrev x : goal.Else-swing-found → ℕ
+abbrev x : Else-swing-found → ℕ
 x c = c.bits-found.result
 
-abbrev n : goal.Else-swing-found → ℕ
+abbrev n : Else-swing-found → ℕ
 n c = nat_abs (start c).args.swing
 
-abbrev k : goal.Else-swing-found → ℕ
+abbrev k : Else-swing-found → ℕ
 k c = (start c).args.shift
 
-record Within (c : goal.Else-swing-found) : Type 0 where
+record Within (c : Else-swing-found) : Type 0 where
   pub below : x c ≤ n c
   pub some : 1 ≤ n c
   pub state : pos (x c) ≡ (start c).args.state
   pub swing : pos (n c) ≡ (start c).args.swing
 
-within : (c : goal.Else-swing-found) → Within c
+within : (c : Else-swing-found) → Within c
 within c =
     let s = start c in
     let o = s.pre.some in
@@ -78,20 +79,20 @@ within c =
       swing = ap pos (sym (abs_back s.fits.swing)) ∙ pos-nat_abs _ (unsigned s.fits.swing (omega whole)).0 ∙ back s.fits.swing;
     }
 
-step_lt : (c : goal.Else-swing-found) → x c / 2 ^ k c < 512
+step_lt : (c : Else-swing-found) → x c / 2 ^ k c < 512
 step_lt c = let w = within c in omega (arith, shr_mono (k c) w.below, (start c).requires.steps.few)
 
 pub bounds-firsts-found : goal.bounds-firsts-found
 bounds-firsts-found c = step_lt c
 
 -- the grey that the state's step begins with
-abbrev l : goal.Else-swing-found → ℕ
+abbrev l : Else-swing-found → ℕ
 l c = (510 * (x c / 2 ^ k c * 2 ^ k c) + n c) / (2 * n c)
 
-abbrev first : goal.Else-swing-found → ℕ
+abbrev first : Else-swing-found → ℕ
 first c = get_or (start c).args.firsts.now (x c / 2 ^ k c) 0
 
-first_is : (c : goal.Else-swing-found) → first c ≡ l c
+first_is : (c : Else-swing-found) → first c ≡ l c
 unfolding firsts_of
 first_is c =
     let s = start c in
@@ -101,13 +102,13 @@ first_is c =
     ∙ ap (gray_z _) (sym w.swing)
     ∙ sym (gray_within _ (n c) (let b = first_le (x c) (n c) (k c) w.some s.pre.steps.fine in omega arith) w.some)
 
-l_lt : (c : goal.Else-swing-found) → l c < 256
+l_lt : (c : Else-swing-found) → l c < 256
 l_lt c =
     let s = start c in
     let w = within c in
     within_lt _ (n c) (let b = first_le (x c) (n c) (k c) w.some s.pre.steps.fine in omega arith) w.some
 
-end_is : (c : goal.Else-swing-found) → get_or (start c).args.ends.now (first c) 0 ≡ grey_end (n c) (l c)
+end_is : (c : Else-swing-found) → get_or (start c).args.ends.now (first c) 0 ≡ grey_end (n c) (l c)
 unfolding ends_of
 end_is c =
     let s = start c in
@@ -116,7 +117,7 @@ end_is c =
     ∙ get_d_tab 256 (grey_end (n c)) (l c) 0 (l_lt c)
 
 -- the grey, if it is found
-is : (c : goal.Else-swing-found) (g : ℕ) → g ≡ (510 * x c + n c) / (2 * n c) → g ≡ gray_z (start c).args.state (start c).args.swing
+is : (c : Else-swing-found) (g : ℕ) → g ≡ (510 * x c + n c) / (2 * n c) → g ≡ gray_z (start c).args.state (start c).args.swing
 is c g e = let w = within c in e ∙ gray_within (x c) (n c) w.below w.some ∙ (λ i. gray_z (w.state i) (w.swing i))
 
 pub overflow_cast-first : goal.overflow_cast-first
@@ -128,7 +129,7 @@ offset_bounds-ends-first c = record { fits = omega (arith, first_is c.before.bef
 pub bounds-ends-first : goal.bounds-ends-first
 bounds-ends-first c = omega (arith, first_is c.before.before, l_lt c.before.before)
 
-next : (c : goal.Then-ends-first) → l c.before.before.before.before + 1 ≡ (510 * x c.before.before.before.before + n c.before.before.before.before) / (2 * n c.before.before.before.before)
+next : (c : Then-ends-first) → l c.before.before.before.before + 1 ≡ (510 * x c.before.before.before.before + n c.before.before.before.before) / (2 * n c.before.before.before.before)
 next c =
     let e = c.before.before.before.before in
     let w = within e in

@@ -36,8 +36,8 @@ loop-shift-preserved c =
     let m = c.before.before in
     (omega arith, longer m.args.swing m.loop-shift.shift c.if-swing-shift-lt512.false)
 
-pub returns-then-swing-shift-lt512 : goal.returns
-returns-then-swing-shift-lt512 c =
+pub returns : goal.returns
+returns c =
     let m = c.before in
     let n = m.args.swing in
     let e : 54 ≡ m.loop-shift.shift = omega arith in

@@ -18,7 +18,7 @@ returns-then-periods-i-eq0 c =
 pub loop-i-preserved : goal.loop-i-preserved
 loop-i-preserved c = (omega arith, below_more _ _ c.loop-i.invariant.1 (ne_eqb _ 0 c.if-periods-i-eq0.false))
 
-pub returns-then-periods-i-eq0 : goal.returns
-returns-then-periods-i-eq0 c =
+pub returns : goal.returns
+returns c =
     let periods = c.args.periods in
     let n : c.loop-i.i ≡ 16 = omega arith in record { value = sym (eq-eqb (zero_period periods) 16 (lowest_none (is_zero periods) 16 (rw n at c.loop-i.invariant.1))); code_nonzero = λ e code h. omega (arith, eqb-false (get_or periods code 0) 0 (c.loop-i.invariant.1 code (omega arith))) }

@@ -34,8 +34,8 @@ returns-then-line-ne27 c = short c.args.line.now c.if-line-ne27.true
 pub returns-then-line-ne10 : goal.returns-then-line-ne10
 returns-then-line-ne10 c = no_end c.args.line.now c.if-line-ne27.false c.if-line-ne10.true
 
-pub returns-then-line-ne27 : goal.returns
-returns-then-line-ne27 c =
+pub returns : goal.returns
+returns c =
     let number = c.before.before.before.before.before.before in
     let s = number.args.line.now in
     whole s number.number-number.result c.number-kind.result c.number-value.result c.three.result

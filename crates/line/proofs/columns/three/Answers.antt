@@ -21,8 +21,8 @@ returns-in_default-value c =
     λ i. three_of (sym c.in-Number.is i) (sym c.in-Number-kind.is i)
     (sym c.in_default-value.is i)
 
-pub returns-in_default : goal.returns
+pub returns : goal.returns
 unfolding three_of
-returns-in_default c =
+returns c =
     λ i. three_of (sym c.in-Number.is i) (sym c.in-Number-kind.is i)
     (sym c.in-Number-value.is i)

@@ -21,8 +21,8 @@ returns-then-field-lt31 c =
     let f = c.args.field in
     rw (le-ltb f 12 (omega arith)) (rw (le-ltb f 14 (omega arith)) (rw (lt-ltb f 31 (omega arith)) refl))
 
-pub returns-then-field-lt12 : goal.returns
+pub returns : goal.returns
 unfolding state_bits_of
-returns-then-field-lt12 c =
+returns c =
     let f = c.args.field in
     rw (le-ltb f 12 (omega arith)) (rw (le-ltb f 14 (omega arith)) (rw (le-ltb f 31 (omega arith)) refl))

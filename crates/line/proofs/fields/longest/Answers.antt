@@ -34,9 +34,9 @@ returns-then-buffer-lt8 c =
     rw (le-ltb b 3 (omega arith))
     (rw (le-ltb b 5 (omega arith)) (rw (le-ltb b 6 (omega arith)) (rw (le-ltb b 7 (omega arith)) (rw (lt-ltb b 8 (omega arith)) refl))))
 
-pub returns-then-buffer-lt3 : goal.returns
+pub returns : goal.returns
 unfolding longest_of
-returns-then-buffer-lt3 c =
+returns c =
     let b = c.args.buffer in
     rw (le-ltb b 3 (omega arith))
     (rw (le-ltb b 5 (omega arith)) (rw (le-ltb b 6 (omega arith)) (rw (le-ltb b 7 (omega arith)) (rw (le-ltb b 8 (omega arith)) refl))))

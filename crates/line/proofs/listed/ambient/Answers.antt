@@ -7,5 +7,5 @@ use Rattle.line.proofs.listed.ambient.Goals as goal
 pub returns-then-register-lt65536 : goal.returns-then-register-lt65536
 returns-then-register-lt65536 c = below _ _ _ (omega arith) refl
 
-pub returns-then-register-lt65536 : goal.returns
-returns-then-register-lt65536 c = above _ _ _ (omega arith)
+pub returns : goal.returns
+returns c = above _ _ _ (omega arith)

@@ -10,5 +10,5 @@ returns-then-number-most c = below _ _ _ (omega arith) (below _ _ _ (omega (arit
 pub returns-then-value-lt54 : goal.returns-then-value-lt54
 returns-then-value-lt54 c = below _ _ _ (omega arith) (above _ _ _ (omega (arith, c.largest-most.ensures)))
 
-pub returns-then-number-most : goal.returns
-returns-then-number-most c = above _ _ _ (omega arith)
+pub returns : goal.returns
+returns c = above _ _ _ (omega arith)

@@ -10,5 +10,5 @@ returns-then-length-most c = below _ _ _ (omega arith) (below _ _ _ (omega (arit
 pub returns-then-buffer-lt9 : goal.returns-then-buffer-lt9
 returns-then-buffer-lt9 c = below _ _ _ (omega arith) (above _ _ _ (omega (arith, c.longest-most.ensures)))
 
-pub returns-then-length-most : goal.returns
-returns-then-length-most c = above _ _ _ (omega arith)
+pub returns : goal.returns
+returns c = above _ _ _ (omega arith)

@@ -10,5 +10,5 @@ returns-then-byte-lt256 c = below _ _ _ (omega arith) (below _ _ _ (omega arith)
 pub returns-then-place-lt10000 : goal.returns-then-place-lt10000
 returns-then-place-lt10000 c = below _ _ _ (omega arith) (above _ _ _ (omega arith))
 
-pub returns-then-byte-lt256 : goal.returns
-returns-then-byte-lt256 c = above _ _ _ (omega arith)
+pub returns : goal.returns
+returns c = above _ _ _ (omega arith)

@@ -7,5 +7,5 @@ use Rattle.line.proofs.listed.reset.Goals as goal
 pub returns-then-value-lt2 : goal.returns-then-value-lt2
 returns-then-value-lt2 c = below _ _ _ (omega arith) refl
 
-pub returns-then-value-lt2 : goal.returns
-returns-then-value-lt2 c = above _ _ _ (omega arith)
+pub returns : goal.returns
+returns c = above _ _ _ (omega arith)

@@ -7,5 +7,5 @@ use Rattle.line.proofs.listed.zero.Goals as goal
 pub returns-then-column-lt1 : goal.returns-then-column-lt1
 returns-then-column-lt1 c = below _ _ _ (omega arith) refl
 
-pub returns-then-column-lt1 : goal.returns
-returns-then-column-lt1 c = above _ _ _ (omega arith)
+pub returns : goal.returns
+returns c = above _ _ _ (omega arith)

@@ -3,5 +3,5 @@ use mathlib.Core.Path.{sym}
 use lib.ListN.{get_or-eq_default}
 use Rattle.pgm.proofs.form.byte_at.Goals as goal
 
-pub returns-then-at-file : goal.returns
-returns-then-at-file c = sym (get_or-eq_default c.args.file.now 0 c.if-at-file.false)
+pub returns : goal.returns
+returns c = sym (get_or-eq_default c.args.file.now 0 c.if-at-file.false)

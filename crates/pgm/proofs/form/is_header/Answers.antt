@@ -28,9 +28,9 @@ slice_bounds-starts_with-end c =
     let put = count.before.before in
     sym (length-take-le count.byte_count-length.result put.put.new.out (omega arith))
 
-pub returns-then-not-fine : goal.returns
+pub returns : goal.returns
 unfolding is_header_of
-returns-then-not-fine c =
+returns c =
     let count = c.before.before.before in
     let put = count.before.before in
     let fine = put.before.before in

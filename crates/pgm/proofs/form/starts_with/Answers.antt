@@ -38,8 +38,8 @@ loop-i-preserved c =
     let l = c.loop-i in
     (sym (byte_same s.front.now s.file.now l.i (omega arith) (omega arith) (omega arith)) ∙ l.invariant.0, omega arith)
 
-pub returns-then-file-i : goal.returns
-returns-then-file-i c =
+pub returns : goal.returns
+returns c =
     let s = c.args in
     let l = c.loop-i in
     sym (starts_all s.front.now s.file.now l.i (omega arith)) ∙ l.invariant.0

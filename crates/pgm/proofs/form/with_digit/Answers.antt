@@ -26,6 +26,6 @@ returns-then-byte c =
     let most = at_most (leb 48 b.result) b.result 57 c.if-byte.true in
     (digit_there s.file.now s.number b.ensures c.if-byte.true, (omega arith, omega arith))
 
-pub returns-then-byte : goal.returns
-returns-then-byte c =
+pub returns : goal.returns
+returns c =
     let s = c.args in record { digit = no_digit_there s.file.now s.number c.byte_at-byte.ensures c.if-byte.false; small = omega arith; near = omega arith }

@@ -16,7 +16,7 @@ returns-then-n-ge10 c =
     let n = c.args.n in
     (passed _ _ _ _ (lt-leb 100 n (omega arith)) (took _ _ _ _ (le-leb 10 n (omega arith)) refl), (omega arith, omega arith))
 
-pub returns-then-n-ge100 : goal.returns
+pub returns : goal.returns
 unfolding digit_count
-returns-then-n-ge100 c =
+returns c =
     let n = c.args.n in record { count = passed _ _ _ _ (lt-leb 100 n (omega arith)) (passed _ _ _ _ (lt-leb 10 n (omega arith)) refl); few = (omega arith, omega arith) }

@@ -19,6 +19,6 @@ overflow_add-end c =
     let made = c.before.before.before.before.before.before.before.before in
     omega (arith, length-take-le made.write_header-made.result.length made.write_header-made.new.out (omega arith))
 
-pub returns-then-length-eq0 : goal.returns
-returns-then-length-eq0 c =
+pub returns : goal.returns
+returns c =
     let made = c.before.before.before.before.before.before.before.before in let whole = omega (arith, length-take-le made.write_header-made.result.length made.write_header-made.new.out (omega arith)) in record { near = whole.0; few = whole.1 }

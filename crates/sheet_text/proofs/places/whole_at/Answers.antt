@@ -29,9 +29,9 @@ returns-then-minus_at c =
     took _ _ _ _ (sym minus.minus_at.ensures ∙ c.if-minus_at.true)
     (got c.negative_i64.type_inv (c.negative_i64.ensures ∙ sat_fits (neg_fits n e.small) ∙ ap (λ (k : ℕ). neg_ℤ (pos k)) e.number))
 
-pub returns-then-minus_at : goal.returns
+pub returns : goal.returns
 unfolding whole_at
-returns-then-minus_at c =
+returns c =
     let minus = c.before.before.before in
     let number = minus.before in
     let e = number.number_at-n.ensures in

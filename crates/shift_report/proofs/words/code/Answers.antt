@@ -11,6 +11,7 @@ use Rattle.numbers.specs.Choice.{pick}
 use Rattle.numbers.proofs.Cases.{left, right}
 use Rattle.shift_report.specs.declared.words.CodeWord.TheVariants.{Writes, NoCode}
 use Rattle.shift_report.specs.Words.{hex_value, code_word}
+use Rattle.shift_report.proofs.words.code.Goals.{Then-word-high}
 use Rattle.shift_report.proofs.words.code.Goals as goal
 
 none : (w : List ℕ) → (length w ≡ 4 → ⊥) → NoCode ≡ code_word w
@@ -26,7 +27,7 @@ digits w e high low = rw (eq-eqb (length w) 4 e, sym high, sym low)
 both : (a b : Bool) (h l : ℕ) → a && b && ltb h 16 && ltb l 16 ≡ true → (h < 16) × (l < 16)
 both a b h l e = (ltb-true h 16 (right (a && b) (ltb h 16) (left (a && b && ltb h 16) (ltb l 16) e)), ltb-true l 16 (right (a && b && ltb h 16) (ltb l 16) e))
 
-below : (c : goal.Then-word-high) → (c.hex_value-high.result < 16) × (c.hex_value-low.result < 16)
+below : (c : Then-word-high) → (c.hex_value-high.result < 16) × (c.hex_value-low.result < 16)
 below c =
     let low = c.before.before.before.before in
     let high = low.before.before in
@@ -49,8 +50,8 @@ returns-then-word-high c =
     let test = high.before.before in
     sym (digits test.args.word.now test.if-word-ne4.false high.hex_value-high.ensures low.hex_value-low.ensures ∙ rw c.if-word-high.true)
 
-pub returns-then-word-ne4 : goal.returns
-returns-then-word-ne4 c =
+pub returns : goal.returns
+returns c =
     let low = c.before.before.before.before in
     let high = low.before.before in
     let test = high.before.before in

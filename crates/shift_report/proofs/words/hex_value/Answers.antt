@@ -27,6 +27,6 @@ pub returns-then-byte-3 : goal.returns-then-byte-3
 unfolding hex_value
 returns-then-byte-3 c = rw (c.if-byte.false, c.if-byte-2.false, c.if-byte-3.true)
 
-pub returns-then-byte : goal.returns
+pub returns : goal.returns
 unfolding hex_value
-returns-then-byte c = rw (c.if-byte.false, c.if-byte-2.false, c.if-byte-3.false)
+returns c = rw (c.if-byte.false, c.if-byte-2.false, c.if-byte-3.false)

@@ -49,8 +49,8 @@ loop-i-preserved c =
     let a = l.args in
     (omega arith, l.loop-i.invariant.1, l.loop-i.invariant.2 ∙ alike a.given.now a.word.now l.loop-i.i (omega arith) (omega (arith, l.loop-i.invariant.1)) c.if-given-i.false)
 
-pub returns-then-given-word : goal.returns
-returns-then-given-word c =
+pub returns : goal.returns
+returns c =
     let l = c.before in
     let a = l.args in
     sym (l.loop-i.invariant.2 ∙ all a.given.now a.word.now l.loop-i.i (omega arith) l.loop-i.invariant.1)

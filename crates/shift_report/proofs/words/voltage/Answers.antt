@@ -20,9 +20,9 @@ returns-then-is_word-3 c =
     let first = second.before.before.before in
     rw (sym first.is_IsWord.ensures ∙ first.if-is_word.false, sym second.is_word-2.ensures ∙ second.if-is_word-2.false, sym c.is_word-3.ensures ∙ c.if-is_word-3.true)
 
-pub returns-then-is_word : goal.returns
+pub returns : goal.returns
 unfolding voltage_word
-returns-then-is_word c =
+returns c =
     let second = c.before.before.before.before in
     let first = second.before.before.before in
     rw (sym first.is_IsWord.ensures ∙ first.if-is_word.false, sym second.is_word-2.ensures ∙ second.if-is_word-2.false, sym c.is_word-3.ensures ∙ c.if-is_word-3.false)

@@ -8,6 +8,6 @@ pub returns-then-index-lt10 : goal.returns-then-index-lt10
 unfolding stored
 returns-then-index-lt10 c = rw (lt-ltb c.args.index 10 (omega arith))
 
-pub returns-then-index-lt10 : goal.returns
+pub returns : goal.returns
 unfolding stored
-returns-then-index-lt10 c = rw (le-ltb c.args.index 10 (omega arith))
+returns c = rw (le-ltb c.args.index 10 (omega arith))

@@ -10,6 +10,6 @@ pub returns-then-index-lt2 : goal.returns-then-index-lt2
 unfolding stored
 returns-then-index-lt2 c = rw (lt-ltb c.args.index 2 (omega arith), c.ten_bits.ensures)
 
-pub returns-then-index-lt2 : goal.returns
+pub returns : goal.returns
 unfolding stored bit_of
-returns-then-index-lt2 c = rw (le-ltb c.args.index 2 (omega arith), test_bit 1 c.args.byte, test_bit 2 c.args.byte)
+returns c = rw (le-ltb c.args.index 2 (omega arith), test_bit 1 c.args.byte, test_bit 2 c.args.byte)

@@ -8,5 +8,5 @@ overflow_add-result c = omega arith
 pub returns-then-index-lt2 : goal.returns-then-index-lt2
 returns-then-index-lt2 c = omega arith
 
-pub returns-then-index-lt2 : goal.returns
-returns-then-index-lt2 c = omega arith
+pub returns : goal.returns
+returns c = omega arith

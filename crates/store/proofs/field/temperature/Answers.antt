@@ -12,9 +12,9 @@ unfolding stored
 returns-then-index-eq0 c =
     rw (eq-eqb c.args.index 0 c.if-index-eq0.true, put_high 4 16 c.args.regs.temperature c.args.byte (omega arith))
 
-pub returns-then-index-eq0 : goal.returns
+pub returns : goal.returns
 unfolding stored
-returns-then-index-eq0 c =
+returns c =
     rw (
       ne_eqb c.args.index 0 c.if-index-eq0.false,
       and_high c.args.regs.temperature 8 4,

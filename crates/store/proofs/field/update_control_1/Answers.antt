@@ -9,6 +9,6 @@ pub returns-then-index-eq0 : goal.returns-then-index-eq0
 unfolding stored
 returns-then-index-eq0 c = let first : c.args.index ≡ 0 = c.if-index-eq0.true in rw first
 
-pub returns-then-index-eq0 : goal.returns
+pub returns : goal.returns
 unfolding stored
-returns-then-index-eq0 c = let second : min c.args.index 1 ≡ 1 = omega (arith, c.if-index-eq0.false) in rw second
+returns c = let second : min c.args.index 1 ≡ 1 = omega (arith, c.if-index-eq0.false) in rw second

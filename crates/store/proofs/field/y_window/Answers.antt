@@ -8,6 +8,6 @@ pub returns-then-index-lt2 : goal.returns-then-index-lt2
 unfolding stored
 returns-then-index-lt2 c = rw (lt-ltb c.args.index 2 (omega arith), c.ten_bits-moved.ensures)
 
-pub returns-then-index-lt2 : goal.returns
+pub returns : goal.returns
 unfolding stored
-returns-then-index-lt2 c = rw (le-ltb c.args.index 2 (omega arith), c.ten_bits-moved-2.ensures)
+returns c = rw (le-ltb c.args.index 2 (omega arith), c.ten_bits-moved-2.ensures)

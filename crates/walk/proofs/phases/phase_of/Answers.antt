@@ -7,17 +7,17 @@ use Rattle.numbers.proofs.Lin.{whole, rd, back, got, sub_out, fits_is}
 use Rattle.waveform.specs.Voltages.{source_level, vcom_swing, Listable}
 use Rattle.waveform.specs.Phases.{code_for, phase_of}
 use Rattle.waveform_laws.proofs.Range.{source_listable, vcom_listable}
-use Rattle.walk.proofs.phases.phase_of.Goals.{Start}
+use Rattle.walk.proofs.phases.phase_of.Goals.{After-vcom_swing-vcom, Start}
 use Rattle.walk.proofs.phases.phase_of.Goals as goal
 
-abbrev start : goal.After-vcom_swing-vcom → Start
+abbrev start : After-vcom_swing-vcom → Start
 start c = c.before.before.before.before.before
 
 -- the two levels, read back
-source_is : (c : goal.After-vcom_swing-vcom) → rd c.source-source.result ≡ source_level (start c).args.driving.levels (code_for (start c).args.driving.drive (start c).args.t2.codes (start c).args.phase)
+source_is : (c : After-vcom_swing-vcom) → rd c.source-source.result ≡ source_level (start c).args.driving.levels (code_for (start c).args.driving.drive (start c).args.t2.codes (start c).args.phase)
 source_is c = got c.source-source.type_inv (c.source-source.ensures ∙ ap (source_level (start c).args.driving.levels) c.code_for.ensures)
 
-vcom_is : (c : goal.After-vcom_swing-vcom) → rd c.vcom_swing-vcom.result ≡ vcom_swing (start c).args.driving.levels (get_or (start c).args.t2.codes (16 + (start c).args.phase) 0)
+vcom_is : (c : After-vcom_swing-vcom) → rd c.vcom_swing-vcom.result ≡ vcom_swing (start c).args.driving.levels (get_or (start c).args.t2.codes (16 + (start c).args.phase) 0)
 vcom_is c = got c.vcom_swing-vcom.type_inv c.vcom_swing-vcom.ensures
 
 pub overflow_sub-millivolts : goal.overflow_sub-millivolts

@@ -12,8 +12,8 @@ returns-then-phase-eq0 c =
     let d = call.args.driving in
     drive_none d call.phase_of-phase.result c.if-phase-eq0.true ∙ ap (phase_step d) call.phase_of-phase.ensures
 
-pub returns-then-phase-eq0 : goal.returns
-returns-then-phase-eq0 c =
+pub returns : goal.returns
+returns c =
     let test = c.before.before in
     let call = test.before.before in
     let d = call.args.driving in
