@@ -20,12 +20,7 @@ returns-then-can_combine c =
     let s = test.before.before in
     let a = s.args in
     let fits = c.struct_told-1.given in
-    let swing = back s.ranges.swing in (
-      sym test.if-can_combine.true ∙ test.can_combine.ensures ∙ ap (λ (z : ℤ). combinable a.periods.now a.lut z) swing,
-      (λ i. field_back call.combined-whole.result.add fits.0.1 i ∷ field_back call.combined-whole.result.lo fits.1.0.1 i ∷ field_back call.combined-whole.result.hi fits.1.1.0.1 i ∷ [])
-          ∙ ap numbers_of
-          (call.combined-whole.ensures ∙ (λ i. settled (whole_transfer a.setting.now a.periods.now (Lut a.lut) (swing i) a.positive-drives-black))),
-    )
+    let swing = back s.ranges.swing in record { value = sym test.if-can_combine.true ∙ test.can_combine.ensures ∙ ap (λ (z : ℤ). combinable a.periods.now a.lut z) swing; out_after = (λ i. field_back call.combined-whole.result.add fits.0.1 i ∷ field_back call.combined-whole.result.lo fits.1.0.1 i ∷ field_back call.combined-whole.result.hi fits.1.1.0.1 i ∷ []) ∙ ap numbers_of (call.combined-whole.ensures ∙ (λ i. settled (whole_transfer a.setting.now a.periods.now (Lut a.lut) (swing i) a.positive_drives_black))) }
 
 pub returns : goal.returns
 returns c =

@@ -15,11 +15,7 @@ returns-then-can_gray c =
     let call = c.before.before.before in
     let test = call.before.before in
     let s = test.before.before.before in
-    let a = s.args in (
-      sym test.if-can_gray.true ∙ test.can_gray.ensures
-          ∙ ap (λ (z : ℤ). grayable z (length a.states.now) (length a.pixels.now)) (back s.ranges.swing),
-      call.paint_grays.ensures ∙ ap (λ (z : ℤ). grays z a.states.now) (back s.ranges.swing),
-    )
+    let a = s.args in record { value = sym test.if-can_gray.true ∙ test.can_gray.ensures ∙ ap (λ (z : ℤ). grayable z (length a.states.now) (length a.pixels.now)) (back s.ranges.swing); pixels_after = call.paint_grays.ensures ∙ ap (λ (z : ℤ). grays z a.states.now) (back s.ranges.swing) }
 
 pub returns : goal.returns
 returns c =

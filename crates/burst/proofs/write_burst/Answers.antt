@@ -6,17 +6,17 @@ use Rattle.burst.proofs.write_burst.Goals as goal
 pub returns-then-active-eq36 : goal.returns-then-active-eq36
 returns-then-active-eq36 c =
     let s = c.args in
-    bursts_black_white s.kinds.now s.times.now s.values.now _ s.from s.state s.black_white.now s.red.now s.state.bus.current _ _ c.in-Active.is c.stream_is.ensures _ c.if-is_stream.true (eq-eqb _ _ c.if-active-eq36.true) c.run_into.ensures
+    bursts_black_white s.kinds.now s.times.now s.values.now _ s.from s.state s.black_white.now s.red.now s.state.bus.current _ _ c.in-Active.is c.is_stream.ensures _ c.if-is_stream.true (eq-eqb _ _ c.if-active-eq36.true) c.run_into.ensures
 
 pub returns-then-is_stream : goal.returns-then-is_stream
 returns-then-is_stream c =
     let s = c.args in
-    bursts_red s.kinds.now s.times.now s.values.now _ s.from s.state s.black_white.now s.red.now s.state.bus.current _ _ c.in-Active.is c.stream_is.ensures _ c.if-is_stream.true (ne_eqb _ _ c.if-active-eq36.false) c.run_into-then-is_stream.ensures
+    bursts_red s.kinds.now s.times.now s.values.now _ s.from s.state s.black_white.now s.red.now s.state.bus.current _ _ c.in-Active.is c.is_stream.ensures _ c.if-is_stream.true (ne_eqb _ _ c.if-active-eq36.false) c.run_into-then-is_stream.ensures
 
 pub returns-else-is_stream : goal.returns-else-is_stream
 returns-else-is_stream c =
     let s = c.args in
-    bursts_not s.kinds.now s.times.now s.values.now _ s.from s.state s.black_white.now s.red.now s.state.bus.current _ _ c.in-Active.is c.stream_is.ensures c.if-is_stream.false
+    bursts_not s.kinds.now s.times.now s.values.now _ s.from s.state s.black_white.now s.red.now s.state.bus.current _ _ c.in-Active.is c.is_stream.ensures c.if-is_stream.false
 
 pub returns-in-Idle : goal.returns-in-Idle
 returns-in-Idle c =

@@ -67,8 +67,7 @@ returns-then-other c =
 pub waveform_of-waveform-requires : goal.waveform_of-waveform-requires
 waveform_of-waveform-requires c =
     let test = c.before.before in
-    let a = test.before.before.before in
-    (eqb-true (length (setting a)) 112 (unturned _ test.if-other.false), none_long (periods a) (sym a.has_long_period-long.ensures ∙ test.if-long.false))
+    let a = test.before.before.before in record { setting = eqb-true (length (setting a)) 112 (unturned _ test.if-other.false); periods = none_long (periods a) (sym a.has_long_period-long.ensures ∙ test.if-long.false) }
 
 below_4 : (lut : PixelLut) → lut_number lut < 4
 below_4 Lut0 = omega arith
@@ -79,7 +78,7 @@ below_4 Lut3 = omega arith
 pub charge_of-requires : goal.charge_of-requires
 charge_of-requires c =
     let wave = c.before.before in
-    let a = wave.before.before.before.before.before in record { lut = omega (arith, c.number_of_lem.ensures, below_4 (start a).args.lut); bounded = wave.waveform_of-waveform.ensures.bounded }
+    let a = wave.before.before.before.before.before in record { lut = omega (arith, c.number_of.ensures, below_4 (start a).args.lut); bounded = wave.waveform_of-waveform.ensures.bounded }
 
 pub returns : goal.returns
 unfolding charged_of
@@ -90,4 +89,4 @@ returns c =
     let a = test.before.before.before in
     at_none (first a) (long a) (lent a) (pos 0) (sum a) a.periods_error-error.ensures (ap not (sym a.is_accepted-accepted.ensures) ∙ test.if-not-accepted.false)
     (sym a.has_long_period-long.ensures ∙ test.if-long.false) test.if-other.false
-    (got c.charge_of.type_inv c.charge_of.ensures ∙ (λ i. drive_sum (phases_of (wave.waveform_of-waveform.ensures.is i) (Lut (number.number_of_lem.ensures i)))))
+    (got c.charge_of.type_inv c.charge_of.ensures ∙ (λ i. drive_sum (phases_of (wave.waveform_of-waveform.ensures.is i) (Lut (number.number_of.ensures i)))))

@@ -11,12 +11,12 @@ returns-then-is_accepted c =
     let test = c.before.before in
     let periods = test.before.before in
     let s = periods.args in
-    goes_on (periods_test s.frame-period ∷ []) (table_test s.otp.now ∷ []) _ _ periods.periods_error-periods.ensures
+    goes_on (periods_test s.frame_period ∷ []) (table_test s.otp.now ∷ []) _ _ periods.periods_error-periods.ensures
     (sym test.is_accepted.ensures ∙ test.if-is_accepted.true) c.table_error.ensures
 
 pub returns : goal.returns
 returns c =
     let periods = c.before.before.before in
     let s = periods.args in
-    stops (periods_test s.frame-period ∷ []) (table_test s.otp.now ∷ []) _ periods.periods_error-periods.ensures
+    stops (periods_test s.frame_period ∷ []) (table_test s.otp.now ∷ []) _ periods.periods_error-periods.ensures
     (sym c.is_accepted.ensures ∙ c.if-is_accepted.false)

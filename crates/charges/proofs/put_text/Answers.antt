@@ -36,8 +36,7 @@ slice_bounds-put_line-end c = omega arith
 
 pub put_line-at-requires : goal.put_line-at-requires
 put_line-at-requires c =
-    let s = c.before.before.before.before.before.before.before in
-    (omega (arith, s.requires.room), (simp (length-take, length-drop) (omega arith), s.requires.periods))
+    let s = c.before.before.before.before.before.before.before in record { room = omega (arith, s.requires.room); setting = simp (length-take, length-drop) (omega arith); periods = s.requires.periods }
 
 pub overflow_add-entry : goal.overflow_add-entry
 overflow_add-entry c = omega arith
@@ -57,8 +56,8 @@ loop-entry-preserved c =
     let put = c.before.before.before in
     let l = put.before.before.before.before in
     let s = l.args in (
-      joined_more 0 s.out.now (lineIn s.frame-period.now s.otp.now) l.loop-entry.entry (omega arith) l.loop-entry.invariant.0
-          (as_setting (buffer l.loop-entry.at l.loop-entry.out) s.frame-period.now s.otp.now (118 * l.loop-entry.entry + 6) l.loop-entry.entry put.put_line-at.ensures.text),
+      joined_more 0 s.out.now (lineIn s.frame_period.now s.otp.now) l.loop-entry.entry (omega arith) l.loop-entry.invariant.0
+          (as_setting (buffer l.loop-entry.at l.loop-entry.out) s.frame_period.now s.otp.now (118 * l.loop-entry.entry + 6) l.loop-entry.entry put.put_line-at.ensures.text),
       omega (arith, put.put_line-at.ensures.end),
       omega arith,
       omega arith,
@@ -74,6 +73,6 @@ returns c =
     let s = l.before.before.before in
     let a = s.args in
     let e : l.loop-entry.entry ≡ entry_count a.otp.now = omega arith in
-    filled (joined (entry_count a.otp.now) (lineIn a.frame-period.now a.otp.now)) a.out.now
-    (l.loop-entry.invariant.0 ∙ ap (λ (n : ℕ). appended (buffer 0 a.out.now) (joined n (lineIn a.frame-period.now a.otp.now))) e)
+    filled (joined (entry_count a.otp.now) (lineIn a.frame_period.now a.otp.now)) a.out.now
+    (l.loop-entry.invariant.0 ∙ ap (λ (n : ℕ). appended (buffer 0 a.out.now) (joined n (lineIn a.frame_period.now a.otp.now))) e)
     (omega (arith, s.requires.room))

@@ -22,7 +22,7 @@ loop-at-preserved c =
     let a = m.args in
     let step = whole_step a.driving in
     let s = a.setting.now in
-    let p = a.frame-period.now in
+    let p = a.frame_period.now in
     let phase = phase_in a.driving (timed_group s p a.group) m.loop-at.at in
     let frames = c.frames.ensures in (
       omega arith,
@@ -37,4 +37,4 @@ pub returns : goal.returns
 returns c =
     let a = c.args in
     let e : c.loop-at.at ≡ 4 = omega arith in
-    c.loop-at.invariant.1 ∙ ap (λ (n : ℕ). foldl (whole_step a.driving) a.transfer (joined n (of a.driving a.setting.now a.frame-period.now a.group))) e
+    c.loop-at.invariant.1 ∙ ap (λ (n : ℕ). foldl (whole_step a.driving) a.transfer (joined n (of a.driving a.setting.now a.frame_period.now a.group))) e

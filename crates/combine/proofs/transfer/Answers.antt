@@ -31,27 +31,17 @@ pub returns-in-Whole : goal.returns-in-Whole
 returns-in-Whole c =
     let s = c.before.before.before in
     let a = s.args in
-    let black = a.positive-drives-black in
+    let black = a.positive_drives_black in
     let swing = back s.ranges.swing in
-    let whole = c.in-Whole.is in (
-      c.transfer_whole.ensures.value
-          ∙ ap (λ (z : ℤ). settled (whole_of (decoded s) a.drive z black)) swing
-          ∙ sym (ap (combined_of (decoded s) a.drive a.swing black) whole),
-      λ z. c.transfer_whole.ensures.alike z
-          ∙ ap (λ (y : ℤ). apply_t (whole_of (decoded s) a.drive y black) z) swing
-          ∙ sym (ap (λ (u : Until). apply_t (transfer_of (decoded s) a.drive a.swing black u) z) whole),
-    )
+    let whole = c.in-Whole.is in record { value = c.transfer_whole.ensures.value ∙ ap (λ (z : ℤ). settled (whole_of (decoded s) a.drive z black)) swing ∙ sym (ap (combined_of (decoded s) a.drive a.swing black) whole); alike = λ z. c.transfer_whole.ensures.alike z ∙ ap (λ (y : ℤ). apply_t (whole_of (decoded s) a.drive y black) z) swing ∙ sym (ap (λ (u : Until). apply_t (transfer_of (decoded s) a.drive a.swing black u) z) whole) }
 
 pub returns-in-Cut : goal.returns-in-Cut
 returns-in-Cut c =
     let call = c.before in
     let s = call.before.before.before.before in
     let a = s.args in
-    let black = a.positive-drives-black in
+    let black = a.positive_drives_black in
     let known = call.until-1.given in
     let e =
     c.transfer_cut.ensures
-    ∙ (λ i. cut_of (call.from_setting-decoded.ensures i) a.drive (back s.ranges.swing i) black known.0.0) in (
-      e ∙ sym (ap (combined_of (decoded s) a.drive a.swing black) known.1),
-      λ z. ap (λ (t : Transfer). apply_t t z) (e ∙ sym (ap (transfer_of (decoded s) a.drive a.swing black) known.1)),
-    )
+    ∙ (λ i. cut_of (call.from_setting-decoded.ensures i) a.drive (back s.ranges.swing i) black known.0.0) in record { value = e ∙ sym (ap (combined_of (decoded s) a.drive a.swing black) known.1); alike = λ z. ap (λ (t : Transfer). apply_t t z) (e ∙ sym (ap (transfer_of (decoded s) a.drive a.swing black) known.1)) }

@@ -19,8 +19,7 @@ returns-then-put c =
     let r = s.args.red.now in
     let is = c.in-Active.is in
     let found = c.put.ensures in
-    let y = sym c.if-put.true ∙ streams s.args.byte d b r d.bus.current _ _ is c.stream_is.ensures _ c.if-is_stream.true found.value in
-    (y, λ (l : List ℕ). streamed_as s.args.byte d b r d.bus.current _ (given s l) y refl (stream_is s.args.byte (given s l) _ d.bus.current _ _ is c.stream_is.ensures c.if-is_stream.true (puts s.args.byte _ (given s l) _ _ _ found.value found.black_white_after found.red_after _ _ _ _ c.if-put.true c.advanced-counter.ensures c.count-next.ensures c.set_current-after.ensures refl)))
+    let y = sym c.if-put.true ∙ streams s.args.byte d b r d.bus.current _ _ is c.is_stream.ensures _ c.if-is_stream.true found.value in record { done_value = y; by_index = λ (l : List ℕ). streamed_as s.args.byte d b r d.bus.current _ (given s l) y refl (stream_is s.args.byte (given s l) _ d.bus.current _ _ is c.is_stream.ensures c.if-is_stream.true (puts s.args.byte _ (given s l) _ _ _ found.value found.black_white_after found.red_after _ _ _ _ c.if-put.true c.advanced-counter.ensures c.count-next.ensures c.set_current-after.ensures refl)) }
 
 pub returns-then-is_stream : goal.returns-then-is_stream
 returns-then-is_stream c =
@@ -30,9 +29,8 @@ returns-then-is_stream c =
     let r = s.args.red.now in
     let is = c.in-Active.is in
     let found = c.put.ensures in
-    let n = sym c.if-put.false ∙ streams s.args.byte d b r d.bus.current _ _ is c.stream_is.ensures _ c.if-is_stream.true found.value in
-    let k = stays s.args.byte c.in-Active.active (given s []) _ _ _ found.value found.black_white_after found.red_after c.if-put.false in
-    leaves s.args.byte d b r d.bus.current _ _ _ c.left.ensures n k.0 k.1
+    let n = sym c.if-put.false ∙ streams s.args.byte d b r d.bus.current _ _ is c.is_stream.ensures _ c.if-is_stream.true found.value in
+    let k = stays s.args.byte c.in-Active.active (given s []) _ _ _ found.value found.black_white_after found.red_after c.if-put.false in let whole = leaves s.args.byte d b r d.bus.current _ _ _ c.left.ensures n k.0 k.1 in record { done_value = whole.0; by_index = whole.1 }
 
 pub returns-else-is_stream : goal.returns-else-is_stream
 returns-else-is_stream c =
@@ -41,7 +39,7 @@ returns-else-is_stream c =
     let b = s.args.black_white.now in
     let r = s.args.red.now in
     let is = c.in-Active.is in
-    leaves s.args.byte d b r d.bus.current _ _ _ c.left-in-Active.ensures (streams_not s.args.byte d b r d.bus.current _ _ is c.stream_is.ensures c.if-is_stream.false) refl refl
+    leaves s.args.byte d b r d.bus.current _ _ _ c.left-in let whole = -Active.ensures (streams_not s.args.byte d b r d.bus.current _ _ is c.is_stream.ensures c.if-is_stream.false) refl refl in record { done_value = whole.0; by_index = whole.1 }
 
 pub returns-in-Idle : goal.returns-in-Idle
 returns-in-Idle c =
@@ -49,7 +47,7 @@ returns-in-Idle c =
     let d = s.args.state in
     let b = s.args.black_white.now in
     let r = s.args.red.now in
-    leaves s.args.byte d b r d.bus.current _ _ _ c.left-in-Idle.ensures (streams_idle s.args.byte d b r d.bus.current c.in-Idle.is) refl refl
+    leaves s.args.byte d b r d.bus.current _ _ _ c.left-in let whole = -Idle.ensures (streams_idle s.args.byte d b r d.bus.current c.in-Idle.is) refl refl in record { done_value = whole.0; by_index = whole.1 }
 
 pub returns-in-Ignoring : goal.returns-in-Ignoring
 returns-in-Ignoring c =
@@ -57,4 +55,4 @@ returns-in-Ignoring c =
     let d = s.args.state in
     let b = s.args.black_white.now in
     let r = s.args.red.now in
-    leaves s.args.byte d b r d.bus.current _ _ _ c.left-in-Ignoring.ensures (streams_ignoring s.args.byte d b r d.bus.current c.in-Ignoring.is) refl refl
+    leaves s.args.byte d b r d.bus.current _ _ _ c.left-in let whole = -Ignoring.ensures (streams_ignoring s.args.byte d b r d.bus.current c.in-Ignoring.is) refl refl in record { done_value = whole.0; by_index = whole.1 }

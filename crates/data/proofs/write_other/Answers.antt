@@ -13,7 +13,7 @@ returns-then-is_stream c =
     let w = (with_ram d b r s.args.log.now) in
     let a = c.in-Active.active in
     let is = c.in-Active.is in
-    let tells = c.stream_is.ensures in
+    let tells = c.is_stream.ensures in
     let h = c.if-is_stream.true in
     stream_is s.args.byte w _ d.bus.current a _ is tells h
     (outside s.args.byte a w _ (streams s.args.byte d b r d.bus.current a _ is tells _ h refl ∙ s.requires.current_value) (c.step_outside.ensures _ _))
@@ -24,10 +24,10 @@ returns-else-is_stream c =
     let d = s.args.state in
     is_other s.args.byte (with_ram d s.args.black_white.now s.args.red.now s.args.log.now) _ d.bus.current _ _
     c.in-Active.is
-    c.stream_is.ensures _
+    c.is_stream.ensures _
     c.if-is_stream.false
     c.most_of-most.ensures
-    c.up_to_lem.ensures
+    c.up_to.ensures
 
 pub returns-in-Idle : goal.returns-in-Idle
 returns-in-Idle c =

@@ -30,37 +30,25 @@ module _ (c : After-any_bad_codes-bad_codes) where
 pub returns-then-out-ne-SETTING_BYTES : goal.returns-then-out-ne-SETTING_BYTES
 unfolding told_of
 returns-then-out-ne-SETTING_BYTES c =
-    let s = start c.before.before in
-    (length_refused s.args.sheet s.args.out.now (λ e. omega arith), not_whole Length refl)
+    let s = start c.before.before in record { bytes = length_refused s.args.sheet s.args.out.now (λ e. omega arith); back = not_whole Length refl }
 
 pub returns-then-no_code : goal.returns-then-no_code
 unfolding told_of
 returns-then-no_code c =
     let tested = c.before.before.before in
-    let s = start tested in (
-      voltage_refused s.args.sheet s.args.out.now c.if-out-ne-SETTING_BYTES.false (sym (no_code tested) ∙ c.if-no_code.true),
-      not_whole NoCode refl,
-    )
+    let s = start tested in record { bytes = voltage_refused s.args.sheet s.args.out.now c.if-out-ne-SETTING_BYTES.false (sym (no_code tested) ∙ c.if-no_code.true); back = not_whole NoCode refl }
 
 pub returns-then-bad_repeats : goal.returns-then-bad_repeats
 unfolding told_of
 returns-then-bad_repeats c =
     let tested = c.before.before.before.before in
-    let s = start tested in (
-      repeats_refused s.args.sheet s.args.out.now c.if-out-ne-SETTING_BYTES.false (sym (no_code tested) ∙ c.if-no_code.false)
-          (sym (bad-repeats tested) ∙ c.if-bad_repeats.true),
-      not_whole Repeats refl,
-    )
+    let s = start tested in record { bytes = repeats_refused s.args.sheet s.args.out.now c.if-out-ne-SETTING_BYTES.false (sym (no_code tested) ∙ c.if-no_code.false) (sym (bad-repeats tested) ∙ c.if-bad_repeats.true); back = not_whole Repeats refl }
 
 pub returns-then-bad_codes : goal.returns-then-bad_codes
 unfolding told_of
 returns-then-bad_codes c =
     let tested = c.before.before.before.before.before in
-    let s = start tested in (
-      codes_refused s.args.sheet s.args.out.now c.if-out-ne-SETTING_BYTES.false (sym (no_code tested) ∙ c.if-no_code.false)
-          (sym (bad-repeats tested) ∙ c.if-bad_repeats.false) (sym (bad-codes tested) ∙ c.if-bad_codes.true),
-      not_whole Code refl,
-    )
+    let s = start tested in record { bytes = codes_refused s.args.sheet s.args.out.now c.if-out-ne-SETTING_BYTES.false (sym (no_code tested) ∙ c.if-no_code.false) (sym (bad-repeats tested) ∙ c.if-bad_repeats.false) (sym (bad-codes tested) ∙ c.if-bad_codes.true); back = not_whole Code refl }
 
 writable : (c : Else-bad_codes) → Writable (start c.before.before.before.before.before).args.sheet
 writable c =

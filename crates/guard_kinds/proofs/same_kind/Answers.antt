@@ -4,5 +4,5 @@ use Rattle.guard_kinds.proofs.same_kind.Goals as goal
 
 pub returns : goal.returns
 returns c =
-    same _ _ _ _ c.code_of_lem.ensures
+    same _ _ _ _ c.code_of-a.ensures
     c.code_of-b.ensures

@@ -37,10 +37,7 @@ write_other-state-requires c =
     let m = moved k in
     let p = passed m in
     let a = p.before in
-    let s = started a in (
-      data_log s.args.luts.now s.args.time s.args.byte (given s) _ _ _ a.before.before.planes-log-lent.ensures a.before.check.ensures a.is-accepted.ensures p.if1.taken,
-      still_not s.args.byte m.move-clock.result s.args.black_white.now s.args.red.now k.stream-step.result k.stream-step.new.black_white k.stream-step.new.red k.stream-step.ensures.done_value k.stream-step.ensures.by_index c.if-step.false,
-    )
+    let s = started a in record { log_len = data_log s.args.luts.now s.args.time s.args.byte (given s) _ _ _ a.before.before.planes-log-lent.ensures a.before.check.ensures a.is-accepted.ensures p.if1.taken; current_value = still_not s.args.byte m.move-clock.result s.args.black_white.now s.args.red.now k.stream-step.result k.stream-step.new.black_white k.stream-step.new.red k.stream-step.ensures.done_value k.stream-step.ensures.by_index c.if-step.false }
 
 pub returns-then-is_quiet : goal.returns-then-is_quiet
 returns-then-is_quiet c =

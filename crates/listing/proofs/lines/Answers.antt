@@ -33,4 +33,4 @@ unfolding lines_of
 returns c =
     let l = c.before in
     let s = l.args in
-    let e : l.loop-number.number ≡ 10 = omega arith in record { text = l.loop-number.invariant.0 ∙ ap (λ (n : ℕ). appended (buffer 0 s.out.now) (joined n (textIn s.t2))) e; end = omega arith }
+    let e : l.loop-number.number ≡ 10 = omega arith in record { text = l.loop-number.invariant.0 ∙ ap (λ (n : ℕ). appended (buffer 0 s.out.now) (joined n (textIn s.waveform))) e; end = omega arith }

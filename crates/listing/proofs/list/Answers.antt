@@ -37,8 +37,7 @@ listable s p e = subst (λ (v : Waveform). AllListable v.levels) (sym e) (levels
 pub returns-then-out-lt-ROOM : goal.returns-then-out-lt-ROOM
 unfolding listed
 returns-then-out-lt-ROOM c =
-    let s = c.args in
-    (took _ _ _ _ (lt-ltb (length s.out.now) 2101 (omega arith)) refl, search rules)
+    let s = c.args in record { text = took _ _ _ _ (lt-ltb (length s.out.now) 2101 (omega arith)) refl; within = search rules }
 
 pub put_listing-requires : goal.put_listing-requires
 put_listing-requires c =
@@ -49,11 +48,7 @@ returns-then-setting-eq-SETTING_BYTES c =
     let put = c.before.before.before in
     let w = put.before.before in
     let test = w.before in
-    let s = test.args in (
-      roomy s.setting.now s.out.now (listing_of w.waveform_of-waveform.result) (omega arith) put.put_listing.ensures.text
-          (text_is s.setting.now test.if-setting-eq-SETTING_BYTES.true w.waveform_of-waveform.ensures),
-      omega (arith, put.put_listing.ensures.end),
-    )
+    let s = test.args in record { text = roomy s.setting.now s.out.now (listing_of w.waveform_of-waveform.result) (omega arith) put.put_listing.ensures.text (text_is s.setting.now test.if-setting-eq-SETTING_BYTES.true w.waveform_of-waveform.ensures); within = omega (arith, put.put_listing.ensures.end) }
 
 pub returns : goal.returns
 returns c =

@@ -1,13 +1,11 @@
 use mathlib.Core.Path.{◌≡◌}
 use Prim.Native.Nat.{◌-◌}
 use lib.ListN.{length}
-use mir.Syntax.{w64}
-use mir.Val.{to_z}
 use Rattle.numbers.proofs.Painted.{Painted}
 use Rattle.panel_start.proofs.fill_states.Given as goal
 
 abbrev pub invariant-loop-i : goal.invariant-loop-i
-invariant-loop-i l = Painted l.i (λ _. to_z w64 l.state) l.initial.states l.states × (l.i-end ≡ length l.initial.states)
+invariant-loop-i l = Painted l.i (λ _. l.state) l.initial.states l.states × (l.i-end ≡ length l.initial.states)
 
 abbrev pub decreases-loop-i : goal.decreases-loop-i
 decreases-loop-i l = l.i-end - l.i

@@ -12,7 +12,7 @@ abbrev made_of : After-clear → After-new-panel
 made_of c = c.before.before.before.before.before.before.before.before.before.before.before.before
 
 pub new-panel-requires : goal.new-panel-requires
-new-panel-requires c = let s : Start = search in (s.pre.0, (s.pre.3, s.pre.4))
+new-panel-requires c = let s : Start = search in record { bound = s.pre.0; counts_len = s.pre.3; pixels_len_bound = s.pre.4 }
 
 pub shape_of-states : goal.shape_of-states
 shape_of-states c = let emptied : After-clear = search in (made_of emptied).new.kept.1.1.0

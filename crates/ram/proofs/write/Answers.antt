@@ -8,17 +8,14 @@ use Rattle.ram.proofs.write.Goals as goal
 pub returns-then-i-plane : goal.returns-then-i-plane
 unfolding wrote_at written_at
 returns-then-i-plane c =
-    let place = sym c.in-At.is ∙ c.index.ensures in
-    (rw (← place, lt-ltb _ _ c.if-i-plane.true), rw (← place))
+    let place = sym c.in-At.is ∙ c.index.ensures in record { value = rw (← place, lt-ltb _ _ c.if-i-plane.true); plane_after = rw (← place) }
 
 pub returns-else-i-plane : goal.returns-else-i-plane
 unfolding wrote_at written_at
 returns-else-i-plane c =
-    let place = sym c.in-At.is ∙ c.index.ensures in
-    (rw (← place, le-ltb _ _ c.if-i-plane.false), rw (← place) (sym (set_out _ _ _ c.if-i-plane.false)))
+    let place = sym c.in-At.is ∙ c.index.ensures in record { value = rw (← place, le-ltb _ _ c.if-i-plane.false); plane_after = rw (← place) (sym (set_out _ _ _ c.if-i-plane.false)) }
 
 pub returns-in-Outside : goal.returns-in-Outside
 unfolding wrote_at written_at
 returns-in-Outside c =
-    let place = sym c.in-Outside.is ∙ c.index.ensures in
-    (rw (← place), rw (← place))
+    let place = sym c.in-Outside.is ∙ c.index.ensures in record { value = rw (← place); plane_after = rw (← place) }

@@ -17,6 +17,6 @@ returns c =
     let c1 = c2.before in
     let c0 = c1.before in
     λ i. record {
-      groups = c0.Group-of.ensures i ∷ c1.group_of-2.ensures i ∷ c2.group_of-3.ensures i ∷ c3.group_of-4.ensures i ∷ c4.group_of-5.ensures i ∷ c5.group_of-6.ensures i ∷ c6.group_of-7.ensures i ∷ c7.group_of-8.ensures i ∷ c8.group_of-9.ensures i ∷ c.group_of-10.ensures i ∷ [];
+      groups = c0.group_of.ensures i ∷ c1.group_of-2.ensures i ∷ c2.group_of-3.ensures i ∷ c3.group_of-4.ensures i ∷ c4.group_of-5.ensures i ∷ c5.group_of-6.ensures i ∷ c6.group_of-7.ensures i ∷ c7.group_of-8.ensures i ∷ c8.group_of-9.ensures i ∷ c.group_of-10.ensures i ∷ [];
       levels = c0.from_setting-levels.ensures i;
     }

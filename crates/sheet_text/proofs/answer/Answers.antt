@@ -37,19 +37,14 @@ module _ (text : List ℕ) (r : Drawing) (e : r ≡ drawing_of text) where
 pub returns-then-out-lt-SETTING_BYTES : goal.returns-then-out-lt-SETTING_BYTES
 unfolding answered_in
 returns-then-out-lt-SETTING_BYTES c =
-    let s = c.args in
-    (took _ _ _ _ (lt-ltb (length s.out.now) 112 (omega arith)) refl, search rules)
+    let s = c.args in record { text = took _ _ _ _ (lt-ltb (length s.out.now) 112 (omega arith)) refl; within = search rules }
 
 pub returns-then-drawing-eq0 : goal.returns-then-drawing-eq0
 returns-then-drawing-eq0 c =
     let put = c.before.before.before in
     let test = put.before.before.before in
     let read = test.before.before in
-    let s = read.args in (
-      roomy s.text.now s.out.now (setting_text read.read-drawing.result.sheet) (omega arith) put.put_setting.ensures.text
-          (good s.text.now read.read-drawing.result read.read-drawing.ensures test.if-drawing-eq0.true),
-      omega (arith, put.put_setting.ensures.end),
-    )
+    let s = read.args in record { text = roomy s.text.now s.out.now (setting_text read.read-drawing.result.sheet) (omega arith) put.put_setting.ensures.text (good s.text.now read.read-drawing.result read.read-drawing.ensures test.if-drawing-eq0.true); within = omega (arith, put.put_setting.ensures.end) }
 
 pub returns : goal.returns
 returns c =

@@ -21,8 +21,7 @@ roomy h out l e = passed _ _ _ _ (le-ltb (length out) 580 l) (fronted (sheet_tex
 pub returns-then-out-lt-TEXT_BYTES : goal.returns-then-out-lt-TEXT_BYTES
 unfolding put_in
 returns-then-out-lt-TEXT_BYTES c =
-    let s = c.args in
-    (took _ _ _ _ (lt-ltb (length s.out.now) 580 (omega arith)) refl, search rules)
+    let s = c.args in record { text = took _ _ _ _ (lt-ltb (length s.out.now) 580 (omega arith)) refl; within = search rules }
 
 pub returns : goal.returns
 returns c =

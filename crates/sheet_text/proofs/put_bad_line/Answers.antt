@@ -24,8 +24,7 @@ put-second-requires c =
     let text = c.before.before.before in
     let digits = text.before.before.before in
     let s = digits.before.before in
-    let few = digits_few s.args.line in
-    (omega (arith, digits.digits-width.ensures, few), omega (arith, s.requires, text.put_text-first.ensures.end, digits.digits-width.ensures, few))
+    let few = digits_few s.args.line in record { narrow = omega (arith, digits.digits-width.ensures, few); room = omega (arith, s.requires, text.put_text-first.ensures.end, digits.digits-width.ensures, few) }
 
 pub put_line_end-requires : goal.put_line_end-requires
 put_line_end-requires c =

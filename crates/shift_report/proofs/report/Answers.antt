@@ -21,12 +21,11 @@ roomy out a h e is = passed _ _ _ _ (le-ltb (length out) 112 h) (fronted (shift_
 pub returns-then-out-lt-ROOM : goal.returns-then-out-lt-ROOM
 unfolding at_front
 returns-then-out-lt-ROOM c =
-    let s = c.args in
-    (took _ _ _ _ (lt-ltb (length s.out.now) 112 (omega arith)) refl, search rules)
+    let s = c.args in record { text = took _ _ _ _ (lt-ltb (length s.out.now) 112 (omega arith)) refl; within = search rules }
 
 pub returns : goal.returns
 returns c =
     let put = c.before.before.before in
     let b = put.before.before in
     let s = b.args in
-    let a = bounds_of s.optics s.frame-period s.setting.now s.driving s.before s.after in record { text = roomy s.out.now a (omega arith) put.put.ensures.text b.bounds-bounded.ensures; within = omega (arith, put.put.ensures.end) }
+    let a = bounds_of s.optics s.frame_period s.setting.now s.driving s.before s.after in record { text = roomy s.out.now a (omega arith) put.put.ensures.text b.bounds-bounded.ensures; within = omega (arith, put.put.ensures.end) }

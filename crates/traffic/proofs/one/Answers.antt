@@ -10,8 +10,7 @@ use Rattle.traffic.proofs.one.Goals as goal
 
 pub returns-then-count-at : goal.returns-then-count-at
 returns-then-count-at c =
-    let s = c.before.before.before.before.before.before.before.before.before.before.before.before.before in
-    (λ h. omega (arith, s.requires.0, c.if-count-at.true), ended_on (made s.args.otp.now (event_at s.args.kinds.now s.args.times.now s.args.values.now)) s.args.count Accepted s.args.at (world s.args.state s.args.states.now s.args.luts.now (picture s.args.pixels.now s.args.counts.now) s.args.black_white.now s.args.red.now s.args.gates.now s.args.log.now) refl)
+    let s = c.before.before.before.before.before.before.before.before.before.before.before.before.before in record { made_value = λ h. omega (arith, s.requires.0, c.if-count-at.true); log_after = ended_on (made s.args.otp.now (event_at s.args.kinds.now s.args.times.now s.args.values.now)) s.args.count Accepted s.args.at (world s.args.state s.args.states.now s.args.luts.now (picture s.args.pixels.now s.args.counts.now) s.args.black_white.now s.args.red.now s.args.gates.now s.args.log.now) refl }
 
 pub offset_bounds-times-at : goal.offset_bounds-times-at
 offset_bounds-times-at c =

@@ -43,9 +43,9 @@ returns-then-is_accepted-2 c =
     let w = p.before.before.before in
     let a = w.args in
     let r = setting_tests a.setting.now a.driving a.before a.after in
-    passes (first_of r) _ (shifts_for a.optics a.frame-period a.setting.now a.driving a.before a.after) c.setting_bounds.ensures
-    (goes_on (swing_test a.optics ∷ []) (periods_test a.frame-period ∷ r) _ _ w.swing_error-swing.ensures (sym p.is_accepted.ensures ∙ p.if-is_accepted.true)
-    (goes_on (periods_test a.frame-period ∷ []) r _ _ p.periods_error-periods.ensures (sym c.is_accepted-then-is_accepted.ensures ∙ c.if-is_accepted-2.true) refl))
+    passes (first_of r) _ (shifts_for a.optics a.frame_period a.setting.now a.driving a.before a.after) c.setting_bounds.ensures
+    (goes_on (swing_test a.optics ∷ []) (periods_test a.frame_period ∷ r) _ _ w.swing_error-swing.ensures (sym p.is_accepted.ensures ∙ p.if-is_accepted.true)
+    (goes_on (periods_test a.frame_period ∷ []) r _ _ p.periods_error-periods.ensures (sym c.is_accepted-then-is_accepted.ensures ∙ c.if-is_accepted-2.true) refl))
 
 pub returns-then-is_accepted : goal.returns-then-is_accepted
 unfolding bounds_of shift_answer
@@ -56,8 +56,8 @@ returns-then-is_accepted c =
     let r = setting_tests a.setting.now a.driving a.before a.after in
     let no = sym c.is_accepted-then-is_accepted.ensures ∙ c.if-is_accepted-2.false in
     refuses _ _ _ no
-    (goes_on (swing_test a.optics ∷ []) (periods_test a.frame-period ∷ r) _ _ w.swing_error-swing.ensures (sym p.is_accepted.ensures ∙ p.if-is_accepted.true)
-    (stops (periods_test a.frame-period ∷ []) r _ p.periods_error-periods.ensures no))
+    (goes_on (swing_test a.optics ∷ []) (periods_test a.frame_period ∷ r) _ _ w.swing_error-swing.ensures (sym p.is_accepted.ensures ∙ p.if-is_accepted.true)
+    (stops (periods_test a.frame_period ∷ []) r _ p.periods_error-periods.ensures no))
 
 pub returns : goal.returns
 unfolding bounds_of shift_answer
@@ -66,4 +66,4 @@ returns c =
     let a = w.args in
     let r = setting_tests a.setting.now a.driving a.before a.after in
     let no = sym c.is_accepted.ensures ∙ c.if-is_accepted.false in
-    refuses _ _ _ no (stops (swing_test a.optics ∷ []) (periods_test a.frame-period ∷ r) _ w.swing_error-swing.ensures no)
+    refuses _ _ _ no (stops (swing_test a.optics ∷ []) (periods_test a.frame_period ∷ r) _ w.swing_error-swing.ensures no)

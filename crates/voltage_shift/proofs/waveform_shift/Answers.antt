@@ -18,7 +18,7 @@ pub loop-k-preserved : goal.loop-k-preserved
 unfolding sum
 loop-k-preserved c = let m = c.before.before.before.before in
     let a = m.args in
-    let f = shiftIn a.change a.driving a.lut a.t3.groups in (
+    let f = shiftIn a.change a.driving a.lut a.waveform.groups in (
       omega arith,
       c.saturating_add_u64-total.ensures
           ∙ (λ i. min (m.loop-k.invariant.1 i + c.group_shift.ensures i) (largest 64))
@@ -31,4 +31,4 @@ unfolding shift_of
 returns c =
     let a = c.args in
     let e : c.loop-k.k ≡ 10 = omega arith in
-    c.loop-k.invariant.1 ∙ ap (λ (n : ℕ). min (sum n (shiftIn a.change a.driving a.lut a.t3.groups)) (largest 64)) e
+    c.loop-k.invariant.1 ∙ ap (λ (n : ℕ). min (sum n (shiftIn a.change a.driving a.lut a.waveform.groups)) (largest 64)) e

@@ -25,9 +25,9 @@ loop-k-preserved c =
     let m = c.before.before.before.before in
     let s = m.args in
     let step = cut_step s.driving s.until in
-    let g = get_or s.t3.groups m.loop-k.k no_group in (
+    let g = get_or s.waveform.groups m.loop-k.k no_group in (
       omega arith,
-      fold_more step s.progress (λ j. group_in s.driving (get_or s.t3.groups j no_group)) m.loop-k.k m.loop-k.invariant.1
+      fold_more step s.progress (λ j. group_in s.driving (get_or s.waveform.groups j no_group)) m.loop-k.k m.loop-k.invariant.1
           (⊎_elim
           (λ w. w.2 ∙ w.1.ensures)
           (λ w. w.1 ∙ idle_walk step s.driving g m.loop-k.moved c.idle.ensures w.0.left)
@@ -38,4 +38,4 @@ pub returns : goal.returns
 returns c =
     let s = c.args in
     let e : c.loop-k.k ≡ 10 = omega arith in
-    c.loop-k.invariant.1 ∙ ap (λ (k : ℕ). foldl (cut_step s.driving s.until) s.progress (joined k (λ j. group_in s.driving (get_or s.t3.groups j no_group)))) e
+    c.loop-k.invariant.1 ∙ ap (λ (k : ℕ). foldl (cut_step s.driving s.until) s.progress (joined k (λ j. group_in s.driving (get_or s.waveform.groups j no_group)))) e

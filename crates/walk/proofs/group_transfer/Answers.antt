@@ -43,8 +43,8 @@ loop-k-preserved c =
     let first = second.before in
     let a = first.args in (
       omega arith,
-      fold_more (whole_step a.driving) a.transfer (λ j. phases_in first.step_of_lem.result.phase second.step_of-second.result.phase third.step_of-third.result.phase fourth.step_of-fourth.result.phase) m.loop-k.k m.loop-k.invariant.1
-          (c.whole_pass-moved.ensures ∙ pass_is a.driving a.group first.step_of_lem.ensures second.step_of-second.ensures third.step_of-third.ensures fourth.step_of-fourth.ensures m.loop-k.moved),
+      fold_more (whole_step a.driving) a.transfer (λ j. phases_in first.step_of-first.result.phase second.step_of-second.result.phase third.step_of-third.result.phase fourth.step_of-fourth.result.phase) m.loop-k.k m.loop-k.invariant.1
+          (c.whole_pass-moved.ensures ∙ pass_is a.driving a.group first.step_of-first.ensures second.step_of-second.ensures third.step_of-third.ensures fourth.step_of-fourth.ensures m.loop-k.moved),
     )
 
 pub returns : goal.returns
@@ -56,6 +56,6 @@ returns c =
     let a = first.args in
     let e : c.loop-k.k ≡ a.group.repeats = omega (arith, c.times-repeats.ensures.0) in
     c.loop-k.invariant.1
-    ∙ ap (λ (k : ℕ). foldl (whole_step a.driving) a.transfer (joined k (λ j. phases_in first.step_of_lem.result.phase second.step_of-second.result.phase third.step_of-third.result.phase fourth.step_of-fourth.result.phase))) e
+    ∙ ap (λ (k : ℕ). foldl (whole_step a.driving) a.transfer (joined k (λ j. phases_in first.step_of-first.result.phase second.step_of-second.result.phase third.step_of-third.result.phase fourth.step_of-fourth.result.phase))) e
     ∙ ap (λ (l : List Phase). foldl (whole_step a.driving) a.transfer (joined a.group.repeats (λ j. l)))
-    (steps_are a.driving a.group first.step_of_lem.ensures second.step_of-second.ensures third.step_of-third.ensures fourth.step_of-fourth.ensures)
+    (steps_are a.driving a.group first.step_of-first.ensures second.step_of-second.ensures third.step_of-third.ensures fourth.step_of-fourth.ensures)

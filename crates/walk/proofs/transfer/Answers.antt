@@ -10,13 +10,13 @@ returns-in-Whole c =
     let s = c.before.before.before in
     let a = s.args in
     c.transfer_whole.ensures
-    ∙ ap (λ (z : ℤ). whole_of a.waveform a.drive z a.positive-drives-black) (back s.ranges.swing)
-    ∙ sym (ap (transfer_of a.waveform a.drive a.swing a.positive-drives-black) c.in-Whole.is)
+    ∙ ap (λ (z : ℤ). whole_of a.waveform a.drive z a.positive_drives_black) (back s.ranges.swing)
+    ∙ sym (ap (transfer_of a.waveform a.drive a.swing a.positive_drives_black) c.in-Whole.is)
 
 pub returns-in-Cut : goal.returns-in-Cut
 returns-in-Cut c =
     let s = c.before.before.before.before in
     let a = s.args in
     c.transfer_cut.ensures
-    ∙ ap (λ (z : ℤ). cut_of a.waveform a.drive z a.positive-drives-black c.in-Cut.cut) (back s.ranges.swing)
-    ∙ sym (ap (transfer_of a.waveform a.drive a.swing a.positive-drives-black) c.in-Cut.is)
+    ∙ ap (λ (z : ℤ). cut_of a.waveform a.drive z a.positive_drives_black c.in-Cut.cut) (back s.ranges.swing)
+    ∙ sym (ap (transfer_of a.waveform a.drive a.swing a.positive_drives_black) c.in-Cut.is)

@@ -16,6 +16,6 @@ returns c =
     let z = back s.ranges.swing in
     ap (λ (w : Progress). w.transfer)
     (c.cut_groups-end.ensures
-    ∙ (λ i. foldl (cut_step (driving_of a.waveform a.drive (z i) a.positive-drives-black) a.until)
+    ∙ (λ i. foldl (cut_step (driving_of a.waveform a.drive (z i) a.positive_drives_black) a.until)
     (record { transfer = (c.identity.ensures ∙ ap identity_t z) i; elapsed = 0; stopped = false })
     (phases_of a.waveform a.drive)))

@@ -13,4 +13,4 @@ returns c =
     let a = s.args in
     let z = back s.ranges.swing in
     c.whole_groups.ensures
-    ∙ (λ i. foldl (whole_step (driving_of a.waveform a.drive (z i) a.positive-drives-black)) ((c.identity.ensures ∙ ap identity_t z) i) (phases_of a.waveform a.drive))
+    ∙ (λ i. foldl (whole_step (driving_of a.waveform a.drive (z i) a.positive_drives_black)) ((c.identity.ensures ∙ ap identity_t z) i) (phases_of a.waveform a.drive))

@@ -20,9 +20,9 @@ loop-k-preserved c =
     let m = c.before.before.before.before in
     let s = m.args in
     let step = whole_step s.driving in
-    let g = get_or s.t2.groups m.loop-k.k no_group in (
+    let g = get_or s.waveform.groups m.loop-k.k no_group in (
       omega arith,
-      fold_more step s.transfer (λ j. group_in s.driving (get_or s.t2.groups j no_group)) m.loop-k.k m.loop-k.invariant.1
+      fold_more step s.transfer (λ j. group_in s.driving (get_or s.waveform.groups j no_group)) m.loop-k.k m.loop-k.invariant.1
           (⊎_elim
           (λ w. w.2 ∙ w.1.ensures)
           (λ w. w.1 ∙ idle_walk step s.driving g m.loop-k.moved c.idle.ensures w.0.left)
@@ -33,4 +33,4 @@ pub returns : goal.returns
 returns c =
     let s = c.args in
     let e : c.loop-k.k ≡ 10 = omega arith in
-    c.loop-k.invariant.1 ∙ ap (λ (k : ℕ). foldl (whole_step s.driving) s.transfer (joined k (λ j. group_in s.driving (get_or s.t2.groups j no_group)))) e
+    c.loop-k.invariant.1 ∙ ap (λ (k : ℕ). foldl (whole_step s.driving) s.transfer (joined k (λ j. group_in s.driving (get_or s.waveform.groups j no_group)))) e

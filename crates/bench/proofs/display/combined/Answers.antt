@@ -24,4 +24,4 @@ returns c =
     let s = c.before in
     let a = s.args in
     c.transfer_whole.ensures.value
-    ∙ ap (λ (z : ℤ). settled (whole_transfer a.setting.now a.periods.now (Lut a.lut) z a.positive-drives-black)) (back s.ranges.swing)
+    ∙ ap (λ (z : ℤ). settled (whole_transfer a.setting.now a.periods.now (Lut a.lut) z a.positive_drives_black)) (back s.ranges.swing)

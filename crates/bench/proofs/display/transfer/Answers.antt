@@ -19,5 +19,5 @@ pub returns : goal.returns
 returns c =
     let s = c.before.before in
     let a = s.args in
-    decoded_is a.setting.now a.periods.now (Lut a.lut) c.from_setting-decoded.ensures _ a.positive-drives-black a.until c.transfer.ensures
-    ∙ ap (λ (z : ℤ). setting_transfer a.setting.now a.periods.now (Lut a.lut) z a.positive-drives-black a.until) (back s.ranges.swing)
+    decoded_is a.setting.now a.periods.now (Lut a.lut) c.from_setting-decoded.ensures _ a.positive_drives_black a.until c.transfer.ensures
+    ∙ ap (λ (z : ℤ). setting_transfer a.setting.now a.periods.now (Lut a.lut) z a.positive_drives_black a.until) (back s.ranges.swing)

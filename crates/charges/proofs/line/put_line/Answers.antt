@@ -15,8 +15,7 @@ use Rattle.charges.proofs.line.put_line.Goals as goal
 pub put_sums-sums_end-requires : goal.put_sums-sums_end-requires
 put_sums-sums_end-requires c =
     let put = c.before.before.before.before in
-    let wave = put.before.before in
-    (omega (arith, wave.requires.room, put.put-number_end.ensures.end, put.put-number_end.auto.out), wave.waveform_of-waveform.ensures.bounded)
+    let wave = put.before.before in record { room = omega (arith, wave.requires.room, put.put-number_end.ensures.end, put.put-number_end.auto.out); bounded = wave.waveform_of-waveform.ensures.bounded }
 
 pub returns : goal.returns
 unfolding charge_line

@@ -22,8 +22,7 @@ loop-k-init c = (search rules, sum_none _)
 
 pub group_charge-sum-requires : goal.group_charge-sum-requires
 group_charge-sum-requires c =
-    let s = c.before.before.before.before in
-    (record { listable = s.requires.bounded.listable; takes = omega (arith, s.requires.lut) }, s.requires.bounded.groups_bounded c.loop-k.k (omega arith))
+    let s = c.before.before.before.before in record { drivable = record { listable = s.requires.bounded.listable; takes = omega (arith, s.requires.lut) }; bounded = s.requires.bounded.groups_bounded c.loop-k.k (omega arith) }
 
 -- ---- after a turn
 abbrev Turn : Type 0
@@ -54,4 +53,4 @@ returns c =
     let l = c.loop-k in
     let s = c.args in
     let e : l.k ≡ 10 = omega arith in
-    l.invariant.1 ∙ ap (λ (n : ℕ). drive_sum (joined n (groups_of s.t1 (Lut s.lut)))) e
+    l.invariant.1 ∙ ap (λ (n : ℕ). drive_sum (joined n (groups_of s.waveform (Lut s.lut)))) e

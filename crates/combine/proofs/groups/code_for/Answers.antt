@@ -27,6 +27,6 @@ returns-in-Lut c =
     let s = told.before.before.before in
     let a = s.args in
     let codes = codes_of a.setting.now a.group in
-    c.code_in_is.ensures
+    c.code_in.ensures
     ∙ code_at a.setting.now a.group _ a.phase (lut_below told) s.requires.1
     ∙ sym (ap (λ (d : Drive). code_for d codes a.phase) told.in-Lut.is)

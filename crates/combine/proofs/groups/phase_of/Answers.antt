@@ -31,7 +31,7 @@ vcom_is : (c : After-vcom_swing-vcom) → rd c.vcom_swing-vcom.result ≡ vcom_s
 vcom_is c =
     let s = start c in
     got c.vcom_swing-vcom.type_inv (c.vcom_swing-vcom.ensures
-    ∙ ap (vcom_swing s.args.driving.levels) (c.code_in_is.ensures ∙ code_at s.args.setting.now s.args.group 4 s.args.phase (omega arith) s.pre.1))
+    ∙ ap (vcom_swing s.args.driving.levels) (c.code_in.ensures ∙ code_at s.args.setting.now s.args.group 4 s.args.phase (omega arith) s.pre.1))
 
 pub overflow_sub-millivolts : goal.overflow_sub-millivolts
 overflow_sub-millivolts c =

@@ -1,8 +1,6 @@
 use mathlib.Core.Bool.{Bool}
 use Prim.Native.Nat.{ℕ, ◌-◌, ◌≤◌}
 use lib.IntN.{ℤ}
-use mir.Syntax.{w64}
-use mir.Val.{to_z}
 use Rattle.config.proofs.Lowest.{Passed}
 use Rattle.drive_sheet.specs.declared.Supply.{Supply}
 use Rattle.drive_sheet.specs.Supplies.{voltage_of, is_listed_as}
@@ -13,7 +11,7 @@ stands_for supply millivolts code = is_listed_as (voltage_of supply code) milliv
 
 -- the local millivolts are the number's bits
 abbrev pub invariant-loop-code : goal.invariant-loop-code
-invariant-loop-code l = (l.code ≤ 256) × Passed (stands_for l.supply (to_z w64 l.millivolts)) l.code
+invariant-loop-code l = (l.code ≤ 256) × Passed (stands_for l.supply l.millivolts) l.code
 
 abbrev pub decreases-loop-code : goal.decreases-loop-code
 decreases-loop-code l = 256 - l.code

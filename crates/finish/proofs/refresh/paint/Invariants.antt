@@ -2,8 +2,6 @@ use mathlib.Core.List.{List}
 use Prim.Native.Nat.{ℕ, ◌-◌, ◌<◌}
 use lib.IntN.{ℤ, pos}
 use lib.ListN.{get_or}
-use mir.Syntax.{w64}
-use mir.Val.{to_z}
 use Rattle.glass.specs.Greys.{gray_z}
 use Rattle.glass_tables.specs.declared.Move.{Move}
 use Rattle.glass_tables.specs.Moves.{Word, moved_by}
@@ -22,7 +20,7 @@ Read i states = (k : ℕ) → k < i → Word (get_or states k (pos 0))
 abbrev pub invariant-loop-i : goal.invariant-loop-i
 invariant-loop-i l =
     Painted l.i (moved l.moves l.luts l.initial.states) l.initial.states l.states
-    × Painted l.i (λ k. gray_z (moved l.moves l.luts l.initial.states k) (to_z w64 l.swing)) l.initial.pixels l.pixels
+    × Painted l.i (λ k. gray_z (moved l.moves l.luts l.initial.states k) l.swing) l.initial.pixels l.pixels
     × Read l.i l.initial.states
 
 abbrev pub decreases-loop-i : goal.decreases-loop-i

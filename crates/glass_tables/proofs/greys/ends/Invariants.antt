@@ -1,13 +1,11 @@
 use Prim.Native.Nat.{◌-◌, ◌≤◌}
 use lib.IntN.{nat_abs}
-use mir.Syntax.{w64}
-use mir.Val.{to_z}
 use Rattle.numbers.proofs.Painted.{Painted}
 use Rattle.glass_tables.specs.Greys.{grey_end}
 use Rattle.glass_tables.proofs.greys.ends.Given as goal
 
 abbrev pub invariant-loop-i : goal.invariant-loop-i
-invariant-loop-i l = Painted l.i (grey_end (nat_abs (to_z w64 l.swing))) l.initial.ends l.ends × (l.i ≤ 256)
+invariant-loop-i l = Painted l.i (grey_end (nat_abs l.swing)) l.initial.ends l.ends × (l.i ≤ 256)
 
 abbrev pub decreases-loop-i : goal.decreases-loop-i
 decreases-loop-i l = 256 - l.i

@@ -17,4 +17,4 @@ shift_of-requires c =
     omega whole
 
 pub returns : goal.returns
-returns c = subst (λ (n : ℕ). Steps n c.Shift-of.result) (abs_back c.ranges.swing) c.Shift-of.ensures
+returns c = subst (λ (n : ℕ). Steps n c.shift_of.result) (abs_back c.ranges.swing) c.shift_of.ensures

@@ -12,8 +12,7 @@ loop-i-init c = (omega arith, below_none _)
 pub returns-then-periods-i-eq0 : goal.returns-then-periods-i-eq0
 returns-then-periods-i-eq0 c =
     let periods = c.args.periods in
-    let e = lowest_at (is_zero periods) 16 c.loop-i.i (omega arith) c.loop-i.invariant.1 (eq-eqb _ 0 c.if-periods-i-eq0.true) in
-    (sym (ne_eqb (zero_period periods) 16 (λ h. omega (arith, e))), λ e. absurd (subst T (sym e) tt))
+    let e = lowest_at (is_zero periods) 16 c.loop-i.i (omega arith) c.loop-i.invariant.1 (eq-eqb _ 0 c.if-periods-i-eq0.true) in record { value = sym (ne_eqb (zero_period periods) 16 (λ h. omega (arith, e))); code_nonzero = λ e. absurd (subst T (sym e) tt) }
 
 pub loop-i-preserved : goal.loop-i-preserved
 loop-i-preserved c = (omega arith, below_more _ _ c.loop-i.invariant.1 (ne_eqb _ 0 c.if-periods-i-eq0.false))

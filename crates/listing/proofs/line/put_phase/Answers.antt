@@ -15,12 +15,11 @@ use Rattle.listing.proofs.line.put_phase.Goals as goal
 pub returns-then-frames-eq0 : goal.returns-then-frames-eq0
 unfolding phase_text
 returns-then-frames-eq0 c =
-    let s = c.args in
-    (nothing s.at s.out.now ∙ ap (λ (t : List ℕ). appended (buffer s.at s.out.now) t) (took _ _ _ _ (eq-eqb (get_or s.t4.frames s.phase 0) 0 c.if-frames-eq0.true) refl), search rules)
+    let s = c.args in record { text = nothing s.at s.out.now ∙ ap (λ (t : List ℕ). appended (buffer s.at s.out.now) t) (took _ _ _ _ (eq-eqb (get_or s.group.frames s.phase 0) 0 c.if-frames-eq0.true) refl); end = search rules }
 
 pub returns : goal.returns
 unfolding phase_text
 returns c =
     let line = c.before.before.before in
     let test = line.before.before in
-    let s = test.args in record { text = line.put_line.ensures.text ∙ ap (λ (t : List ℕ). appended (buffer s.at s.out.now) t) (passed _ _ _ _ (ne_eqb (get_or s.t4.frames s.phase 0) 0 test.if-frames-eq0.false) refl); end = omega (arith, line.put_line.ensures.end) }
+    let s = test.args in record { text = line.put_line.ensures.text ∙ ap (λ (t : List ℕ). appended (buffer s.at s.out.now) t) (passed _ _ _ _ (ne_eqb (get_or s.group.frames s.phase 0) 0 test.if-frames-eq0.false) refl); end = omega (arith, line.put_line.ensures.end) }

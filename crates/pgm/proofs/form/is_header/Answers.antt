@@ -15,7 +15,7 @@ pub returns-then-not-fine : goal.returns-then-not-fine
 unfolding is_header_of
 returns-then-not-fine c =
     let s = c.args in
-    sym (ap (λ (b : Bool). b && starts_with (pgm_header s.width s.height) s.file.now) (sym c.is_in_range.ensures ∙ not_true _ c.if-not-fine.true))
+    sym (ap (λ (b : Bool). b && starts_with (pgm_header s.width s.height) s.file.now) (sym c.in_range-fine.ensures ∙ not_true _ c.if-not-fine.true))
 
 pub put-requires : goal.put-requires
 put-requires c =
@@ -39,4 +39,4 @@ returns c =
     let header = pgm_header s.width s.height in
     let front = (λ i. take (count.byte_count-length.ensures.count i) (put.put.ensures i)) ∙ take-append_seam header _ in
     c.starts_with.ensures ∙ ap (λ (l : List ℕ). starts_with l s.file.now) front
-    ∙ sym (ap (λ (b : Bool). b && starts_with header s.file.now) (sym test.is_in_range.ensures ∙ not_false _ fine.if-not-fine.false))
+    ∙ sym (ap (λ (b : Bool). b && starts_with header s.file.now) (sym test.in_range-fine.ensures ∙ not_false _ fine.if-not-fine.false))

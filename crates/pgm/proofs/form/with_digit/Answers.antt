@@ -23,8 +23,7 @@ pub returns-then-byte : goal.returns-then-byte
 returns-then-byte c =
     let b = c.byte_at-byte in
     let s = c.args in
-    let most = at_most (leb 48 b.result) b.result 57 c.if-byte.true in
-    (digit_there s.file.now s.number b.ensures c.if-byte.true, (omega arith, omega arith))
+    let most = at_most (leb 48 b.result) b.result 57 c.if-byte.true in record { digit = digit_there s.file.now s.number b.ensures c.if-byte.true; small = omega arith; near = omega arith }
 
 pub returns : goal.returns
 returns c =

@@ -8,13 +8,12 @@ use Rattle.pgm.proofs.header.digit_count.Goals as goal
 
 pub returns-then-n-ge100 : goal.returns-then-n-ge100
 unfolding digit_count
-returns-then-n-ge100 c = (took _ _ _ _ (le-leb 100 c.args.n (omega arith)) refl, (omega arith, omega arith))
+returns-then-n-ge100 c = record { count = took _ _ _ _ (le-leb 100 c.args.n (omega arith)) refl; few = (omega arith, omega arith) }
 
 pub returns-then-n-ge10 : goal.returns-then-n-ge10
 unfolding digit_count
 returns-then-n-ge10 c =
-    let n = c.args.n in
-    (passed _ _ _ _ (lt-leb 100 n (omega arith)) (took _ _ _ _ (le-leb 10 n (omega arith)) refl), (omega arith, omega arith))
+    let n = c.args.n in record { count = passed _ _ _ _ (lt-leb 100 n (omega arith)) (took _ _ _ _ (le-leb 10 n (omega arith)) refl); few = (omega arith, omega arith) }
 
 pub returns : goal.returns
 unfolding digit_count

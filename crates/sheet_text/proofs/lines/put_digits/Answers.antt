@@ -25,7 +25,7 @@ pub wide-code-requires : goal.wide-code-requires
 wide-code-requires c = tt
 
 pub put-next-requires : goal.put-next-requires
-put-next-requires c = let s = c.before.before.before.before.before.before in (omega arith, omega (arith, s.requires.room))
+put-next-requires c = let s = c.before.before.before.before.before.before in record { narrow = omega arith; room = omega (arith, s.requires.room) }
 
 pub overflow_add-phase : goal.overflow_add-phase
 overflow_add-phase c = omega arith
@@ -41,7 +41,7 @@ loop-phase-preserved c =
     let s = l.before.before in
     let a = s.args in
     let code = put.put-next.ensures.text ∙ ap (λ (n : ℕ). appended (buffer l.loop-phase.next l.loop-phase.out) (natural 1 n)) wide.wide-code.ensures in (
-      joined_more a.at a.out.now (textIn a.t3 a.lut) l.loop-phase.phase (omega (arith, s.requires.room)) l.loop-phase.invariant.0 code,
+      joined_more a.at a.out.now (textIn a.group a.lut) l.loop-phase.phase (omega (arith, s.requires.room)) l.loop-phase.invariant.0 code,
       omega (arith, put.put-next.ensures.end),
       omega arith,
       omega arith,
@@ -55,4 +55,4 @@ unfolding digits_text
 returns c =
     let l = c.before in
     let a = l.args in
-    let e : l.loop-phase.phase ≡ 4 = omega arith in record { text = l.loop-phase.invariant.0 ∙ ap (λ (n : ℕ). appended (buffer a.at a.out.now) (joined n (textIn a.t3 a.lut))) e; end = omega arith }
+    let e : l.loop-phase.phase ≡ 4 = omega arith in record { text = l.loop-phase.invariant.0 ∙ ap (λ (n : ℕ). appended (buffer a.at a.out.now) (joined n (textIn a.group a.lut))) e; end = omega arith }

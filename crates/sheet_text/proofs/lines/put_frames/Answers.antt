@@ -19,7 +19,7 @@ pub wide-frames-requires : goal.wide-frames-requires
 wide-frames-requires c = tt
 
 pub put-next-requires : goal.put-next-requires
-put-next-requires c = let s = c.before.before.before.before.before.before in (omega arith, omega (arith, s.requires))
+put-next-requires c = let s = c.before.before.before.before.before.before in record { narrow = omega arith; room = omega (arith, s.requires) }
 
 pub overflow_add-phase : goal.overflow_add-phase
 overflow_add-phase c = omega arith
@@ -35,7 +35,7 @@ loop-phase-preserved c =
     let s = l.before.before in
     let a = s.args in
     let frames = put.put-next.ensures.text ∙ ap (λ (n : ℕ). appended (buffer l.loop-phase.next l.loop-phase.out) (natural 4 n)) wide.wide-frames.ensures in (
-      joined_more a.at a.out.now (textIn a.t3) l.loop-phase.phase (omega (arith, s.requires)) l.loop-phase.invariant.0 frames,
+      joined_more a.at a.out.now (textIn a.group) l.loop-phase.phase (omega (arith, s.requires)) l.loop-phase.invariant.0 frames,
       omega (arith, put.put-next.ensures.end),
       omega arith,
       omega arith,
@@ -49,4 +49,4 @@ unfolding frames_text
 returns c =
     let l = c.before in
     let a = l.args in
-    let e : l.loop-phase.phase ≡ 4 = omega arith in record { text = l.loop-phase.invariant.0 ∙ ap (λ (n : ℕ). appended (buffer a.at a.out.now) (joined n (textIn a.t3))) e; end = omega arith }
+    let e : l.loop-phase.phase ≡ 4 = omega arith in record { text = l.loop-phase.invariant.0 ∙ ap (λ (n : ℕ). appended (buffer a.at a.out.now) (joined n (textIn a.group))) e; end = omega arith }

@@ -32,7 +32,7 @@ loop-number-preserved c =
     let put = c.before.before.before in
     let l = put.before.before.before.before in
     let a = l.args in (
-      joined_more 0 a.out.now (textIn a.t2) l.loop-number.number (omega arith) l.loop-number.invariant.0 put.put_group-at.ensures.text,
+      joined_more 0 a.out.now (textIn a.sheet) l.loop-number.number (omega arith) l.loop-number.invariant.0 put.put_group-at.ensures.text,
       omega (arith, put.put_group-at.ensures.end),
       omega arith,
       omega arith,
@@ -46,4 +46,4 @@ unfolding group_lines
 returns c =
     let l = c.before in
     let a = l.args in
-    let e : l.loop-number.number ≡ 10 = omega arith in record { text = l.loop-number.invariant.0 ∙ ap (λ (n : ℕ). appended (buffer 0 a.out.now) (joined n (textIn a.t2))) e; end = omega arith }
+    let e : l.loop-number.number ≡ 10 = omega arith in record { text = l.loop-number.invariant.0 ∙ ap (λ (n : ℕ). appended (buffer 0 a.out.now) (joined n (textIn a.sheet))) e; end = omega arith }

@@ -12,7 +12,7 @@ pub loop-lut-init : goal.loop-lut-init
 loop-lut-init c = let s = c.args in (joined_none s.at s.out.now _, omega arith, omega arith, refl)
 
 pub put_codes-next-requires : goal.put_codes-next-requires
-put_codes-next-requires c = let s = c.before.before.before.before in (omega (arith, s.requires), omega arith)
+put_codes-next-requires c = let s = c.before.before.before.before in record { room = omega (arith, s.requires); lut = omega arith }
 
 pub overflow_add-lut : goal.overflow_add-lut
 overflow_add-lut c = omega arith

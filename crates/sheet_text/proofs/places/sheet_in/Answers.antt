@@ -13,7 +13,7 @@ returns c =
     λ i. record {
       groups = gate.groups_in-groups.ensures i;
       gate = gate.low_byte_at-gate.ensures i;
-      vsh1 = got vsh1.at_whole.type_inv vsh1.at_whole.ensures i;
+      vsh1 = got vsh1.whole_at-vsh1.type_inv vsh1.whole_at-vsh1.ensures i;
       vsh2 = got vsh2.whole_at-vsh2.type_inv vsh2.whole_at-vsh2.ensures i;
       vsl = got vsl.whole_at-vsl.type_inv vsl.whole_at-vsl.ensures i;
       vcom = got c.whole_at-vcom.type_inv c.whole_at-vcom.ensures i;

@@ -2,11 +2,13 @@
 use mathlib.Core.Path.{◌≡◌, refl, sym, ap, ◌∙◌}
 use mathlib.Core.Bool.{Bool, true, false, ◌&&◌}
 use mathlib.Core.List.{List, [], ◌∷◌}
-use Prim.Native.Nat.{ℕ, suc, ◌-◌}
+use Prim.Native.Nat.{ℕ, suc, ◌+◌, ◌-◌, ◌<◌}
 use native.Mathlib.Omega.{arith}
+use native.Mathlib.Numerals.{add-one}
 use lib.Dec.{eqb}
-use lib.ListN.{length, drop}
-use lib.Seq.{drop-length}
+use lib.ListN.{length, drop, get_or}
+use lib.Seq.{drop-cons, drop-length}
+use borrow.Author.Tests.{eq-eqb, ne_eqb}
 use Rattle.column.specs.Reading.{same}
 use Rattle.shift_report.proofs.words.is_word.Goals as goal
 
@@ -20,6 +22,18 @@ other_length [] [] h = absurd (h refl)
 other_length [] (y ∷ ys) h = refl
 other_length (x ∷ xs) [] h = refl
 other_length (x ∷ xs) (y ∷ ys) h = ap (λ (b : Bool). eqb x y && b) (other_length xs ys (λ e. h (ap suc e))) ∙ and_false (eqb x y)
+
+module _ (xs ys : List ℕ) (i : ℕ) (h : i < length xs) (k : i < length ys) where
+  next : same (drop i xs) (drop i ys) ≡ eqb (get_or xs i 0) (get_or ys i 0) && same (drop (i + 1) xs) (drop (i + 1) ys)
+  next =
+      (λ j. same (drop-cons xs i 0 h j) (drop-cons ys i 0 k j))
+      ∙ ap (λ (n : ℕ). eqb (get_or xs i 0) (get_or ys i 0) && same (drop n xs) (drop n ys)) (sym (add-one i))
+
+  other : (get_or xs i 0 ≡ get_or ys i 0 → ⊥) → same (drop i xs) (drop i ys) ≡ false
+  other e = next ∙ ap (λ (b : Bool). b && same (drop (i + 1) xs) (drop (i + 1) ys)) (ne_eqb _ _ e)
+
+  alike : get_or xs i 0 ≡ get_or ys i 0 → same (drop i xs) (drop i ys) ≡ same (drop (i + 1) xs) (drop (i + 1) ys)
+  alike e = next ∙ ap (λ (b : Bool). b && same (drop (i + 1) xs) (drop (i + 1) ys)) (eq-eqb _ _ e)
 
 all : (xs ys : List ℕ) (i : ℕ) → i ≡ length xs → length xs ≡ length ys → same (drop i xs) (drop i ys) ≡ true
 all xs ys i e f =

@@ -20,4 +20,4 @@ pub bounds-codes-lut : goal.bounds-codes-lut
 bounds-codes-lut c = omega (arith, lut_below c)
 
 pub returns-in-Lut : goal.returns-in-Lut
-returns-in-Lut c = let s = c.args in sym (ap (λ (d : Drive). code_for d s.t2 s.phase) c.in-Lut.is)
+returns-in-Lut c = let s = c.args in sym (ap (λ (d : Drive). code_for d s.codes s.phase) c.in-Lut.is)

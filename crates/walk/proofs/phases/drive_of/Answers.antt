@@ -17,7 +17,7 @@ times ok e p q = got ok (e ∙ (λ i. sat_z (p i *ℤ q i)))
 abbrev product : After-saturating_mul_i64-amount → ℤ
 product c =
     let s = c.args in
-    sat_z (sat_z (s.millivolts *ℤ sat_z (pos s.run)) *ℤ sat_z (pos s.frame-ns))
+    sat_z (sat_z (s.millivolts *ℤ sat_z (pos s.run)) *ℤ sat_z (pos s.frame_ns))
 
 -- the amount before its sign
 amount : (c : After-saturating_mul_i64-amount) → rd c.saturating_mul_i64-amount.result ≡ product c

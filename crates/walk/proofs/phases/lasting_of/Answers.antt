@@ -13,12 +13,12 @@ returns c =
     let call = c.before.before in
     let a = call.args in
     let p = phase_in a.driving a.group a.at in
-    let s = call.step_of_lem.result in
-    let e : s.phase ≡ p = ap (λ (x : DrivenPhase). x.phase) call.step_of_lem.ensures in (
+    let s = call.step_of-step.result in
+    let e : s.phase ≡ p = ap (λ (x : DrivenPhase). x.phase) call.step_of-step.ensures in (
       e,
       record {
         timed = subst (λ (x : Phase). 0 < x.frame_ns) (sym e) call.requires.1;
-        drive_is = call.step_of_lem.ensures ∙ ap (phase_step a.driving) (sym e);
+        drive_is = call.step_of-step.ensures ∙ ap (phase_step a.driving) (sym e);
         length_is = c.saturating_mul_u64-length.ensures;
       },
     )
