@@ -5,7 +5,7 @@ use mathlib.Core.List.{List, [], ◌∷◌}
 use Prim.Native.Nat.{ℕ}
 use lib.Dec.{eqb}
 use lib.ListN.{length}
-use borrow.Author.Tests.{not_false, eqb-true}
+use borrow.Author.Tests.{not-false, eqb-true}
 use Rattle.numbers.specs.Choice.{pick}
 use Rattle.config.specs.Answer.{accepted, refused, is_accepted, Test, first_of}
 use Rattle.config.specs.Tests.{lent_test}
@@ -31,7 +31,7 @@ module _ (h : Sheet) (lent : List ℕ) (a : Accepts h lent) where
   pub lent_long : length lent ≡ setting_length
   lent_long =
       let l = passed (lent_test (length lent) setting_length) (supplies_test h ∷ repeats_test h ∷ codes_test h ∷ []) first in
-      eqb-true (length lent) setting_length (not_false (eqb (length lent) setting_length) l.0)
+      eqb-true (length lent) setting_length (not-false (eqb (length lent) setting_length) l.0)
 
   pub writable : Writable h
   writable =

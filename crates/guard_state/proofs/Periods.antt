@@ -6,7 +6,7 @@ use Prim.Native.Nat.{ℕ, zero, suc, ◌<◌, zero-le, suc-le-suc}
 use native.Mathlib.Omega.{arith}
 use lib.Dec.{eqb, ltb, leb-suc-suc}
 use lib.ListN.{get_or}
-use borrow.Author.Tests.{lt-ltb, eqb-true, eqb-false, not_true}
+use borrow.Author.Tests.{lt-ltb, eqb-true, eqb-false, not-true}
 use Rattle.numbers.specs.Choice.{pick}
 use Rattle.config.specs.Lowest.{lowest}
 use Rattle.config.specs.Tests.{periods_test}
@@ -63,6 +63,6 @@ passed_all p (suc n) e k h = by (eqb k n) refl (none_of (any_of p n) (p n) e) (p
 pub each_above_zero : (periods : List ℕ) → periods_fine periods ≡ true → (code : ℕ) → code < 16 → 0 < get_or periods code 0
 unfolding periods_fine
 each_above_zero periods e code h =
-    let none = any_lowest (is_zero periods) 16 ∙ not_true (periods_test periods).refuses e in
+    let none = any_lowest (is_zero periods) 16 ∙ not-true (periods_test periods).refuses e in
     let apart = eqb-false (get_or periods code 0) 0 (passed_all (is_zero periods) 16 none code h) in
     omega arith

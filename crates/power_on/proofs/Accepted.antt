@@ -6,7 +6,7 @@ use mathlib.Core.List.{List, [], ◌∷◌}
 use native.Mathlib.Nat.{mul-le-mul}
 use native.Mathlib.Omega.{arith}
 use lib.ListN.{length}
-use borrow.Author.Tests.{eqb-true, not_false}
+use borrow.Author.Tests.{eqb-true, not-false}
 use Rattle.config.specs.declared.Ssd1677Config.{Ssd1677Config}
 use Rattle.config.specs.Answer.{Answer, is_accepted, first_of}
 use Rattle.otp.specs.Table.{start_tests}
@@ -38,12 +38,12 @@ module _ (c : Ssd1677Config) (otp : List ℕ) (l : Lengths) (passes : is_accepte
   scanned = record { some = fine.height; most = fine.gates; even = fine.even }
 
   pub lengths : FineLengths c.panel l
-  lengths = fine_lengths c.panel l (not_false (lengths_fit c.panel l) (none_refuses (buffer_test c.panel l) (counts_test l ∷ []) each.1).0)
+  lengths = fine_lengths c.panel l (not-false (lengths_fit c.panel l) (none_refuses (buffer_test c.panel l) (counts_test l ∷ []) each.1).0)
 
   pub counted : l.counts ≡ 256
   counted =
       eqb-true l.counts 256
-      (not_false (counts_fit l) (none_refuses (counts_test l) [] (none_refuses (buffer_test c.panel l) (counts_test l ∷ []) each.1).1).0)
+      (not-false (counts_fit l) (none_refuses (counts_test l) [] (none_refuses (buffer_test c.panel l) (counts_test l ∷ []) each.1).1).0)
 
   -- fewer pixels than a u32 counts
   few : l.pixels < 2 ^ 32

@@ -1,7 +1,7 @@
 use mathlib.Core.Path.{◌≡◌, refl, ◌∙◌}
 use Prim.Native.Nat.{◌-◌}
 use native.Mathlib.Omega.{arith}
-use borrow.Author.Tests.{not_true, not_false}
+use borrow.Author.Tests.{not-true, not-false}
 use Rattle.burst.proofs.Running.{more, ends, all}
 use Rattle.burst.proofs.run_on.Goals as goal
 
@@ -34,7 +34,7 @@ pub returns-then-not-taken : goal.returns-then-not-taken
 returns-then-not-taken c =
     let s = c.before.before.before.before.before.before.before.before.before.before.before.before.before.before.before.before in
     let m = c.loop-i in
-    ends s.args.kinds.now s.args.times.now s.args.values.now s.args.course s.args.count m.i m.next m.plane _ m.invariant.0 _ c.loop-i-test.true c.take-taken.ensures (not_true _ c.if-not-taken.true)
+    ends s.args.kinds.now s.args.times.now s.args.values.now s.args.course s.args.count m.i m.next m.plane _ m.invariant.0 _ c.loop-i-test.true c.take-taken.ensures (not-true _ c.if-not-taken.true)
 
 -- src/lib.rt:131:9
 pub overflow_add-i : goal.overflow_add-i
@@ -49,7 +49,7 @@ pub loop-i-preserved : goal.loop-i-preserved
 loop-i-preserved c =
     let s = c.before.before.before.before.before.before.before.before.before.before.before.before.before.before.before.before.before in
     let m = c.loop-i in (
-      more s.args.kinds.now s.args.times.now s.args.values.now s.args.course s.args.count m.i m.next m.plane _ m.invariant.0 _ c.loop-i-test.true c.take-taken.ensures (not_false _ c.if-not-taken.false),
+      more s.args.kinds.now s.args.times.now s.args.values.now s.args.course s.args.count m.i m.next m.plane _ m.invariant.0 _ c.loop-i-test.true c.take-taken.ensures (not-false _ c.if-not-taken.false),
       c.take-taken.auto.plane ∙ m.invariant.1,
     )
 

@@ -4,7 +4,7 @@ use Prim.Native.Nat.{ℕ, ◌-◌, min}
 use native.Mathlib.Omega.{arith}
 use lib.ListN.{length}
 use borrow.Author.Rules.{rules}
-use borrow.Author.Tests.{not_true, not_false}
+use borrow.Author.Tests.{not-true, not-false}
 use Rattle.query.specs.Outcome.{Outcome}
 use Rattle.counts.specs.Counts.{picture}
 use Rattle.world.specs.World.{World, world}
@@ -63,14 +63,14 @@ returns-then-not-is_accepted c =
     let n = m.shorter-count.result in
     let t = c.turn-fed in
     let f = t.result in
-    sym (ended_there (step s) n f.refusal f.made _ (sym c.is_accepted.ensures ∙ not_true _ c.if-not-is_accepted.true))
+    sym (ended_there (step s) n f.refusal f.made _ (sym c.is_accepted.ensures ∙ not-true _ c.if-not-is_accepted.true))
     ∙ t.ensures.log_after
     ∙ m.loop-i.invariant.0
     ∙ ap (λ (k : ℕ). feeding (step s) k 0 (given s)) (m.shorter-count.ensures ∙ ap (min (length s.args.kinds.now)) m.shorter.ensures)
 
 pub loop-i-smaller : goal.loop-i-smaller
 loop-i-smaller c =
-    let h = c.turn-fed.ensures.from_lt_made (sym c.is_accepted.ensures ∙ not_false _ c.if-not-is_accepted.false) in
+    let h = c.turn-fed.ensures.from_lt_made (sym c.is_accepted.ensures ∙ not-false _ c.if-not-is_accepted.false) in
     omega (arith, h, c.loop-i-test.true)
 
 pub loop-i-preserved : goal.loop-i-preserved
@@ -80,7 +80,7 @@ loop-i-preserved c =
     let n = m.shorter-count.result in
     let t = c.turn-fed in
     let f = t.result in
-    let a = sym c.is_accepted.ensures ∙ not_false _ c.if-not-is_accepted.false in (
+    let a = sym c.is_accepted.ensures ∙ not-false _ c.if-not-is_accepted.false in (
       sym (ended_on (step s) n f.refusal f.made _ a) ∙ t.ensures.log_after ∙ m.loop-i.invariant.0,
       (
         t.auto.states ∙ m.loop-i.invariant.1.0,
