@@ -15,10 +15,10 @@ given s = with_buffers s.args.state s.args.states.now s.args.luts.now (picture s
 
 pub start_command-requires : goal.start_command-requires
 start_command-requires c =
-    let s = c.before.before.before.before.before.before.before.before.before.before.before.before.before.before.before in
+    let s = c in
     still_activatable _ _ s.args.state _ s.args.states.now s.args.luts.now s.args.pixels.now s.args.counts.now s.args.black_white.now s.args.red.now s.args.gates.now s.args.log.now c.make_current-current.ensures s.requires
 
 pub returns : goal.returns
 returns c =
-    let s = c.before.before.before.before.before.before.before.before.before.before.before.before.before.before.before.before.before.before.before.before.before.before.before.before.before in
+    let s = c in
     accepts (kept s) s.args.command (given s) _ _ _ c.make_current-current.ensures c.start_command.ensures

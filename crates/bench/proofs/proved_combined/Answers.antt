@@ -15,14 +15,14 @@ combined-whole-requires c = sym c.can_combine.ensures ∙ c.if-can_combine.true
 
 pub returns-then-can_combine : goal.returns-then-can_combine
 returns-then-can_combine c =
-    let call = c.before.before in
-    let test = call.before in
-    let s = test.before.before in
+    let call = c in
+    let test = call in
+    let s = test in
     let a = s.args in
     let fits = c.struct_told-1.given in
     let swing = back s.ranges.swing in record { value = sym test.if-can_combine.true ∙ test.can_combine.ensures ∙ ap (λ (z : ℤ). combinable a.periods.now a.lut z) swing; out_after = (λ i. field_back call.combined-whole.result.add fits.0.1 i ∷ field_back call.combined-whole.result.lo fits.1.0.1 i ∷ field_back call.combined-whole.result.hi fits.1.1.0.1 i ∷ []) ∙ ap numbers_of (call.combined-whole.ensures ∙ (λ i. settled (whole_transfer a.setting.now a.periods.now (Lut a.lut) (swing i) a.positive_drives_black))) }
 
 pub returns : goal.returns
 returns c =
-    let s = c.before.before in
+    let s = c in
     let a = s.args in record { value = sym c.if-can_combine.false ∙ c.can_combine.ensures ∙ ap (λ (z : ℤ). combinable a.periods.now a.lut z) (back s.ranges.swing); out_after = refl }

@@ -19,9 +19,9 @@ started c = c.before.before.before.before.before
 
 pub finish-finished-requires : goal.finish-finished-requires
 finish-finished-requires c =
-    let made = c.before.before.before.before.before.before.before in
-    let test = made.before in
-    let a = (started test.before).args in
+    let made = c in
+    let test = made in
+    let a = (started test).args in
     let n = length a.states.now in
     let l = length a.luts.now in
     let m = length a.pixels.now in
@@ -39,11 +39,11 @@ finish-finished-requires c =
 
 pub returns-then-can_finish : goal.returns-then-can_finish
 returns-then-can_finish c =
-    let call = c.before.before.before.before.before.before.before.before.before in
-    let until = call.before.before.before.before.before in
-    let made = until.before.before in
-    let test = made.before in
-    let s = started test.before in
+    let call = c in
+    let until = call in
+    let made = until in
+    let test = made in
+    let s = started test in
     let a = s.args in
     let e = ap (λ (z : ℤ). finishable a.periods.now z (length a.states.now) (length a.luts.now) (length a.pixels.now) (length a.counts.now)) (sym (back s.fits.swing))
     ∙ sym test.can_finish.ensures ∙ test.if-can_finish.true in
@@ -56,7 +56,7 @@ returns-then-can_finish c =
 
 pub returns : goal.returns
 returns c =
-    let s = started c.before.before in
+    let s = started c in
     let a = s.args in
     let e = ap (λ (z : ℤ). finishable a.periods.now z (length a.states.now) (length a.luts.now) (length a.pixels.now) (length a.counts.now)) (sym (back s.fits.swing))
     ∙ sym c.can_finish.ensures ∙ c.if-can_finish.false in

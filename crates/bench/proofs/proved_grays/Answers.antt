@@ -12,12 +12,12 @@ paint_grays-requires c = sym c.can_gray.ensures ∙ c.if-can_gray.true
 
 pub returns-then-can_gray : goal.returns-then-can_gray
 returns-then-can_gray c =
-    let call = c.before.before.before in
-    let test = call.before.before in
-    let s = test.before.before.before in
+    let call = c in
+    let test = call in
+    let s = test in
     let a = s.args in record { value = sym test.if-can_gray.true ∙ test.can_gray.ensures ∙ ap (λ (z : ℤ). grayable z (length a.states.now) (length a.pixels.now)) (back s.ranges.swing); pixels_after = call.paint_grays.ensures ∙ ap (λ (z : ℤ). grays z a.states.now) (back s.ranges.swing) }
 
 pub returns : goal.returns
 returns c =
-    let s = c.before.before.before.before in
+    let s = c in
     let a = s.args in record { value = sym c.if-can_gray.false ∙ c.can_gray.ensures ∙ ap (λ (z : ℤ). grayable z (length a.states.now) (length a.pixels.now)) (back s.ranges.swing); pixels_after = refl }

@@ -12,9 +12,9 @@ transfer-t-requires c = sym c.can_walk.ensures ∙ c.if-can_walk.true
 
 pub returns-then-can_walk : goal.returns-then-can_walk
 returns-then-can_walk c =
-    let call = c.before.before in
-    let test = call.before.before in
-    let s = test.before.before in
+    let call = c in
+    let test = call in
+    let s = test in
     let a = s.args in
     let fits = c.struct_told-1.given in record { value = sym test.if-can_walk.true ∙ test.can_walk.ensures; out_after = (λ i. field_back call.transfer-t.result.add fits.0.1 i ∷ field_back call.transfer-t.result.lo fits.1.0.1 i ∷ field_back call.transfer-t.result.hi fits.1.1.0.1 i ∷ []) ∙ ap numbers_of (call.transfer-t.ensures ∙ (λ i. setting_transfer a.setting.now a.periods.now (Lut a.lut) (back s.ranges.swing i) a.positive_drives_black (call.until_of-until.ensures i))) }
 

@@ -32,7 +32,7 @@ shape_of-plane-then-not-taken c = c.take-taken.auto.plane ∙ c.loop-i.invariant
 -- src/lib.rt:125:13
 pub returns-then-not-taken : goal.returns-then-not-taken
 returns-then-not-taken c =
-    let s = c.before.before.before.before.before.before.before.before.before.before.before.before.before.before.before.before in
+    let s = c in
     let m = c.loop-i in
     ends s.args.kinds.now s.args.times.now s.args.values.now s.args.course s.args.count m.i m.next m.plane _ m.invariant.0 _ c.loop-i-test.true c.take-taken.ensures (not-true _ c.if-not-taken.true)
 
@@ -47,7 +47,7 @@ loop-i-smaller c = omega arith
 -- src/lib.rt:122:5
 pub loop-i-preserved : goal.loop-i-preserved
 loop-i-preserved c =
-    let s = c.before.before.before.before.before.before.before.before.before.before.before.before.before.before.before.before.before in
+    let s = c in
     let m = c.loop-i in (
       more s.args.kinds.now s.args.times.now s.args.values.now s.args.course s.args.count m.i m.next m.plane _ m.invariant.0 _ c.loop-i-test.true c.take-taken.ensures (not-false _ c.if-not-taken.false),
       c.take-taken.auto.plane ∙ m.invariant.1,
@@ -60,7 +60,7 @@ shape_of-plane c = c.loop-i.invariant.1
 -- src/lib.rt:107:1
 pub returns : goal.returns
 returns c =
-    let s = c.before.before.before.before.before.before.before in
+    let s = c in
     let m = c.loop-i in
     let none : s.args.count - m.i ≡ 0 = omega (arith, c.loop-i-test.false) in
     all s.args.kinds.now s.args.times.now s.args.values.now s.args.course s.args.count m.i m.next m.plane _ m.invariant.0 none

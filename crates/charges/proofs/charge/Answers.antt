@@ -27,7 +27,7 @@ abbrev start : Asked → Start
 start c = c.before.before.before.before
 
 abbrev periods : Asked → List ℕ
-periods c = (start c).args.t1
+periods c = (start c).args.frame_period
 
 abbrev setting : Asked → List ℕ
 setting c = (start c).args.setting.now
@@ -47,27 +47,27 @@ sum c = charge_of (setting c) (periods c) (lut_number (start c).args.lut)
 pub returns-then-not-accepted : goal.returns-then-not-accepted
 unfolding charged_of
 returns-then-not-accepted c =
-    let a = c.before.before in
+    let a = c in
     at_first (first a) (long a) (lent a) (pos 0) (sum a) a.periods_error-error.ensures (ap not (sym a.is_accepted-accepted.ensures) ∙ c.if-not-accepted.true)
 
 pub returns-then-long : goal.returns-then-long
 unfolding charged_of
 returns-then-long c =
-    let a = c.before.before.before in
+    let a = c in
     at_long (first a) (long a) (lent a) (pos 0) (sum a) a.periods_error-error.ensures (ap not (sym a.is_accepted-accepted.ensures) ∙ c.if-not-accepted.false)
     (sym a.has_long_period-long.ensures ∙ c.if-long.true)
 
 pub returns-then-other : goal.returns-then-other
 unfolding charged_of
 returns-then-other c =
-    let a = c.before.before.before.before in
+    let a = c in
     at_lent (first a) (long a) (lent a) (pos 0) (sum a) a.periods_error-error.ensures (ap not (sym a.is_accepted-accepted.ensures) ∙ c.if-not-accepted.false)
     (sym a.has_long_period-long.ensures ∙ c.if-long.false) c.if-other.true
 
 pub waveform_of-waveform-requires : goal.waveform_of-waveform-requires
 waveform_of-waveform-requires c =
-    let test = c.before.before in
-    let a = test.before.before.before in record { setting = eqb-true (length (setting a)) 112 (unturned _ test.if-other.false); periods = none_long (periods a) (sym a.has_long_period-long.ensures ∙ test.if-long.false) }
+    let test = c in
+    let a = test in record { setting = eqb-true (length (setting a)) 112 (unturned _ test.if-other.false); periods = none_long (periods a) (sym a.has_long_period-long.ensures ∙ test.if-long.false) }
 
 below_4 : (lut : PixelLut) → lut_number lut < 4
 below_4 Lut0 = omega arith
@@ -77,16 +77,16 @@ below_4 Lut3 = omega arith
 
 pub charge_of-requires : goal.charge_of-requires
 charge_of-requires c =
-    let wave = c.before.before in
-    let a = wave.before.before.before.before.before in record { lut = omega (arith, c.number_of.ensures, below_4 (start a).args.lut); bounded = wave.waveform_of-waveform.ensures.bounded }
+    let wave = c in
+    let a = wave in record { lut = omega (arith, c.number_of.ensures, below_4 (start a).args.lut); bounded = wave.waveform_of-waveform.ensures.bounded }
 
 pub returns : goal.returns
 unfolding charged_of
 returns c =
-    let number = c.before.before in
-    let wave = number.before in
-    let test = wave.before.before in
-    let a = test.before.before.before in
+    let number = c in
+    let wave = number in
+    let test = wave in
+    let a = test in
     at_none (first a) (long a) (lent a) (pos 0) (sum a) a.periods_error-error.ensures (ap not (sym a.is_accepted-accepted.ensures) ∙ test.if-not-accepted.false)
     (sym a.has_long_period-long.ensures ∙ test.if-long.false) test.if-other.false
     (got c.charge_of.type_inv c.charge_of.ensures ∙ (λ i. drive_sum (phases_of (wave.waveform_of-waveform.ensures.is i) (Lut (number.number_of.ensures i)))))

@@ -36,7 +36,7 @@ slice_bounds-put_line-end c = omega arith
 
 pub put_line-at-requires : goal.put_line-at-requires
 put_line-at-requires c =
-    let s = c.before.before.before.before.before.before.before in record { room = omega (arith, s.requires.room); setting = simp (length-take, length-drop) (omega arith); periods = s.requires.periods }
+    let s = c in record { room = omega (arith, s.requires.room); setting = simp (length-take, length-drop) (omega arith); periods = s.requires.periods }
 
 pub overflow_add-entry : goal.overflow_add-entry
 overflow_add-entry c = omega arith
@@ -53,8 +53,8 @@ as_setting b periods otp from entry e =
 
 pub loop-entry-preserved : goal.loop-entry-preserved
 loop-entry-preserved c =
-    let put = c.before.before.before in
-    let l = put.before.before.before.before in
+    let put = c in
+    let l = put in
     let s = l.args in (
       joined_more 0 s.out.now (lineIn s.frame_period.now s.otp.now) l.loop-entry.entry (omega arith) l.loop-entry.invariant.0
           (as_setting (buffer l.loop-entry.at l.loop-entry.out) s.frame_period.now s.otp.now (118 * l.loop-entry.entry + 6) l.loop-entry.entry put.put_line-at.ensures.text),
@@ -69,8 +69,8 @@ shape_of-out c = c.loop-entry.invariant.3
 pub returns : goal.returns
 unfolding charge_text
 returns c =
-    let l = c.before.before in
-    let s = l.before.before.before in
+    let l = c in
+    let s = l in
     let a = s.args in
     let e : l.loop-entry.entry ≡ entry_count a.otp.now = omega arith in
     filled (joined (entry_count a.otp.now) (lineIn a.frame_period.now a.otp.now)) a.out.now

@@ -22,7 +22,7 @@ abbrev start : Asked → Start
 start c = c.before.before.before.before.before
 
 abbrev periods : Asked → List ℕ
-periods c = (start c).args.t1
+periods c = (start c).args.frame_period
 
 abbrev table : Asked → List ℕ
 table c = (start c).args.otp.now
@@ -45,33 +45,33 @@ text c = charge_text (periods c) (table c)
 pub returns-then-not-accepted : goal.returns-then-not-accepted
 unfolding reported_of
 returns-then-not-accepted c =
-    let a = c.before.before in
+    let a = c in
     at_first (first a) (long a) (lent a) (out a) (text a) a.parameters_error-error.ensures (ap not (sym a.is_accepted-accepted.ensures) ∙ c.if-not-accepted.true)
 
 pub returns-then-long_period : goal.returns-then-long_period
 unfolding reported_of
 returns-then-long_period c =
-    let a = c.before.before.before in
+    let a = c in
     at_long (first a) (long a) (lent a) (out a) (text a) a.parameters_error-error.ensures (ap not (sym a.is_accepted-accepted.ensures) ∙ c.if-not-accepted.false)
     (sym a.has_long_period-long_period.ensures ∙ c.if-long_period.true)
 
 pub returns-then-other_length : goal.returns-then-other_length
 unfolding reported_of
 returns-then-other_length c =
-    let a = c.before.before.before.before in
+    let a = c in
     at_lent (first a) (long a) (lent a) (out a) (text a) a.parameters_error-error.ensures (ap not (sym a.is_accepted-accepted.ensures) ∙ c.if-not-accepted.false)
     (sym a.has_long_period-long_period.ensures ∙ c.if-long_period.false) c.if-other_length.true
 
 pub put_text-requires : goal.put_text-requires
 put_text-requires c =
-    let test = c.before.before.before in
-    let a = test.before.before.before in record { room = eqb-true (length (out a)) (88 * entry_count (table a)) (unturned _ test.if-other_length.false); periods = none_long (periods a) (sym a.has_long_period-long_period.ensures ∙ test.if-long_period.false) }
+    let test = c in
+    let a = test in record { room = eqb-true (length (out a)) (88 * entry_count (table a)) (unturned _ test.if-other_length.false); periods = none_long (periods a) (sym a.has_long_period-long_period.ensures ∙ test.if-long_period.false) }
 
 pub returns : goal.returns
 unfolding reported_of
 returns c =
-    let put = c.before.before.before in
-    let test = put.before.before.before in
-    let a = test.before.before.before in
+    let put = c in
+    let test = put in
+    let a = test in
     at_none (first a) (long a) (lent a) (out a) (text a) a.parameters_error-error.ensures (ap not (sym a.is_accepted-accepted.ensures) ∙ test.if-not-accepted.false)
     (sym a.has_long_period-long_period.ensures ∙ test.if-long_period.false) test.if-other_length.false put.put_text.ensures

@@ -12,7 +12,7 @@ returns-then-is_quiet c =
 
 pub end_display-shown-requires : goal.end_display-shown-requires
 end_display-shown-requires c =
-    let s = c.before.before.before.before.before.before.before.before.before.before in
+    let s = c in
     ready_now s.args.state _ _ s.args.states.now s.args.luts.now s.args.pixels.now s.args.counts.now c.move_clock-moved.ensures s.requires
 
 pub returns : goal.returns

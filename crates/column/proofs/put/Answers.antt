@@ -33,7 +33,7 @@ loop-i-smaller c = omega arith
 
 pub loop-i-preserved : goal.loop-i-preserved
 loop-i-preserved c =
-    let l = c.before.before in
+    let l = c in
     let s = l.args in
     let i = l.loop-i.i in
     let e = column_length s.width s.negative s.n in

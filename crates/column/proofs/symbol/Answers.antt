@@ -19,26 +19,26 @@ returns-then-has_digit c =
 
 pub overflow_sub-place : goal.overflow_sub-place
 overflow_sub-place c =
-    let s = c.before.before.before in
+    let s = c in
     further s.args.n s.args.place (sym c.has_digit.ensures ∙ c.if-has_digit.false)
 
 pub returns-then-right : goal.returns-then-right
 unfolding symbol_at
 returns-then-right c =
-    let first = c.before.before.before in
+    let first = c in
     passed _ _ _ _ (sym first.has_digit.ensures ∙ first.if-has_digit.false)
     (took _ _ _ _ ((λ i. c.if-negative.true i && sym c.has_digit-right.ensures i) ∙ c.if-right.true) refl)
 
 pub returns-else-right : goal.returns-else-right
 unfolding symbol_at
 returns-else-right c =
-    let first = c.before.before.before in
+    let first = c in
     passed _ _ _ _ (sym first.has_digit.ensures ∙ first.if-has_digit.false)
     (passed _ _ _ _ ((λ i. c.if-negative.true i && sym c.has_digit-right.ensures i) ∙ c.if-right.false) refl)
 
 pub returns-else-negative : goal.returns-else-negative
 unfolding symbol_at
 returns-else-negative c =
-    let s = c.before.before.before in
+    let s = c in
     passed _ _ _ _ (sym c.has_digit.ensures ∙ c.if-has_digit.false)
     (passed _ _ _ _ (ap (λ b. b && has_digit s.args.n (s.args.place - 1)) c.if-negative.false) refl)

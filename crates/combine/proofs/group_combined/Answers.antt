@@ -29,7 +29,7 @@ once_is d g e = ap (λ (n : ℕ). joined n (λ k. four_in d g)) (sym e)
 abbrev group_at : (c : Start) → Group
 group_at c = timed_group c.args.setting.now c.args.frame_period.now c.args.group
 
-repeats_are : (c : After-repeats-repeats) → c.repeats-repeats.result ≡ (group_at c.before).repeats
+repeats_are : (c : After-repeats-repeats) → c.repeats-repeats.result ≡ (group_at c).repeats
 unfolding group_codes_of
 repeats_are c = c.repeats-repeats.ensures
 
@@ -39,13 +39,13 @@ swing_in c = swing_is (record { sfits = c.struct_told-1.given.1.1.0.1 }) c.requi
 
 pub returns-then-once : goal.returns-then-once
 returns-then-once c =
-    let call = c.before in
-    let told = call.before.before in
-    let ran = told.before in
+    let call = c in
+    let told = call in
+    let ran = told in
     let a = ran.args in
     let d = a.driving in
     let t = a.transfer in
-    let g = group_at ran.before in
+    let g = group_at ran in
     let from = call.start-start.ensures ∙ ap (λ (b : Bool). pick b t (identity_t (rd d.swing))) c.if-once.true in
     walk_extends d (swing_in told) (group_in d g) t _
     (call.pass-passed.ensures
@@ -57,17 +57,17 @@ repeated-requires c = tt
 
 pub returns : goal.returns
 returns c =
-    let test = c.before in
-    let call = test.before in
-    let told = call.before.before in
-    let ran = told.before in
+    let test = c in
+    let call = test in
+    let told = call in
+    let ran = told in
     let a = ran.args in
     let d = a.driving in
     let w = swing_in told in
-    let four = four_in d (group_at ran.before) in
+    let four = four_in d (group_at ran) in
     let from = call.start-start.ensures ∙ ap (λ (b : Bool). pick b a.transfer (identity_t (rd d.swing))) test.if-once.false ∙ ap identity_t (field_back d.swing told.struct_told-1.given.1.1.0.1) in
     let once = (walk_extends d w four _ _ call.pass-passed.ensures).acts (λ x. x) (start_acts d w from) in
     let many = subst (λ (n : ℕ). Repeated a.transfer call.pass-passed.result n c.repeated.result) (repeats_are ran) c.repeated.ensures in
     record {
-      acts = λ f h. acts_as (swing_in d) w.room (λ x l. drive_again d (group_at ran.before).repeats four (f x)) (many.acts (swing_in d) w.room _ f h once);
+      acts = λ f h. acts_as (swing_in d) w.room (λ x l. drive_again d (group_at ran).repeats four (f x)) (many.acts (swing_in d) w.room _ f h once);
     }

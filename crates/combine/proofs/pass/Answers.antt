@@ -17,8 +17,8 @@ loop-at-init c = (omega arith, fold_none _ _ _)
 pub loop-at-preserved : goal.loop-at-preserved
 unfolding phase_of
 loop-at-preserved c =
-    let test = c.before.before in
-    let m = test.before in
+    let test = c in
+    let m = test in
     let a = m.args in
     let step = whole_step a.driving in
     let s = a.setting.now in

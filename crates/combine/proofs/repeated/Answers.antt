@@ -20,7 +20,7 @@ loop-left-smaller c = omega arith
 
 pub loop-left-preserved : goal.loop-left-preserved
 loop-left-preserved c =
-    let m = c.before.before.before in
+    let m = c in
     let more = c.loop-left-test.true in
     ⊎_elim
     (λ w. halving_of (w.2 ∙ w.1.ensures) c.then-power.ensures (halving_odd more w.0.taken m.loop-left.invariant))

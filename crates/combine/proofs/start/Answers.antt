@@ -6,4 +6,4 @@ use Rattle.glass.specs.Transfers.{identity_t}
 use Rattle.combine.proofs.start.Goals as goal
 
 pub returns : goal.returns
-returns c = let s = c.before.before in passed _ _ _ _ c.if-once.false (c.identity.ensures ∙ ap identity_t (back s.ranges.swing))
+returns c = let s = c in passed _ _ _ _ c.if-once.false (c.identity.ensures ∙ ap identity_t (back s.ranges.swing))

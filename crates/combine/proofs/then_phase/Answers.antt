@@ -5,6 +5,6 @@ use Rattle.combine.proofs.then_phase.Goals as goal
 
 pub returns : goal.returns
 returns c =
-    let call = c.before in
+    let call = c in
     let a = call.args in
     c.push.ensures ∙ ap (whole_step a.driving a.transfer) call.phase_of-phase.ensures

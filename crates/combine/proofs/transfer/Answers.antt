@@ -19,17 +19,17 @@ decoded s = waveform_of s.args.setting.now s.args.frame_period.now
 
 pub transfer_whole-requires : goal.transfer_whole-requires
 transfer_whole-requires c =
-    let s = c.before.before in
+    let s = c in
     (s.requires.0, subst (λ (z : ℤ). pos 1 ≤ℤ z) (sym (back s.ranges.swing)) s.requires.1)
 
 pub transfer_cut-requires : goal.transfer_cut-requires
 transfer_cut-requires c =
-    let s = c.before.before.before.before in
+    let s = c in
     subst (λ (w : Waveform). Walkable w s.args.drive) (sym c.from_setting-decoded.ensures) s.requires.0
 
 pub returns-in-Whole : goal.returns-in-Whole
 returns-in-Whole c =
-    let s = c.before.before.before in
+    let s = c in
     let a = s.args in
     let black = a.positive_drives_black in
     let swing = back s.ranges.swing in
@@ -37,8 +37,8 @@ returns-in-Whole c =
 
 pub returns-in-Cut : goal.returns-in-Cut
 returns-in-Cut c =
-    let call = c.before in
-    let s = call.before.before.before.before in
+    let call = c in
+    let s = call in
     let a = s.args in
     let black = a.positive_drives_black in
     let known = call.until-1.given in

@@ -34,7 +34,7 @@ driving s levels swing = record { levels = levels; drive = s.args.drive; swing =
 
 -- the same as the machine reads them
 abbrev machine : After-from_setting-levels → Driving
-machine c = driving c.before c.from_setting-levels.result (rd c.args.swing)
+machine c = driving c c.from_setting-levels.result (rd c.args.swing)
 
 swings : (s : Start → Swing s.args.swing
 swings s = swing_is s.ranges.swing s.requires.1
@@ -44,8 +44,8 @@ swings_in s = subst Swing (sym (back s.ranges.swing)) (swings s)
 
 pub loop-k-init : goal.loop-k-init
 loop-k-init c =
-    let s = c.before.before in
-    let d = machine c.before in
+    let s = c in
+    let d = machine c in
     let w = swings_in s in (
       omega arith,
       acts_as (swing_in d) w.room (λ x h. drive_none d (of d s.args.setting.now s.args.frame_period.now) x) (start_acts d w c.identity-moved.ensures),
@@ -54,9 +54,9 @@ loop-k-init c =
 pub group_combined-moved-requires : goal.group_combined-moved-requires
 unfolding waveform_of
 group_combined-moved-requires c =
-    let test = c.before.before in
-    let made = test.before.before.before in
-    let s = made.before in (
+    let test = c in
+    let made = test in
+    let s = made in (
       test.loop-k-test.true,
       record {
         drivable = record { listable = subst AllListable (sym made.from_setting-levels.ensures) s.requires.0.listable; takes = s.requires.0.takes };
@@ -67,10 +67,10 @@ group_combined-moved-requires c =
 pub loop-k-preserved : goal.loop-k-preserved
 unfolding group_codes_of
 loop-k-preserved c =
-    let test = c.before.before in
-    let l = test.before in
-    let made = l.before.before in
-    let s = made.before in
+    let test = c in
+    let l = test in
+    let made = l in
+    let s = made in
     let d = machine made in
     let w = swings_in s in
     let k = l.loop-k.k in
@@ -91,9 +91,9 @@ loop-k-preserved c =
 pub returns : goal.returns
 unfolding waveform_of
 returns c =
-    let l = c.before.before in
-    let made = l.before.before in
-    let s = made.before in
+    let l = c in
+    let made = l in
+    let s = made in
     let a = s.args in
     let black = a.positive_drives_black in
     let bytes = a.setting.now in

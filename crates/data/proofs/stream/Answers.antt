@@ -13,7 +13,7 @@ given s l = with_ram s.args.state s.args.black_white.now s.args.red.now l
 
 pub returns-then-put : goal.returns-then-put
 returns-then-put c =
-    let s = c.before.before.before.before.before.before.before.before.before.before.before.before.before.before.before.before.before.before.before.before.before.before.before in
+    let s = c in
     let d = s.args.state in
     let b = s.args.black_white.now in
     let r = s.args.red.now in
@@ -23,7 +23,7 @@ returns-then-put c =
 
 pub returns-then-is_stream : goal.returns-then-is_stream
 returns-then-is_stream c =
-    let s = c.before.before.before.before.before.before.before.before.before.before.before.before.before.before.before.before.before.before.before in
+    let s = c in
     let d = s.args.state in
     let b = s.args.black_white.now in
     let r = s.args.red.now in
@@ -34,7 +34,7 @@ returns-then-is_stream c =
 
 pub returns-else-is_stream : goal.returns-else-is_stream
 returns-else-is_stream c =
-    let s = c.before.before.before.before.before.before.before.before.before.before.before in
+    let s = c in
     let d = s.args.state in
     let b = s.args.black_white.now in
     let r = s.args.red.now in
@@ -43,7 +43,7 @@ returns-else-is_stream c =
 
 pub returns-in-Idle : goal.returns-in-Idle
 returns-in-Idle c =
-    let s = c.before.before.before.before.before.before.before.before in
+    let s = c in
     let d = s.args.state in
     let b = s.args.black_white.now in
     let r = s.args.red.now in
@@ -51,7 +51,7 @@ returns-in-Idle c =
 
 pub returns-in-Ignoring : goal.returns-in-Ignoring
 returns-in-Ignoring c =
-    let s = c.before.before.before.before.before.before.before.before in
+    let s = c in
     let d = s.args.state in
     let b = s.args.black_white.now in
     let r = s.args.red.now in

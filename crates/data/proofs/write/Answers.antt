@@ -11,7 +11,7 @@ returns-then-step c =
 
 pub write_other-requires : goal.write_other-requires
 write_other-requires c =
-    let s = c.before.before.before.before.before.before.before.before.before.before.before.before.before.before in
+    let s = c in
     let k = c.stream-step in record { log_len = s.requires; current_value = still_not s.args.byte s.args.state s.args.black_white.now s.args.red.now k.result k.new.black_white k.new.red k.ensures.done_value k.ensures.by_index c.if-step.false }
 
 pub shape_of-black_white : goal.shape_of-black_white

@@ -6,7 +6,7 @@ use Rattle.data.proofs.write_other.Goals as goal
 
 pub returns-then-is_stream : goal.returns-then-is_stream
 returns-then-is_stream c =
-    let s = c.before.before.before.before.before.before.before.before.before.before.before.before.before.before in
+    let s = c in
     let d = s.args.state in
     let b = s.args.black_white.now in
     let r = s.args.red.now in
@@ -20,7 +20,7 @@ returns-then-is_stream c =
 
 pub returns-else-is_stream : goal.returns-else-is_stream
 returns-else-is_stream c =
-    let s = c.before.before.before.before.before.before.before.before.before.before.before.before.before.before.before.before.before.before.before.before.before in
+    let s = c in
     let d = s.args.state in
     is_other s.args.byte (with_ram d s.args.black_white.now s.args.red.now s.args.log.now) _ d.bus.current _ _
     c.in-Active.is
@@ -31,14 +31,14 @@ returns-else-is_stream c =
 
 pub returns-in-Idle : goal.returns-in-Idle
 returns-in-Idle c =
-    let s = c.before.before.before.before.before.before.before.before.before.before.before in
+    let s = c in
     let d = s.args.state in
     is_unasked s.args.byte (with_ram d s.args.black_white.now s.args.red.now s.args.log.now) _ d.bus.current
     c.in-Idle.is (c.take_unasked.ensures _ _)
 
 pub returns-in-Ignoring : goal.returns-in-Ignoring
 returns-in-Ignoring c =
-    let s = c.before.before.before.before.before.before.before in
+    let s = c in
     let d = s.args.state in
     let w = (with_ram d s.args.black_white.now s.args.red.now s.args.log.now) in
     is_ignored s.args.byte w w d.bus.current c.in-Ignoring.is

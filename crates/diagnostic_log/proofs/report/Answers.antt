@@ -11,8 +11,8 @@ use Rattle.diagnostic_log.proofs.report.Goals as goal
 pub returns-then-count-lt-MAX_DIAGNOSTICS : goal.returns-then-count-lt-MAX_DIAGNOSTICS
 unfolding reported
 returns-then-count-lt-MAX_DIAGNOSTICS c =
-    let made = c.before.before.before.before.before.before in
-    let then = made.before in
+    let made = c in
+    let then = made in
     rw (lt-ltb then.args.journal.count 1024 (omega arith))
     (ap (entries _) (wrote _ made.record_of-bytes16.result _ _ (16 * then.args.journal.count) 16 (search rules) (search rules) c.copy.ensures.front ∙ rw made.record_of-bytes16.ensures))
 

@@ -13,7 +13,7 @@ use Rattle.drive_sheet.proofs.byte_at.Goals as goal
 
 pub codes_byte-requires : goal.codes_byte-requires
 codes_byte-requires c =
-    let s = c.before.before in
+    let s = c in
     (omega arith, group_codes s.args.sheet s.requires.1.passes (s.args.at % 10) (omega arith))
 
 pub returns-then-at-lt50 : goal.returns-then-at-lt50
@@ -24,7 +24,7 @@ returns-then-at-lt50 c =
 
 pub frames_byte-requires : goal.frames_byte-requires
 frames_byte-requires c =
-    let s = c.before.before.before in
+    let s = c in
     group_repeats s.args.sheet s.requires.1.passes ((s.args.at - 50) / 5) (omega arith)
 
 pub returns-then-at-lt100 : goal.returns-then-at-lt100
@@ -36,14 +36,14 @@ returns-then-at-lt100 c =
 
 pub rates_byte-requires : goal.rates_byte-requires
 rates_byte-requires c =
-    let s = c.before.before.before.before.before in
+    let s = c in
     let even = 2 * (s.args.at - 100) in
     (group_codes s.args.sheet s.requires.1.passes even (omega arith), group_codes s.args.sheet s.requires.1.passes (even + 1) (omega arith))
 
 pub returns-then-at-lt105 : goal.returns-then-at-lt105
 unfolding sheet_byte
 returns-then-at-lt105 c =
-    let m = c.before.before.before in
+    let m = c in
     let at = m.args.at in
     passed (ltb at 50) _ _ _ (le-ltb at 50 m.if-at-lt50.false)
     (passed (ltb at 100) _ _ _ (le-ltb at 100 m.if-at-lt100.false)
@@ -51,14 +51,14 @@ returns-then-at-lt105 c =
 
 pub last_byte-requires : goal.last_byte-requires
 last_byte-requires c =
-    let s = c.before.before.before in
+    let s = c in
     subst Coded (sym s.requires.1.found) (all_coded s.args.sheet s.requires.1.passes.supplied)
 
 pub returns : goal.returns
 unfolding sheet_byte
 returns c =
-    let m = c.before in
-    let s = m.before.before.before in
+    let m = c in
+    let s = m in
     let at = s.args.at in
     passed (ltb at 50) _ _ _ (le-ltb at 50 m.if-at-lt50.false)
     (passed (ltb at 100) _ _ _ (le-ltb at 100 m.if-at-lt100.false)

@@ -31,5 +31,5 @@ shape_of-out c = c.loop-i.invariant.long
 pub returns : goal.returns
 unfolding setting_of
 returns c =
-    let s = c.before.before.before in
+    let s = c in
     painted_all c.loop-i.invariant (omega arith) ∙ ap (λ (n : ℕ). tab n (sheet_byte s.args.sheet)) s.requires.0

@@ -18,7 +18,7 @@ decoded s w k l e =
 pub returns : goal.returns
 unfolding group_codes_of
 returns c =
-    let s = c.before.before.before.before in
+    let s = c in
     let e = decoded s.args.setting.now s.args.waveform s.args.number s.requires.0 s.requires.1 in
     λ i. record {
       frames = (e i).frames;

@@ -37,13 +37,13 @@ group_codes-requires-10 c = (omega arith, c.from_setting-waveform.ensures)
 pub returns : goal.returns
 unfolding tab
 returns c =
-    let c8 = c.before in
-    let c7 = c8.before in
-    let c6 = c7.before in
-    let c5 = c6.before in
-    let c4 = c5.before in
-    let c3 = c4.before in
-    let c2 = c3.before in
-    let c1 = c2.before in
-    let c0 = c1.before in
+    let c8 = c in
+    let c7 = c8 in
+    let c6 = c7 in
+    let c5 = c6 in
+    let c4 = c5 in
+    let c3 = c4 in
+    let c2 = c3 in
+    let c1 = c2 in
+    let c0 = c1 in
     λ i. c0.group_codes.ensures i ∷ c1.group_codes-2.ensures i ∷ c2.group_codes-3.ensures i ∷ c3.group_codes-4.ensures i ∷ c4.group_codes-5.ensures i ∷ c5.group_codes-6.ensures i ∷ c6.group_codes-7.ensures i ∷ c7.group_codes-8.ensures i ∷ c8.group_codes-9.ensures i ∷ c.group_codes-10.ensures i ∷ []

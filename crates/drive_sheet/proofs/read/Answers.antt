@@ -9,9 +9,9 @@ use Rattle.drive_sheet.proofs.read.Goals as goal
 pub returns : goal.returns
 unfolding sheet_of
 returns c =
-    let v = c.before.before.before in
-    let l = v.before.before in
-    let g = l.before in
+    let v = c in
+    let l = v in
+    let g = l in
     λ i. record {
       groups = g.groups_of-groups.ensures i;
       gate = get_or g.args.setting.now 105 0;

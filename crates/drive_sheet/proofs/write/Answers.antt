@@ -13,7 +13,7 @@ use Rattle.drive_sheet.proofs.write.Goals as goal
 -- what 61, 62 and 63 have found, and that the sheet has the lengths of its type
 module _ (c : After-any_bad_codes-bad_codes) where
   abbrev start : Start
-  start = c.before.before.before.before.before.before
+  start = c
 
   no_code : c.lacks_code-no_code.result ≡ (supplies_test start.args.sheet).refuses
   no_code = c.lacks_code-no_code.ensures ∙ ap lacks_code c.find_codes-codes.ensures.codes
@@ -30,29 +30,29 @@ module _ (c : After-any_bad_codes-bad_codes) where
 pub returns-then-out-ne-SETTING_BYTES : goal.returns-then-out-ne-SETTING_BYTES
 unfolding told_of
 returns-then-out-ne-SETTING_BYTES c =
-    let s = start c.before.before in record { bytes = length_refused s.args.sheet s.args.out.now (λ e. omega arith); back = not_whole Length refl }
+    let s = start c in record { bytes = length_refused s.args.sheet s.args.out.now (λ e. omega arith); back = not_whole Length refl }
 
 pub returns-then-no_code : goal.returns-then-no_code
 unfolding told_of
 returns-then-no_code c =
-    let tested = c.before.before.before in
+    let tested = c in
     let s = start tested in record { bytes = voltage_refused s.args.sheet s.args.out.now c.if-out-ne-SETTING_BYTES.false (sym (no_code tested) ∙ c.if-no_code.true); back = not_whole NoCode refl }
 
 pub returns-then-bad_repeats : goal.returns-then-bad_repeats
 unfolding told_of
 returns-then-bad_repeats c =
-    let tested = c.before.before.before.before in
+    let tested = c in
     let s = start tested in record { bytes = repeats_refused s.args.sheet s.args.out.now c.if-out-ne-SETTING_BYTES.false (sym (no_code tested) ∙ c.if-no_code.false) (sym (bad-repeats tested) ∙ c.if-bad_repeats.true); back = not_whole Repeats refl }
 
 pub returns-then-bad_codes : goal.returns-then-bad_codes
 unfolding told_of
 returns-then-bad_codes c =
-    let tested = c.before.before.before.before.before in
+    let tested = c in
     let s = start tested in record { bytes = codes_refused s.args.sheet s.args.out.now c.if-out-ne-SETTING_BYTES.false (sym (no_code tested) ∙ c.if-no_code.false) (sym (bad-repeats tested) ∙ c.if-bad_repeats.false) (sym (bad-codes tested) ∙ c.if-bad_codes.true); back = not_whole Code refl }
 
-writable : (c : Else-bad_codes) → Writable (start c.before.before.before.before.before).args.sheet
+writable : (c : Else-bad_codes) → Writable (start c).args.sheet
 writable c =
-    let tested = c.before.before.before.before.before in
+    let tested = c in
     record {
       supplied = sym (no_code tested) ∙ c.if-no_code.false;
       repeated = sym (bad-repeats tested) ∙ c.if-bad_repeats.false;
@@ -61,13 +61,13 @@ writable c =
 
 pub fill-requires : goal.fill-requires
 fill-requires c =
-    let all = c.before in
-    let found = all.before.before.before.before.before.before.before in
+    let all = c in
+    let found = all in
     (all.if-out-ne-SETTING_BYTES.false, record { passes = writable all; found = found.find_codes-codes.ensures.codes })
 
 pub returns : goal.returns
 returns c =
-    let all = c.before.before.before.before.before in
-    let tested = all.before.before.before.before in
+    let all = c in
+    let tested = all in
     let s = start tested in
     let e = c.fill.ensures in record { bytes = all_written s.args.sheet s.args.out.now _ all.if-out-ne-SETTING_BYTES.false (writable all) e; back = λ _. ap sheet_of e ∙ sheet_back s.args.sheet (formed tested) (writable all) }

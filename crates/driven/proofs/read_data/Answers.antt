@@ -19,21 +19,21 @@ passed c = c.before.before.before.before.before
 
 pub advance-present-requires : goal.advance-present-requires
 advance-present-requires c =
-    let p = c.before.before.before.before in
-    let a = p.before in
+    let p = c in
+    let a = p in
     let s = started a in
     read_ready s.args.luts.now s.args.black_white.now s.args.red.now s.args.time (given s) _ _ _ a.planes_log_lent-lengths.ensures a.check-refusal.ensures a.is_accepted.ensures p.if-is_accepted.true
 
 pub read-reading-requires : goal.read-reading-requires
 read-reading-requires c =
-    let p = passed c.before.before.before.before.before.before.before in
+    let p = passed c in
     let a = p.before in
     let s = started a in
     read_log s.args.luts.now s.args.black_white.now s.args.red.now s.args.time (given s) _ _ _ a.before.before.planes-log-lent.ensures a.before.check.ensures a.is-accepted.ensures p.if1.taken
 
 pub returns-then-is_accepted : goal.returns-then-is_accepted
 returns-then-is_accepted c =
-    let advanced = c.before.before.before.before.before.before.before.before.before.before.before in
+    let advanced = c in
     let p = passed advanced in
     let a = p.before in
     let s = started a in
@@ -41,6 +41,6 @@ returns-then-is_accepted c =
 
 pub returns : goal.returns
 returns c =
-    let a = c.before.before in
+    let a = c in
     let s = started a in
     read_refused s.args.luts.now s.args.black_white.now s.args.red.now s.args.time (given s) _ _ _ a.planes_log_lent-lengths.ensures a.check-refusal.ensures a.is_accepted.ensures c.if-is_accepted.false

@@ -33,5 +33,5 @@ shape_of-gates c = c.loop-gate.invariant.0.long
 
 pub returns : goal.returns
 returns c =
-    let s = c.before.before.before in
+    let s = c in
     scattered_all c.loop-gate.invariant.0 (omega arith) ∙ stored_is s.args.geometry s.args.geometry.height _

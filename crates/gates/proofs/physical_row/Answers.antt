@@ -6,7 +6,7 @@ use Rattle.gates.proofs.physical_row.Goals as goal
 
 pub overflow_sub-result-then-geometry : goal.overflow_sub-result-then-geometry
 overflow_sub-result-then-geometry c =
-    let s = c.before.before.before in
+    let s = c in
     omega (arith, c.native_row-row.ensures, native_lt s.args.gate s.args.geometry.native_scan s.args.geometry.height s.requires)
 
 pub returns-then-geometry : goal.returns-then-geometry

@@ -11,7 +11,7 @@ use Rattle.glass_tables.proofs.move_of.Goals as goal
 
 pub returns-then-highest-transfer : goal.returns-then-highest-transfer
 returns-then-highest-transfer c =
-    let sum = c.before.before.before.before in
+    let sum = c in
     let t = sum.args.transfer in
     let g = sum.struct_told-1.given in
     let add = field_back t.add g.0.1 in
@@ -22,9 +22,9 @@ returns-then-highest-transfer c =
 
 pub returns : goal.returns
 returns c =
-    let low-call = c.before.before.before.before in
-    let sum = low-call.before.before.before.before.before.before in
-    let s = sum.before.before in
+    let low-call = c in
+    let sum = low-call in
+    let s = sum in
     let t = s.args.transfer in
     let g = sum.struct_told-1.given in
     let add = field_back t.add g.0.1 in

@@ -13,7 +13,7 @@ overflow_mul-pixels c =
 
 pub returns : goal.returns
 returns c =
-    let s = c.before.before.before in
-    let start = s.before.before.before.before.before.before in
+    let s = c in
+    let start = s in
     all_lengths start.args.panel start.args.lengths _ _ _ _ s.fits-black_white_fits.ensures s.fits-red_fits.ensures
     s.fits-gates_fit.ensures s.fits5.ensures

@@ -26,8 +26,8 @@ steps h ea eb ed er x y z w =
 pub returns : goal.returns
 unfolding hash_from
 returns c =
-    let third = c.before.before in
-    let second = third.before.before in
-    let first = second.before.before in
+    let third = c in
+    let second = third in
+    let first = second in
     steps first.args.h first.step-a.ensures second.step-b.ensures third.step-c.ensures c.step.ensures first.low.ensures
     second.low-2.ensures third.low-3.ensures c.low-4.ensures

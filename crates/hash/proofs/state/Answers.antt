@@ -17,5 +17,5 @@ halves h {n} {m} e ea er =
 pub returns : goal.returns
 unfolding state_bytes
 returns c =
-    let s = c.before.before.before in
+    let s = c in
     halves s.args.h (c.pattern-n.ensures ∙ ap pattern_of (back s.ranges.state)) c.four-half.ensures c.four.ensures

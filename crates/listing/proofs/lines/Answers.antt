@@ -20,9 +20,9 @@ loop-number-smaller c = omega arith
 
 pub loop-number-preserved : goal.loop-number-preserved
 loop-number-preserved c =
-    let put = c.before.before.before in
-    let l = put.before.before.before.before in
-    let s = l.before.before.before in
+    let put = c in
+    let l = put in
+    let s = l in
     (joined_more 0 s.args.out.now (textIn s.args.waveform) l.loop-number.number (omega arith) l.loop-number.invariant.0 put.put_group-at.ensures.text, omega (arith, put.put_group-at.ensures.end), omega arith, omega arith)
 
 pub shape_of-out : goal.shape_of-out
@@ -31,6 +31,6 @@ shape_of-out c = c.loop-number.invariant.3
 pub returns : goal.returns
 unfolding lines_of
 returns c =
-    let l = c.before in
+    let l = c in
     let s = l.args in
     let e : l.loop-number.number ≡ 10 = omega arith in record { text = l.loop-number.invariant.0 ∙ ap (λ (n : ℕ). appended (buffer 0 s.out.now) (joined n (textIn s.waveform))) e; end = omega arith }

@@ -41,17 +41,17 @@ returns-then-out-lt-ROOM c =
 
 pub put_listing-requires : goal.put_listing-requires
 put_listing-requires c =
-    let w = c.before.before in record { room = omega arith; listable = listable w.args.setting.now (replicate 16 period) w.waveform_of-waveform.ensures }
+    let w = c in record { room = omega arith; listable = listable w.args.setting.now (replicate 16 period) w.waveform_of-waveform.ensures }
 
 pub returns-then-setting-eq-SETTING_BYTES : goal.returns-then-setting-eq-SETTING_BYTES
 returns-then-setting-eq-SETTING_BYTES c =
-    let put = c.before.before.before in
-    let w = put.before.before in
-    let test = w.before in
+    let put = c in
+    let w = put in
+    let test = w in
     let s = test.args in record { text = roomy s.setting.now s.out.now (listing_of w.waveform_of-waveform.result) (omega arith) put.put_listing.ensures.text (text_is s.setting.now test.if-setting-eq-SETTING_BYTES.true w.waveform_of-waveform.ensures); within = omega (arith, put.put_listing.ensures.end) }
 
 pub returns : goal.returns
 returns c =
-    let put = c.before.before.before in
-    let test = put.before.before in
+    let put = c in
+    let test = put in
     let s = test.args in record { text = roomy s.setting.now s.out.now not_a_setting (omega arith) put.put_not_a_setting.ensures.text (not_text s.setting.now test.if-setting-eq-SETTING_BYTES.false); within = omega (arith, put.put_not_a_setting.ensures.end) }

@@ -14,7 +14,7 @@ whole s copied h e =
 
 pub returns : goal.returns
 returns c =
-    let copy = c.before.before.before.before.before in
-    let s = copy.before.before.before in
+    let copy = c in
+    let s = copy in
     c.from_setting.ensures
     ∙ ap (λ (l : List ℕ). waveform_of l (replicate 16 period)) (whole s.args.setting.now _ s.requires copy.copy.ensures.front)

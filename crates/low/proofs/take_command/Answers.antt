@@ -12,11 +12,11 @@ start c = search
 
 -- the clock's move, from the close of the last command
 abbrev moving : After-close_command-arg-1 → After-advance-present
-moving c = search
+moving c = c.before.before.before.before.before.before.before
 
 -- and that close, from the new command's begin
 abbrev closing : After-begin-arg-5-1 → After-close_command-closed
-closing c = search
+closing c = c.before.before.before.before.before.before.before.before
 
 pub close_command-closed-requires : goal.close_command-closed-requires
 close_command-closed-requires c = let s = start (moving c).before in s.pre.startable.log_long
@@ -36,25 +36,25 @@ begin-requires c =
 pub shape_of-states : goal.shape_of-states
 shape_of-states c =
     let left : After-begin = search in
-    let moved = moving (closing left.before).before in
+    let moved = moving (closing left).before in
     left.begin.kept.1.0 ∙ moved.advance.kept.1.0
 
 pub shape_of-pixels : goal.shape_of-pixels
 shape_of-pixels c =
     let left : After-begin = search in
-    let moved = moving (closing left.before).before in
+    let moved = moving (closing left).before in
     left.begin.kept.1.1.1.0 ∙ moved.advance.kept.1.1.1.0
 
 pub shape_of-counts : goal.shape_of-counts
 shape_of-counts c =
     let left : After-begin = search in
-    let moved = moving (closing left.before).before in
+    let moved = moving (closing left).before in
     left.begin.kept.1.1.1.1.0 ∙ moved.advance.kept.1.1.1.1.0
 
 pub returns : goal.returns
 returns c =
     let left : After-begin = search in
-    let closed = closing left.before in
+    let closed = closing left in
     let moved = moving closed.before in
     let s = start moved.before in
     takes (lent s.args.black_white.now s.args.red.now s.args.gates.now s.args.otp.now) s.args.time s.args.command

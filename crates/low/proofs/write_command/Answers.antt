@@ -15,11 +15,11 @@ given s = with_buffers s.args.state s.args.states.now s.args.luts.now (picture s
 
 -- a place of the code is found by its type: where the code starts, from the lengths
 abbrev start : After-shared_slice_known-4-1 → Start
-start c = search
+start c = c.before.before.before.before.before.before.before.before.before
 
 -- and the test of the refusal, from the call that an accepted command makes
 abbrev passing : After-take_command-arg-then-is_accepted-4-1 → Then-is_accepted
-passing c = search
+passing c = c.before.before.before.before.before.before
 
 pub take_command-state-requires : goal.take_command-state-requires
 take_command-state-requires c =
@@ -37,7 +37,7 @@ take_command-state-requires c =
 pub returns-then-is_accepted : goal.returns-then-is_accepted
 returns-then-is_accepted c =
     let left : After-take_command-state = search in
-    let passed = passing left.before in
+    let passed = passing left in
     let tested = passed.before in
     let checked = tested.before in
     let lengths = checked.before in
@@ -52,10 +52,10 @@ returns-then-is_accepted c =
 
 pub returns : goal.returns
 returns c =
-    let tested = c.before.before in
-    let checked = tested.before in
-    let lengths = checked.before in
-    let s = start lengths.before in
+    let tested = c in
+    let checked = tested in
+    let lengths = checked in
+    let s = start lengths in
     command_refused (kept s) s.args.time s.args.command (given s) _ _ _
     lengths.all_lent-lengths.ensures
     checked.check_with_table-refusal.ensures

@@ -4,5 +4,5 @@ use Rattle.moment.proofs.is_quiet.Goals as goal
 
 pub returns : goal.returns
 returns c =
-    let s = c.before in
+    let s = c in
     quiet_or_not s.args.running s.args.ends s.args.busy_until s.args.moment _ c.has_come-falls.ensures

@@ -4,5 +4,5 @@ use Rattle.otp.proofs.bad_entry.Goals as goal
 
 pub returns : goal.returns
 returns c =
-    let s = c.before.before.before.before.before.before in
+    let s = c in
     bad_is s.args.otp.now s.args.entry _ _ c.pair-lower.ensures c.pair-upper.ensures

@@ -4,12 +4,12 @@ use Rattle.otp.proofs.covers_register.Goals as goal
 
 pub returns : goal.returns
 returns c =
-    let a = c.before.before in
-    let b = a.before in
-    let d = b.before in
-    let e = d.before in
-    let f = e.before in
-    let g = f.before in
-    let s = g.before.before in
+    let a = c in
+    let b = a in
+    let d = b in
+    let e = d in
+    let f = e in
+    let g = f in
+    let s = g in
     covers_is s.args.otp.now s.args.entry s.args.mode s.args.register _ _ _ _ _ _ g.mode_number-byte.ensures f.pair.ensures d.pair-2.ensures
     e.reaches_down-reached.ensures b.sixteenths_of-upper.type_inv b.sixteenths_of-upper.ensures a.sixteenths_of-temperature.type_inv a.sixteenths_of-temperature.ensures

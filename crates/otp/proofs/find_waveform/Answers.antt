@@ -11,24 +11,24 @@ use Rattle.otp.proofs.find_waveform.Goals as goal
 
 pub returns-in_default : goal.returns-in_default
 returns-in_default c =
-    let s = c.before.before.before.before.before.before in
+    let s = c in
     let e = sym c.in_default.is ∙ c.find_entry.ensures in
     (ap (part_of s.args.otp.now) e, ap place_of e)
 
 -- what `find_entry` found
 told : (c : In-At)
-    → let s = c.before.before.before.before.before.before in found_entry s.args.otp.now s.args.mode s.args.register ≡ At c.in-At.entry
+    → let s = c in found_entry s.args.otp.now s.args.mode s.args.register ≡ At c.in-At.entry
 told c = sym c.find_entry.ensures ∙ c.in-At.is
 
 -- the entry found is one of the table's
 within : (c : In-At) → c.in-At.entry < entry_count c.args.otp.now
 within c =
-    let s = c.before.before.before.before.before.before in
+    let s = c in
     (found_is s.args.otp.now s.args.mode s.args.register _ (told c)).within
 
 pub overflow_cast-place : goal.overflow_cast-place
 overflow_cast-place c =
-    let s = c.before.before.before.before.before.before in
+    let s = c in
     let few = found_few s.args.otp.now s.args.mode s.args.register _ (told c) in
     omega arith
 
@@ -43,7 +43,7 @@ slice_bounds-result-end-2 c = let h = within c in omega arith
 
 pub returns : goal.returns
 returns c =
-    let s = c.before.before.before.before.before.before.before in
+    let s = c in
     let entry = c.in-At.entry in
     let e : 118 * entry + 118 - 118 * entry ≡ 118 = omega arith in
-    (rw e (ap (part_of s.args.otp.now) (sym (told c.before.before))), ap place_of (sym (told c.before.before)))
+    (rw e (ap (part_of s.args.otp.now) (sym (told c))), ap place_of (sym (told c)))

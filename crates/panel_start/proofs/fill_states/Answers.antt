@@ -32,5 +32,5 @@ shape_of-states c = c.loop-i.invariant.0.long
 
 pub returns : goal.returns
 returns c =
-    let s = c.before.before in
+    let s = c in
     painted_all c.loop-i.invariant.0 (omega arith) ∙ ap (λ (z : ℤ). tab (length s.args.states.now) (λ _. z)) (back s.ranges.state)

@@ -17,13 +17,13 @@ gray-gray-requires c =
 
 pub returns : goal.returns
 returns c =
-    let pixels = c.before.before.before in
-    let counts = pixels.before.before.before.before in
-    let luts = counts.before.before.before.before in
-    let states = luts.before.before.before in
-    let told = states.before in
-    let gray = told.before.before in
-    let made = gray.before.before.before in
+    let pixels = c in
+    let counts = pixels in
+    let luts = counts in
+    let states = luts in
+    let told = states in
+    let gray = told in
+    let made = gray in
     let p = made.at_power_on-panel.result in
     filled _ _ _ _ _ p (rd p.border) (rd p.swing) _ _ _ _ _
     made.at_power_on-panel.ensures

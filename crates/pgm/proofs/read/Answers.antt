@@ -10,16 +10,16 @@ use Rattle.pgm.proofs.read.Goals as goal
 
 pub returns-then-not-fine : goal.returns-then-not-fine
 returns-then-not-fine c =
-    let fine = c.before.before in
-    let test = fine.before in
+    let fine = c in
+    let test = fine in
     let size = test.size_in-size in
     let s = test.args in
     read_71 s.file.now s.out.now size.ensures (sym test.is_header-fine.ensures ∙ not-true _ fine.if-not-fine.true) c.not_read.ensures
 
 pub overflow_sub-found : goal.overflow_sub-found
 overflow_sub-found c =
-    let fine = c.before.before in
-    let test = fine.before in
+    let fine = c in
+    let test = fine in
     let size = test.size_in-size in
     let s = test.args in
     let found = sym test.is_header-fine.ensures ∙ not-false _ fine.if-not-fine.false in
@@ -27,8 +27,8 @@ overflow_sub-found c =
 
 pub overflow_mul-count : goal.overflow_mul-count
 overflow_mul-count c =
-    let fine = c.before.before in
-    let test = fine.before in
+    let fine = c in
+    let test = fine in
     let size = test.size_in-size in
     let s = test.args in
     let found = sym test.is_header-fine.ensures ∙ not-false _ fine.if-not-fine.false in
@@ -38,9 +38,9 @@ overflow_mul-count c =
 
 pub returns-then-found-count : goal.returns-then-found-count
 returns-then-found-count c =
-    let count = c.before.before.before in
-    let fine = count.before in
-    let test = fine.before in
+    let count = c in
+    let fine = count in
+    let test = fine in
     let size = test.size_in-size in
     let s = test.args in
     let found = sym test.is_header-fine.ensures ∙ not-false _ fine.if-not-fine.false in
@@ -48,9 +48,9 @@ returns-then-found-count c =
 
 pub returns-then-out-count : goal.returns-then-out-count
 returns-then-out-count c =
-    let count = c.before.before.before.before in
-    let fine = count.before in
-    let test = fine.before in
+    let count = c in
+    let fine = count in
+    let test = fine in
     let size = test.size_in-size in
     let s = test.args in
     let found = sym test.is_header-fine.ensures ∙ not-false _ fine.if-not-fine.false in
@@ -58,9 +58,9 @@ returns-then-out-count c =
 
 pub slice_bounds-copy-count : goal.slice_bounds-copy-count
 slice_bounds-copy-count c =
-    let count = c.before.before.before in
-    let fine = count.before in
-    let test = fine.before in
+    let count = c in
+    let fine = count in
+    let test = fine in
     let size = test.size_in-size in
     let s = test.args in
     let found = sym test.is_header-fine.ensures ∙ not-false _ fine.if-not-fine.false in
@@ -68,9 +68,9 @@ slice_bounds-copy-count c =
 
 pub slice_bounds-copy-start : goal.slice_bounds-copy-start
 slice_bounds-copy-start c =
-    let count = c.before.before.before in
-    let fine = count.before in
-    let test = fine.before in
+    let count = c in
+    let fine = count in
+    let test = fine in
     let size = test.size_in-size in
     let s = test.args in
     let found = sym test.is_header-fine.ensures ∙ not-false _ fine.if-not-fine.false in
@@ -78,11 +78,11 @@ slice_bounds-copy-start c =
 
 pub returns : goal.returns
 returns c =
-    let copy = c.before.before.before in
-    let full = copy.before.before.before.before in
-    let count = full.before in
-    let fine = count.before in
-    let test = fine.before in
+    let copy = c in
+    let full = copy in
+    let count = full in
+    let fine = count in
+    let test = fine in
     let size = test.size_in-size in
     let s = test.args in
     let found = sym test.is_header-fine.ensures ∙ not-false _ fine.if-not-fine.false in

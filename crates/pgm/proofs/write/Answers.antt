@@ -10,40 +10,40 @@ use Rattle.pgm.proofs.write.Goals as goal
 
 pub returns-then-not-fine : goal.returns-then-not-fine
 returns-then-not-fine c =
-    let fine = c.before.before in
-    let test = fine.before in
+    let fine = c in
+    let test = fine in
     let s = test.args in let whole = write_answered s.width s.height s.pixels.now s.out.now
     (write_71 s.width s.height s.pixels.now s.out.now (sym test.in_range-fine.ensures ∙ not-true _ fine.if-not-fine.true) c.not_written.ensures) in record { file = whole.0; within = whole.1 }
 
 pub overflow_mul-count : goal.overflow_mul-count
 overflow_mul-count c =
-    let test = c.before.before in
+    let test = c in
     let s = test.args in
     omega (arith, most s.width s.height (sym test.in_range-fine.ensures ∙ not-false _ c.if-not-fine.false))
 
 pub returns-then-pixels-count : goal.returns-then-pixels-count
 returns-then-pixels-count c =
-    let fine = c.before.before.before in
-    let test = fine.before in
+    let fine = c in
+    let test = fine in
     let s = test.args in
     let ranged = sym test.in_range-fine.ensures ∙ not-false _ fine.if-not-fine.false in let whole = write_answered s.width s.height s.pixels.now s.out.now (write_72 s.width s.height s.pixels.now s.out.now ranged (λ e. omega arith) c.not_written-then-pixels-count.ensures) in record { file = whole.0; within = whole.1 }
 
 pub returns-then-out-length : goal.returns-then-out-length
 returns-then-out-length c =
-    let count = c.before.before.before in
-    let fine = count.before.before in
-    let test = fine.before in
+    let count = c in
+    let fine = count in
+    let test = fine in
     let s = test.args in
     let ranged = sym test.in_range-fine.ensures ∙ not-false _ fine.if-not-fine.false in let whole = write_answered s.width s.height s.pixels.now s.out.now
     (write_73 s.width s.height s.pixels.now s.out.now ranged (omega arith) (omega (arith, count.byte_count-start.ensures.count)) c.not_written-then-out-length.ensures) in record { file = whole.0; within = whole.1 }
 
 pub returns : goal.returns
 returns c =
-    let copy = c.before.before.before in
-    let put = copy.before.before.before.before in
-    let count = put.before.before.before in
-    let fine = count.before.before in
-    let test = fine.before in
+    let copy = c in
+    let put = copy in
+    let count = put in
+    let fine = count in
+    let test = fine in
     let s = test.args in
     let ranged = sym test.in_range-fine.ensures ∙ not-false _ fine.if-not-fine.false in
     let start = count.byte_count-start in let whole = write_answered s.width s.height s.pixels.now s.out.now

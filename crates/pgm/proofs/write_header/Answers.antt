@@ -7,24 +7,24 @@ use Rattle.pgm.proofs.write_header.Goals as goal
 
 pub returns-then-not-fine : goal.returns-then-not-fine
 returns-then-not-fine c =
-    let fine = c.before.before in
-    let test = fine.before in
+    let fine = c in
+    let test = fine in
     let s = test.args in let whole = header_answered s.width s.height s.out.now (header_71 s.width s.height s.out.now (sym test.in_range-fine.ensures ∙ not-true _ fine.if-not-fine.true) c.not_written.ensures) in record { header = whole.0; within = whole.1 }
 
 pub returns-then-out-length : goal.returns-then-out-length
 returns-then-out-length c =
-    let count = c.before.before.before in
-    let fine = count.before in
-    let test = fine.before in
+    let count = c in
+    let fine = count in
+    let test = fine in
     let s = test.args in
     let ranged = sym test.in_range-fine.ensures ∙ not-false _ fine.if-not-fine.false in let whole = header_answered s.width s.height s.out.now (header_73 s.width s.height s.out.now ranged (omega (arith, count.byte_count-length.ensures.count)) c.not_written-then-out-length.ensures) in record { header = whole.0; within = whole.1 }
 
 pub returns : goal.returns
 returns c =
-    let put = c.before.before.before in
-    let count = put.before.before.before in
-    let fine = count.before in
-    let test = fine.before in
+    let put = c in
+    let count = put in
+    let fine = count in
+    let test = fine in
     let s = test.args in
     let ranged = sym test.in_range-fine.ensures ∙ not-false _ fine.if-not-fine.false in let whole = header_answered s.width s.height s.out.now
     (header_written_is s.width s.height s.out.now ranged (omega (arith, count.byte_count-length.ensures.count)) count.byte_count-length.ensures.count put.put.ensures) in record { header = whole.0; within = whole.1 }

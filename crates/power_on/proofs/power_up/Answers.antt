@@ -6,7 +6,7 @@ use Rattle.power_on.proofs.power_up.Goals.{After-clear, After-gate_of_row, After
 use Rattle.power_on.proofs.power_up.Goals as goal
 
 abbrev start_of : After-new-panel → Start
-start_of c = c.before.before.before.before.before.before.before.before.before.before.before.before.before
+start_of c = c.before.before.before.before.before.before.before.before.before.before.before.before.before.before.before
 
 abbrev made_of : After-clear → After-new-panel
 made_of c = c.before.before.before.before.before.before.before.before.before.before.before.before

@@ -5,10 +5,10 @@ use Rattle.replay.proofs.each.Goals as goal
 
 pub loop-i-smaller : goal.loop-i-smaller
 loop-i-smaller c =
-    let end = c.before.before.before.before.before.before.before.before.before.before.before.before.before.before.before in
+    let end = c in
     omega (arith, end.part_end-end.ensures.0, end.part_end-end.ensures.1)
 
 pub loop-i-preserved : goal.loop-i-preserved
 loop-i-preserved c =
-    let end = c.before.before.before.before.before.before.before.before.before.before.before.before.before.before.before in
+    let end = c in
     end.part_end-end.ensures.1

@@ -6,7 +6,7 @@ use Rattle.reset.proofs.assert_reset.Goals as goal
 
 pub cut_display-stopped-requires : goal.cut_display-stopped-requires
 cut_display-stopped-requires c =
-    let s = c.before.before.before.before.before.before.before.before.before.before.before.before.before in
+    let s = c in
     (ready_closed s.args.states.now s.args.luts.now s.args.pixels.now s.args.counts.now _ _ c.close_command-ended.ensures s.requires.0, c.close_command-ended.auto.log ∙ s.requires.1)
 
 pub shape_of-log : goal.shape_of-log

@@ -7,5 +7,5 @@ use Rattle.scan.proofs.bit_in_row.Goals as goal
 pub returns : goal.returns
 unfolding bit_of
 returns c =
-    let s = c.before.before in
+    let s = c in
     rw (bit_there s.args.plane.now s.args.source s.args.row s.requires.whole s.requires.driven s.requires.in_ram, and_mask _ 1)

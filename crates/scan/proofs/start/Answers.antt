@@ -24,7 +24,7 @@ source_of-source-requires c = omega arith
 
 pub lut_in_row-requires : goal.lut_in_row-requires
 lut_in_row-requires c =
-    let s = c.before.before.before.before.before.before.before.before.before.before.before.before.before.before.before in
+    let s = c in
     let x = c.loop-x.x in
     let row = c.ram_row_of_gate-row.ensures in record { whole_red = s.requires.whole_red; whole_black_white = s.requires.whole_black_white; in_ram = subst (λ r. row_or r 0 < 680) (sym row) (row_in_ram _ _ _); driven = omega (arith, c.source_of-source.ensures, source_lt s.args.geometry x c.loop-x-test.true s.requires.driven) }
 
@@ -49,7 +49,7 @@ loop-x-smaller c = omega arith
 
 pub loop-x-preserved : goal.loop-x-preserved
 loop-x-preserved c =
-    let s = c.before.before.before.before.before.before.before.before.before.before.before.before.before.before.before.before in
+    let s = c in
     let y = c.loop-y.y in
     let x = c.loop-x.x in
     let right = c.loop-x-test.true in (
@@ -69,7 +69,7 @@ loop-y-smaller c = omega arith
 
 pub loop-y-preserved : goal.loop-y-preserved
 loop-y-preserved c =
-    let s = c.before.before.before.before.before.before.before.before.before.before.before.before.before.before in
+    let s = c in
     let y = c.loop-y.y in
     (painted_on c.loop-y.invariant.0 c.loop-x.invariant.0 (omega arith) (omega (arith, add-mul y 1 s.args.geometry.width)), omega arith)
 
@@ -78,5 +78,5 @@ shape_of-luts c = c.loop-y.invariant.0.long
 
 pub returns : goal.returns
 returns c =
-    let s = c.before.before.before.before.before.before.before.before.before.before in
+    let s = c in
     painted_all c.loop-y.invariant.0 (omega (arith, mul-le-mul_right s.args.geometry.width c.loop-y-test.false, s.requires.pixels))

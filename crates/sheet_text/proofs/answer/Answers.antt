@@ -41,14 +41,14 @@ returns-then-out-lt-SETTING_BYTES c =
 
 pub returns-then-drawing-eq0 : goal.returns-then-drawing-eq0
 returns-then-drawing-eq0 c =
-    let put = c.before.before.before in
-    let test = put.before.before.before in
-    let read = test.before.before in
+    let put = c in
+    let test = put in
+    let read = test in
     let s = read.args in record { text = roomy s.text.now s.out.now (setting_text read.read-drawing.result.sheet) (omega arith) put.put_setting.ensures.text (good s.text.now read.read-drawing.result read.read-drawing.ensures test.if-drawing-eq0.true); within = omega (arith, put.put_setting.ensures.end) }
 
 pub returns : goal.returns
 returns c =
-    let put = c.before.before.before in
-    let test = put.before.before in
-    let read = test.before.before in
+    let put = c in
+    let test = put in
+    let read = test in
     let s = read.args in record { text = roomy s.text.now s.out.now (bad_line_text read.read-drawing.result.bad_line) (omega arith) put.put_bad_line.ensures.text (bad s.text.now read.read-drawing.result read.read-drawing.ensures test.if-drawing-eq0.false); within = omega (arith, put.put_bad_line.ensures.end) }

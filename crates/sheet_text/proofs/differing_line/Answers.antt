@@ -29,13 +29,13 @@ bounds-text-i c = omega (arith, c.min_u64-end.ensures)
 
 pub bounds-written-i : goal.bounds-written-i
 bounds-written-i c =
-    let m = c.before.before.before.before.before in
+    let m = c in
     omega (arith, m.min_u64-end.ensures, m.requires)
 
 pub returns-then-byte-written : goal.returns-then-byte-written
 returns-then-byte-written c =
-    let l = c.before.before.before.before.before in
-    let m = l.before in
+    let l = c in
+    let m = l in
     let s = m.args in
     let long = m.requires in
     stops s.text.now s.written.now l.loop-i.line l.loop-i.i (omega (arith, m.min_u64-end.ensures, long)) (omega (arith, m.min_u64-end.ensures, long)) c.if-byte-written.true
@@ -52,9 +52,9 @@ loop-i-smaller c = omega arith
 
 pub loop-i-preserved : goal.loop-i-preserved
 loop-i-preserved c =
-    let same = c.before.before in
-    let l = same.before.before.before.before in
-    let m = l.before in
+    let same = c in
+    let l = same in
+    let m = l in
     let s = m.args in
     let long = m.requires in
     let byte = get_or s.text.now l.loop-i.i 0 in (
@@ -67,16 +67,16 @@ loop-i-preserved c =
 
 pub returns-then-text-eq-TEXT_BYTES : goal.returns-then-text-eq-TEXT_BYTES
 returns-then-text-eq-TEXT_BYTES c =
-    let l = c.before.before.before in
-    let m = l.before in
+    let l = c in
+    let m = l in
     let s = m.args in
     let long = m.requires in
     ends s.text.now s.written.now l.loop-i.line l.loop-i.i (omega (arith, m.min_u64-end.ensures, long)) (omega (arith, m.min_u64-end.ensures, long)) ∙ sym l.loop-i.invariant.0
 
 pub returns : goal.returns
 returns c =
-    let l = c.before.before.before in
-    let m = l.before in
+    let l = c in
+    let m = l in
     let s = m.args in
     let long = m.requires in
     one_ends s.text.now s.written.now l.loop-i.line l.loop-i.i (omega (arith, m.min_u64-end.ensures, long)) (omega (arith, m.min_u64-end.ensures, long))

@@ -25,5 +25,5 @@ returns-then-out-lt-TEXT_BYTES c =
 
 pub returns : goal.returns
 returns c =
-    let put = c.before.before.before in
+    let put = c in
     let s = put.args in record { text = roomy s.sheet s.out.now (omega arith) put.put_sheet.ensures.text; within = omega (arith, put.put_sheet.ensures.end) }

@@ -21,27 +21,27 @@ digits_few n = by (ltb n 10)
 
 pub put-second-requires : goal.put-second-requires
 put-second-requires c =
-    let text = c.before.before.before in
-    let digits = text.before.before.before in
-    let s = digits.before.before in
+    let text = c in
+    let digits = text in
+    let s = digits in
     let few = digits_few s.args.line in record { narrow = omega (arith, digits.digits-width.ensures, few); room = omega (arith, s.requires, text.put_text-first.ensures.end, digits.digits-width.ensures, few) }
 
 pub put_line_end-requires : goal.put_line_end-requires
 put_line_end-requires c =
-    let put = c.before.before.before in
-    let text = put.before.before.before.before in
-    let digits = text.before.before.before in
-    let s = digits.before.before in
+    let put = c in
+    let text = put in
+    let digits = text in
+    let s = digits in
     omega (arith, s.requires, text.put_text-first.ensures.end, put.put-second.ensures.end, digits.digits-width.ensures, digits_few s.args.line)
 
 pub returns : goal.returns
 unfolding bad_line_text
 returns c =
-    let end = c.before.before.before in
-    let put = end.before.before.before.before in
-    let text = put.before.before.before.before in
-    let digits = text.before.before.before in
-    let s = digits.before.before in
+    let end = c in
+    let put = end in
+    let text = put in
+    let digits = text in
+    let s = digits in
     let d = s.args.out.now in
     let room : 0 ≤ length d = omega arith in
     let number = put.put-second.ensures.text ∙ ap (λ (w : ℕ). appended (buffer text.put_text-first.result text.put_text-first.new.out) (natural w s.args.line)) digits.digits-width.ensures in record { text = after 0 d _ _ room (after 0 d _ _ room text.put_text-first.ensures.text number) end.put_line_end.ensures.text; end = omega (arith, text.put_text-first.ensures.end, put.put-second.ensures.end, end.put_line_end.ensures.end, digits.digits-width.ensures, digits_few s.args.line) }

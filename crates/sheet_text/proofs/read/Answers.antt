@@ -10,8 +10,8 @@ use Rattle.sheet_text.proofs.read.Goals as goal
 pub returns : goal.returns
 unfolding drawing_of
 returns c =
-    let put = c.before.before.before.before in
-    let sheet = put.before.before in
+    let put = c in
+    let sheet = put in
     let text = sheet.args.text.now in
     let e = sheet.sheet_in-sheet.ensures in
     let written = filled (sheet_text sheet.sheet_in-sheet.result) (replicate 580 0) put.put_sheet.new.out put.put_sheet.result put.put_sheet.ensures.text put.put_sheet.ensures.end in

@@ -15,28 +15,28 @@ said o d text e f = e ∙ ap (appended (buffer 0 d)) f
 pub returns-in-Within : goal.returns-in-Within
 unfolding shift_text shift_answer
 returns-in-Within c =
-    let l = c.before.before.before in
-    let b = l.before.before.before in
-    let s = b.before.before.before in record { text = said s.args.bounded s.args.out.now _ l.put_lines.ensures.text (rw b.in-Within.is); end = l.put_lines.ensures.end }
+    let l = c in
+    let b = l in
+    let s = b in record { text = said s.args.bounded s.args.out.now _ l.put_lines.ensures.text (rw b.in-Within.is); end = l.put_lines.ensures.end }
 
 pub returns-in-Refused : goal.returns-in-Refused
 unfolding shift_text shift_answer
 returns-in-Refused c =
-    let l = c.before.before.before in
-    let n = l.before in
-    let b = n.before.before.before in
-    let s = b.before.before.before in record { text = said s.args.bounded s.args.out.now _ l.put_number.ensures.text (ap number_line n.number_of.ensures ∙ rw b.in-Refused.is); end = l.put_number.ensures.end }
+    let l = c in
+    let n = l in
+    let b = n in
+    let s = b in record { text = said s.args.bounded s.args.out.now _ l.put_number.ensures.text (ap number_line n.number_of.ensures ∙ rw b.in-Refused.is); end = l.put_number.ensures.end }
 
 pub returns-in-NotASetting : goal.returns-in-NotASetting
 unfolding shift_text shift_answer
 returns-in-NotASetting c =
-    let l = c.before.before.before in
-    let e = l.before.before in
-    let s = e.before.before.before in record { text = said s.args.bounded s.args.out.now _ l.put_number-in-NotASetting.ensures.text (rw e.in-NotASetting.is); end = l.put_number-in-NotASetting.ensures.end }
+    let l = c in
+    let e = l in
+    let s = e in record { text = said s.args.bounded s.args.out.now _ l.put_number-in-NotASetting.ensures.text (rw e.in-NotASetting.is); end = l.put_number-in-NotASetting.ensures.end }
 
 pub returns-in-UnlistedCode : goal.returns-in-UnlistedCode
 unfolding shift_text shift_answer
 returns-in-UnlistedCode c =
-    let l = c.before.before.before in
-    let e = l.before.before in
-    let s = e.before.before.before in record { text = said s.args.bounded s.args.out.now _ l.put_number-in-UnlistedCode.ensures.text (rw e.in-UnlistedCode.is); end = l.put_number-in-UnlistedCode.ensures.end }
+    let l = c in
+    let e = l in
+    let s = e in record { text = said s.args.bounded s.args.out.now _ l.put_number-in-UnlistedCode.ensures.text (rw e.in-UnlistedCode.is); end = l.put_number-in-UnlistedCode.ensures.end }

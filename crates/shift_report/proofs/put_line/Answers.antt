@@ -11,11 +11,11 @@ use Rattle.shift_report.proofs.put_line.Goals as goal
 pub returns : goal.returns
 unfolding shift_line
 returns c =
-    let end = c.before.before.before in
-    let third = end.before.before.before.before in
-    let second = third.before.before.before.before in
-    let first = second.before.before.before.before in
-    let s = first.before.before.before.before in
+    let end = c in
+    let third = end in
+    let second = third in
+    let first = second in
+    let s = first in
     let at = s.args.at in
     let d = s.args.out.now in
     let room : at ≤ length d = omega (arith, s.requires) in

@@ -25,7 +25,7 @@ returns-then-out-lt-ROOM c =
 
 pub returns : goal.returns
 returns c =
-    let put = c.before.before.before in
-    let b = put.before.before in
+    let put = c in
+    let b = put in
     let s = b.args in
     let a = bounds_of s.optics s.frame_period s.setting.now s.driving s.before s.after in record { text = roomy s.out.now a (omega arith) put.put.ensures.text b.bounds-bounded.ensures; within = omega (arith, put.put.ensures.end) }

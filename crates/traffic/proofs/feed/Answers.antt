@@ -24,7 +24,7 @@ given s =
 
 pub loop-i-init : goal.loop-i-init
 loop-i-init c =
-    let s = c.before.before.before.before.before.before.before.before.before.before.before.before.before.before in
+    let s = c in
     let n = c.shorter-count.result in
     let all : n - 0 ≡ n = omega arith in
     (ap (λ (k : ℕ). feeding (step s) k 0 (given s)) all, search rules)
@@ -58,8 +58,8 @@ shape_of-log-then-not-is_accepted c = c.turn-fed.auto.log ∙ c.loop-i.invariant
 
 pub returns-then-not-is_accepted : goal.returns-then-not-is_accepted
 returns-then-not-is_accepted c =
-    let m = c.before.before.before.before.before.before.before.before.before.before.before.before.before.before.before.before.before.before.before.before.before.before.before.before.before in
-    let s = m.before.before.before.before.before.before.before.before.before.before.before.before.before.before in
+    let m = c in
+    let s = m in
     let n = m.shorter-count.result in
     let t = c.turn-fed in
     let f = t.result in
@@ -75,8 +75,8 @@ loop-i-smaller c =
 
 pub loop-i-preserved : goal.loop-i-preserved
 loop-i-preserved c =
-    let m = c.before.before.before.before.before.before.before.before.before.before.before.before.before.before.before.before.before.before.before.before.before.before.before.before.before.before in
-    let s = m.before.before.before.before.before.before.before.before.before.before.before.before.before.before in
+    let m = c in
+    let s = m in
     let n = m.shorter-count.result in
     let t = c.turn-fed in
     let f = t.result in
@@ -117,8 +117,8 @@ shape_of-log c = c.loop-i.invariant.1.6
 
 pub returns : goal.returns
 returns c =
-    let m = c.before.before in
-    let s = m.before.before.before.before.before.before.before.before.before.before.before.before.before.before in
+    let m = c in
+    let s = m in
     let w = world m.loop-i.next m.loop-i.states m.loop-i.luts (picture m.loop-i.pixels m.loop-i.counts) m.loop-i.black_white m.loop-i.red s.args.gates.now m.loop-i.log in
     let n = m.shorter-count.result in
     let none : n - m.loop-i.i ≡ 0 = omega (arith, c.loop-i-test.false) in

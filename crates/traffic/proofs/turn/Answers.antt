@@ -7,7 +7,7 @@ use Rattle.traffic.proofs.turn.Goals as goal
 
 pub one-requires : goal.one-requires
 one-requires c =
-    let s = c.before.before.before.before.before.before.before.before.before.before.before.before.before.before.before.before.before.before.before.before.before.before.before.before.before.before.before.before in
+    let s = c in
     (omega (arith, c.stream-run.ensures.from_le_made.1), s.requires.1, s.requires.2, s.requires.3)
 
 pub shape_of-black_white : goal.shape_of-black_white
@@ -19,6 +19,6 @@ shape_of-red c = c.one.auto.red ∙ c.stream-run.auto.red
 pub returns : goal.returns
 unfolding EndsAlike
 returns c =
-    let s = c.before.before.before.before.before.before.before.before.before.before.before.before.before.before.before.before.before.before.before.before.before.before.before.before.before.before.before.before.before.before.before.before.before.before.before.before.before.before.before.before.before.before in
+    let s = c in
     let k = c.stream-run.ensures in
     let o = c.one.ensures in record { from_lt_made = λ h. let m = o.made_value h in (omega (arith, m, k.from_le_made.0, s.requires.0), omega (arith, m)); log_after = o.log_after ∙ k.ends_alike s.args.gates.now s.args.otp.now s.args.luts.now (picture s.args.pixels.now s.args.counts.now) s.args.log.now s.args.states.now c.planes_log_lent-lengths.ensures }

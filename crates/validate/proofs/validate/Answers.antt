@@ -19,9 +19,9 @@ rest o = table_test o ∷ voltages_test o ∷ []
 
 pub returns-then-is_accepted-2 : goal.returns-then-is_accepted-2
 returns-then-is_accepted-2 c =
-    let d = c.before.before.before.before in
-    let e = d.before.before.before in
-    let s = e.before.before in
+    let d = c in
+    let e = d in
+    let s = e in
     let g = s.args.config in
     let o = s.args.otp.now in
     goes_on (config_tests g) (rest o) _ _ e.config_error-parameters.ensures (sym d.is_accepted.ensures ∙ d.if-is_accepted.true)
@@ -29,9 +29,9 @@ returns-then-is_accepted-2 c =
 
 pub returns-then-is_accepted : goal.returns-then-is_accepted
 returns-then-is_accepted c =
-    let d = c.before.before.before in
-    let e = d.before.before.before in
-    let s = e.before.before in
+    let d = c in
+    let e = d in
+    let s = e in
     let g = s.args.config in
     let o = s.args.otp.now in
     goes_on (config_tests g) (rest o) _ _ e.config_error-parameters.ensures (sym d.is_accepted.ensures ∙ d.if-is_accepted.true)
@@ -39,6 +39,6 @@ returns-then-is_accepted c =
 
 pub returns : goal.returns
 returns c =
-    let e = c.before.before.before in
-    let s = e.before.before in
+    let e = c in
+    let s = e in
     stops (config_tests s.args.config) (rest s.args.otp.now) _ e.config_error-parameters.ensures (sym c.is_accepted.ensures ∙ c.if-is_accepted.false)

@@ -33,14 +33,14 @@ some_swing o a e h = by (eqb o.full_swing 0) refl (sym (ap is_accepted e) ∙ h)
 
 pub setting_bounds-requires : goal.setting_bounds-requires
 setting_bounds-requires c =
-    let w = c.before.before.before.before.before.before in
+    let w = c in
     some_swing w.args.optics _ w.swing_error-swing.ensures (sym c.is_accepted.ensures ∙ c.if-is_accepted.true)
 
 pub returns-then-is_accepted-2 : goal.returns-then-is_accepted-2
 unfolding bounds_of
 returns-then-is_accepted-2 c =
-    let p = c.before.before.before.before in
-    let w = p.before.before.before in
+    let p = c in
+    let w = p in
     let a = w.args in
     let r = setting_tests a.setting.now a.driving a.before a.after in
     passes (first_of r) _ (shifts_for a.optics a.frame_period a.setting.now a.driving a.before a.after) c.setting_bounds.ensures
@@ -50,8 +50,8 @@ returns-then-is_accepted-2 c =
 pub returns-then-is_accepted : goal.returns-then-is_accepted
 unfolding bounds_of shift_answer
 returns-then-is_accepted c =
-    let p = c.before.before.before in
-    let w = p.before.before.before in
+    let p = c in
+    let w = p in
     let a = w.args in
     let r = setting_tests a.setting.now a.driving a.before a.after in
     let no = sym c.is_accepted-then-is_accepted.ensures ∙ c.if-is_accepted-2.false in
@@ -62,7 +62,7 @@ returns-then-is_accepted c =
 pub returns : goal.returns
 unfolding bounds_of shift_answer
 returns c =
-    let w = c.before.before.before in
+    let w = c in
     let a = w.args in
     let r = setting_tests a.setting.now a.driving a.before a.after in
     let no = sym c.is_accepted.ensures ∙ c.if-is_accepted.false in

@@ -15,9 +15,9 @@ listed v code z e = (e, subst Listable (sym e) (driving_listable v code))
 pub returns-in-Listed : goal.returns-in-Listed
 returns-in-Listed c =
     let m = c.millivolts-1 in
-    let d = c.before.before.before in let whole = listed d.args.driving d.args.code _
+    let d = c in let whole = listed d.args.driving d.args.code _
     (field_back m.given.0.0 c.in-Listed.known_told-1-own.given.0.1 ∙ sym (ap or_zero m.given.1) ∙ ap or_zero d.driving_millivolts.ensures.is) in record { is = whole.0; range = whole.1 }
 
 pub returns-in-Unlisted : goal.returns-in-Unlisted
 returns-in-Unlisted c =
-    let d = c.before.before in let whole = listed d.args.driving d.args.code _ (sym (ap or_zero c.in-Unlisted.is) ∙ ap or_zero d.driving_millivolts.ensures.is) in record { is = whole.0; range = whole.1 }
+    let d = c in let whole = listed d.args.driving d.args.code _ (sym (ap or_zero c.in-Unlisted.is) ∙ ap or_zero d.driving_millivolts.ensures.is) in record { is = whole.0; range = whole.1 }

@@ -12,10 +12,10 @@ listed : (v : DrivingVoltage) (code : ℕ) {r : Millivolts} → r ≡ driving_mi
 listed v code e = (e, subst (λ (m : Millivolts). Listable (or_zero m)) (sym e) (driving_listable v code))
 
 pub returns-in-Vsh1 : goal.returns-in-Vsh1
-returns-in-Vsh1 c = let s = c.before.before.before in let whole = listed s.args.driving s.args.code (c.source_millivolts.ensures ∙ rw c.in-Vsh1.is) in record { is = whole.0; range = whole.1 }
+returns-in-Vsh1 c = let s = c in let whole = listed s.args.driving s.args.code (c.source_millivolts.ensures ∙ rw c.in-Vsh1.is) in record { is = whole.0; range = whole.1 }
 
 pub returns-in-Vsh2 : goal.returns-in-Vsh2
-returns-in-Vsh2 c = let s = c.before.before.before in let whole = listed s.args.driving s.args.code (c.source_millivolts-in-Vsh2.ensures ∙ rw c.in-Vsh2.is) in record { is = whole.0; range = whole.1 }
+returns-in-Vsh2 c = let s = c in let whole = listed s.args.driving s.args.code (c.source_millivolts-in-Vsh2.ensures ∙ rw c.in-Vsh2.is) in record { is = whole.0; range = whole.1 }
 
 pub returns-in-Vsl : goal.returns-in-Vsl
-returns-in-Vsl c = let s = c.before.before.before in let whole = listed s.args.driving s.args.code (c.vsl_millivolts.ensures ∙ rw c.in-Vsl.is) in record { is = whole.0; range = whole.1 }
+returns-in-Vsl c = let s = c in let whole = listed s.args.driving s.args.code (c.vsl_millivolts.ensures ∙ rw c.in-Vsl.is) in record { is = whole.0; range = whole.1 }

@@ -25,7 +25,7 @@ some n h k = subst (λ (z : ℤ). pos 1 ≤ℤ z) (sym (signed n k)) (le_in (pos
 -- what the calls say of the nearest grey and its level
 module _ (c : After-level) where
   abbrev start : Start
-  start = c.before.before
+  start = c
 
   abbrev n : ℕ
   n = start.args.bound
@@ -48,14 +48,14 @@ gray-gray-requires c = some c.args.swing (omega arith) (omega arith)
 pub level-requires : goal.level-requires
 level-requires c = some c.args.swing (omega arith) (omega arith)
 
-short : (c : Then-level-bound) → S c.before * g c.before / 255 < n c.before
-short c = ltb-true _ _ (sym (test c.before) ∙ c.if-level-bound.true)
+short : (c : Then-level-bound) → S c * g c / 255 < n c
+short c = ltb-true _ _ (sym (test c) ∙ c.if-level-bound.true)
 
 pub overflow_add-result : goal.overflow_add-result
-overflow_add-result c = let l = c.before in record { fits = omega (arith, steps_before (S l) (n l) (g l) (omega arith) (omega arith) (is l) (short c)) }
+overflow_add-result c = let l = c in record { fits = omega (arith, steps_before (S l) (n l) (g l) (omega arith) (omega arith) (is l) (short c)) }
 
 pub returns-then-level-bound : goal.returns-then-level-bound
-returns-then-level-bound c = let l = c.before in steps_next (S l) (n l) (g l) (omega arith) (omega arith) (is l) (short c)
+returns-then-level-bound c = let l = c in steps_next (S l) (n l) (g l) (omega arith) (omega arith) (is l) (short c)
 
 pub returns : goal.returns
-returns c = let l = c.before in steps_here (S l) (n l) (g l) (omega arith) (omega arith) (is l) (ltb-false _ _ (sym (test l) ∙ c.if-level-bound.false))
+returns c = let l = c in steps_here (S l) (n l) (g l) (omega arith) (omega arith) (is l) (ltb-false _ _ (sym (test l) ∙ c.if-level-bound.false))

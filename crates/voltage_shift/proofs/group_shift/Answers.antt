@@ -4,8 +4,8 @@ use Rattle.voltage_shift.proofs.group_shift.Goals as goal
 
 pub returns : goal.returns
 returns c =
-    let m = c.before.before in
-    let f = m.before.before in
+    let m = c in
+    let f = m in
     let a = f.args in
     group_capped a.change a.driving a.group a.lut f.changing_frames-first.ensures.is f.changing_frames-second.ensures.is
     f.changing_frames-third.ensures.is

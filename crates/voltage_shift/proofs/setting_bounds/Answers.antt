@@ -43,8 +43,8 @@ lut_shifts-requires c = (omega (arith, c.swing_of-swing.ensures), omega (arith, 
 pub returns-then-listed : goal.returns-then-listed
 unfolding shift_answer
 returns-then-listed c =
-    let w = c.before.before.before.before in
-    let l = w.before.before.before in
+    let w = c in
+    let l = w in
     let a = l.args in
     ap shifting (c.lut_shifts.ensures ∙ (λ i. lut_shifts (c.swing_of-swing.ensures i) (c.change-millivolts.ensures i) a.driving (w.waveform_of-waveform.ensures i).groups))
     ∙ decided a.setting.now a.driving a.before a.after _ l.is_listed.ensures l.is_listed-2.ensures _ (simp (w.if-listed.true, w.if-whole.true))
@@ -52,13 +52,13 @@ returns-then-listed c =
 pub returns-then-whole : goal.returns-then-whole
 unfolding shift_answer
 returns-then-whole c =
-    let l = c.before.before.before in
+    let l = c in
     let a = l.args in
     decided a.setting.now a.driving a.before a.after _ l.is_listed.ensures l.is_listed-2.ensures _ (simp (c.if-listed.false, c.if-whole.true))
 
 pub returns : goal.returns
 unfolding shift_answer
 returns c =
-    let l = c.before.before in
+    let l = c in
     let a = l.args in
     decided a.setting.now a.driving a.before a.after _ l.is_listed.ensures l.is_listed-2.ensures _ (rw c.if-whole.false)

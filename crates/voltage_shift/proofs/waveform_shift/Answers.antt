@@ -16,7 +16,7 @@ loop-k-init c = (search rules, refl)
 
 pub loop-k-preserved : goal.loop-k-preserved
 unfolding sum
-loop-k-preserved c = let m = c.before.before.before.before in
+loop-k-preserved c = let m = c in
     let a = m.args in
     let f = shiftIn a.change a.driving a.lut a.waveform.groups in (
       omega arith,

@@ -15,10 +15,10 @@ returns-then-progress c = let s = c.args in sym (stopped_stays s.driving s.until
 
 pub returns-then-end-lt18446744073709551615 : goal.returns-then-end-lt18446744073709551615
 returns-then-end-lt18446744073709551615 c =
-    let tested = c.before.before.before in
-    let added = tested.before in
-    let length = added.before in
-    let going = length.before in
+    let tested = c in
+    let added = tested in
+    let length = added in
+    let going = length in
     let s = going.args in
     let ps = group_in s.driving s.group in
     let t = total_group s.driving.levels s.driving.drive s.group in

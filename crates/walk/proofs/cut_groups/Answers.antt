@@ -17,12 +17,12 @@ loop-k-init c = (search rules, fold_none _ _ _)
 
 pub cut_group-moved-requires : goal.cut_group-moved-requires
 cut_group-moved-requires c =
-    let m = c.before.before.before.before in
+    let m = c in
     (m.requires.0 m.loop-k.k (omega arith), m.requires.1)
 
 pub loop-k-preserved : goal.loop-k-preserved
 loop-k-preserved c =
-    let m = c.before.before.before.before in
+    let m = c in
     let s = m.args in
     let step = cut_step s.driving s.until in
     let g = get_or s.waveform.groups m.loop-k.k no_group in (

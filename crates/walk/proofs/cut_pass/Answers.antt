@@ -14,9 +14,9 @@ returns-then-progress c =
 
 pub returns : goal.returns
 returns c =
-    let three = c.before in
-    let two = three.before in
-    let one = two.before in
+    let three = c in
+    let two = three in
+    let one = two in
     let s = one.args in
     let step = cut_step s.driving s.until in
     let a = driven s.first.step.phase in

@@ -28,7 +28,7 @@ returns-then-phase-eq0 c = let s = c.args in ap (foldl (cut_step s.driving s.unt
 
 pub returns-then-until-end : goal.returns-then-until-end
 returns-then-until-end c =
-    let a = c.before.before.before in
+    let a = c in
     let some = a.if-phase-eq0.false in
     let going = a.if-progress.false in
     let s = (start a).args in
@@ -40,7 +40,7 @@ returns-then-until-end c =
 
 pub returns : goal.returns
 returns c =
-    let a = c.before.before in
+    let a = c in
     let some = a.if-phase-eq0.false in
     let going = a.if-progress.false in
     let s = (start a).args in

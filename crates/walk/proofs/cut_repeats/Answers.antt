@@ -30,10 +30,10 @@ loop-k-init c = (omega arith, fold_none _ _ _)
 
 pub cut_pass-moved-requires : goal.cut_pass-moved-requires
 cut_pass-moved-requires c =
-    let fourth = c.before.before.before in
-    let third = fourth.before in
-    let second = third.before in
-    let first = second.before in
+    let fourth = c in
+    let third = fourth in
+    let second = third in
+    let first = second in
     (first.lasting_of-first.ensures.1, second.lasting_of-second.ensures.1, third.lasting_of-third.ensures.1, fourth.lasting_of-fourth.ensures.1)
 
 pub overflow_add-k : goal.overflow_add-k
@@ -41,11 +41,11 @@ overflow_add-k c = omega (arith, c.times-repeats.ensures.1)
 
 pub loop-k-preserved : goal.loop-k-preserved
 loop-k-preserved c =
-    let m = c.before.before in
-    let fourth = m.before.before in
-    let third = fourth.before in
-    let second = third.before in
-    let first = second.before in
+    let m = c in
+    let fourth = m in
+    let third = fourth in
+    let second = third in
+    let first = second in
     let s = first.args in (
       omega arith,
       fold_more (cut_step s.driving s.until) s.progress (λ j. phases_in first.lasting_of-first.result.step.phase second.lasting_of-second.result.step.phase third.lasting_of-third.result.step.phase fourth.lasting_of-fourth.result.step.phase) m.loop-k.k m.loop-k.invariant.1 c.cut_pass-moved.ensures,
@@ -53,10 +53,10 @@ loop-k-preserved c =
 
 pub returns : goal.returns
 returns c =
-    let fourth = c.before.before.before in
-    let third = fourth.before in
-    let second = third.before in
-    let first = second.before in
+    let fourth = c in
+    let third = fourth in
+    let second = third in
+    let first = second in
     let s = first.args in
     let step = cut_step s.driving s.until in
     let e : c.loop-k.k ≡ s.group.repeats = omega (arith, c.times-repeats.ensures.0) in

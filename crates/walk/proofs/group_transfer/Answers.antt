@@ -36,11 +36,11 @@ overflow_add-k c = omega (arith, c.times-repeats.ensures.1)
 
 pub loop-k-preserved : goal.loop-k-preserved
 loop-k-preserved c =
-    let m = c.before.before in
-    let fourth = m.before.before in
-    let third = fourth.before in
-    let second = third.before in
-    let first = second.before in
+    let m = c in
+    let fourth = m in
+    let third = fourth in
+    let second = third in
+    let first = second in
     let a = first.args in (
       omega arith,
       fold_more (whole_step a.driving) a.transfer (λ j. phases_in first.step_of-first.result.phase second.step_of-second.result.phase third.step_of-third.result.phase fourth.step_of-fourth.result.phase) m.loop-k.k m.loop-k.invariant.1
@@ -49,10 +49,10 @@ loop-k-preserved c =
 
 pub returns : goal.returns
 returns c =
-    let fourth = c.before.before.before in
-    let third = fourth.before in
-    let second = third.before in
-    let first = second.before in
+    let fourth = c in
+    let third = fourth in
+    let second = third in
+    let first = second in
     let a = first.args in
     let e : c.loop-k.k ≡ a.group.repeats = omega (arith, c.times-repeats.ensures.0) in
     c.loop-k.invariant.1

@@ -7,7 +7,7 @@ use Rattle.walk.proofs.transfer.Goals as goal
 
 pub returns-in-Whole : goal.returns-in-Whole
 returns-in-Whole c =
-    let s = c.before.before.before in
+    let s = c in
     let a = s.args in
     c.transfer_whole.ensures
     ∙ ap (λ (z : ℤ). whole_of a.waveform a.drive z a.positive_drives_black) (back s.ranges.swing)
@@ -15,7 +15,7 @@ returns-in-Whole c =
 
 pub returns-in-Cut : goal.returns-in-Cut
 returns-in-Cut c =
-    let s = c.before.before.before.before in
+    let s = c in
     let a = s.args in
     c.transfer_cut.ensures
     ∙ ap (λ (z : ℤ). cut_of a.waveform a.drive z a.positive_drives_black c.in-Cut.cut) (back s.ranges.swing)

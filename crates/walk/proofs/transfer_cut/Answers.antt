@@ -11,7 +11,7 @@ use Rattle.walk.proofs.transfer_cut.Goals as goal
 
 pub returns : goal.returns
 returns c =
-    let s = c.before.before.before.before in
+    let s = c in
     let a = s.args in
     let z = back s.ranges.swing in
     ap (λ (w : Progress). w.transfer)

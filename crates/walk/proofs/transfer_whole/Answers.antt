@@ -9,7 +9,7 @@ use Rattle.walk.proofs.transfer_whole.Goals as goal
 
 pub returns : goal.returns
 returns c =
-    let s = c.before.before.before in
+    let s = c in
     let a = s.args in
     let z = back s.ranges.swing in
     c.whole_groups.ensures

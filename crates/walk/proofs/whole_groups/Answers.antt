@@ -17,7 +17,7 @@ loop-k-init c = (search rules, fold_none _ _ _)
 
 pub loop-k-preserved : goal.loop-k-preserved
 loop-k-preserved c =
-    let m = c.before.before.before.before in
+    let m = c in
     let s = m.args in
     let step = whole_step s.driving in
     let g = get_or s.waveform.groups m.loop-k.k no_group in (

@@ -10,9 +10,9 @@ returns-then-phase-eq0 c = let a = c.args in sym (stepped_none a.driving a.step 
 
 pub returns : goal.returns
 returns c =
-    let told2 = c.before.before in
-    let told = told2.before in
-    let test = told.before in
+    let told2 = c in
+    let told = told2 in
+    let test = told in
     let a = test.args in
     c.then.ensures
     ∙ ap (then_t a.transfer)

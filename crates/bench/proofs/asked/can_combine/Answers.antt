@@ -8,4 +8,4 @@ use Rattle.bench.proofs.asked.can_combine.Goals as goal
 
 pub returns : goal.returns
 unfolding combinable
-returns c = let s = c.before in λ i. c.can_walk.ensures i && le_z (pos 1) (back s.ranges.swing i)
+returns c = let s = c in λ i. c.can_walk.ensures i && le_z (pos 1) (back s.ranges.swing i)

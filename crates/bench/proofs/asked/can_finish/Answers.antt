@@ -10,7 +10,7 @@ use Rattle.bench.proofs.asked.can_finish.Goals as goal
 pub returns : goal.returns
 unfolding finishable
 returns c =
-    let s = c.before.before.before in
+    let s = c in
     let a = s.args in
     let gray = c.can_gray.ensures ∙ ap (λ (z : ℤ). grayable z a.states a.pixels) (back s.ranges.swing) in
     λ i. ((c.last.ensures i && gray i) && eqb a.luts a.states) && c.can_count.ensures i

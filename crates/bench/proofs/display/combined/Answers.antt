@@ -21,7 +21,7 @@ transfer_whole-requires c =
 pub returns : goal.returns
 unfolding whole_transfer
 returns c =
-    let s = c.before in
+    let s = c in
     let a = s.args in
     c.transfer_whole.ensures.value
     ∙ ap (λ (z : ℤ). settled (whole_transfer a.setting.now a.periods.now (Lut a.lut) z a.positive_drives_black)) (back s.ranges.swing)

@@ -28,12 +28,12 @@ bounds-states-i c = omega arith
 
 pub gray-requires : goal.gray-requires
 gray-requires c =
-    let s = c.before.before.before.before in
+    let s = c in
     subst (λ (z : ℤ). pos 1 ≤ℤ z) (sym (back s.ranges.swing)) (gray_some s.args.swing (length s.args.states.now) (length s.args.pixels.now) s.requires)
 
 pub bounds-pixels-i : goal.bounds-pixels-i
 bounds-pixels-i c =
-    let s = c.before.before.before.before.before in
+    let s = c in
     omega (arith, c.loop-i.invariant.long, long s)
 
 pub overflow_step-i : goal.overflow_step-i
@@ -44,7 +44,7 @@ loop-i-smaller c = omega arith
 
 pub loop-i-preserved : goal.loop-i-preserved
 loop-i-preserved c =
-    let s = c.before.before.before.before.before in
+    let s = c in
     painted_more c.loop-i.invariant
     (omega (arith, long s))
     (c.gray.ensures ∙ ap (λ (z : ℤ). gray_z z (rd s.args.swing)) (field_back _ c.gray-arg-1.given))
@@ -55,7 +55,7 @@ shape_of-pixels c = c.loop-i.invariant.long
 pub returns : goal.returns
 unfolding grays
 returns c =
-    let s = c.before.before.before in
+    let s = c in
     let n = long s in
     painted_all c.loop-i.invariant (omega (arith, n))
     ∙ ap (λ (k : ℕ). tab k (λ i. gray_z (get_or s.args.states.now i (pos 0)) (rd s.args.swing))) n

@@ -11,13 +11,13 @@ use Rattle.bench.proofs.display.transfer.Goals as goal
 
 pub transfer-requires : goal.transfer-requires
 transfer-requires c =
-    let s = c.before in
+    let s = c in
     let a = s.args in
     decoded_walkable a.setting.now a.periods.now (Lut a.lut) c.from_setting-decoded.ensures (walk_lasts a.periods.now a.lut s.requires) (walk_lut a.periods.now a.lut s.requires)
 
 pub returns : goal.returns
 returns c =
-    let s = c.before.before in
+    let s = c in
     let a = s.args in
     decoded_is a.setting.now a.periods.now (Lut a.lut) c.from_setting-decoded.ensures _ a.positive_drives_black a.until c.transfer.ensures
     ∙ ap (λ (z : ℤ). setting_transfer a.setting.now a.periods.now (Lut a.lut) z a.positive_drives_black a.until) (back s.ranges.swing)

@@ -27,7 +27,7 @@ loop-i-smaller c = omega arith
 
 pub loop-i-preserved : goal.loop-i-preserved
 loop-i-preserved c =
-    let m = c.before.before.before.before.before.before.before.before in
+    let m = c in
     let a = m.args in
     (ran_more a.window a.entry a.bytes.now m.loop-i.i (run a.counter a.plane.now) m.loop-i.invariant.0 c.advanced-at.ensures c.write.ensures.plane_after, (omega arith, omega arith))
 

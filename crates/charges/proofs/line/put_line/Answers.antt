@@ -14,17 +14,17 @@ use Rattle.charges.proofs.line.put_line.Goals as goal
 
 pub put_sums-sums_end-requires : goal.put_sums-sums_end-requires
 put_sums-sums_end-requires c =
-    let put = c.before.before.before.before in
-    let wave = put.before.before in record { room = omega (arith, wave.requires.room, put.put-number_end.ensures.end, put.put-number_end.auto.out); bounded = wave.waveform_of-waveform.ensures.bounded }
+    let put = c in
+    let wave = put in record { room = omega (arith, wave.requires.room, put.put-number_end.ensures.end, put.put-number_end.auto.out); bounded = wave.waveform_of-waveform.ensures.bounded }
 
 pub returns : goal.returns
 unfolding charge_line
 returns c =
-    let end = c.before.before.before in
-    let sums = end.before.before.before.before in
-    let put = sums.before.before.before.before in
-    let wave = put.before.before in
-    let s = wave.before.before.before in
+    let end = c in
+    let sums = end in
+    let put = sums in
+    let wave = put in
+    let s = wave in
     let at = s.args.at in
     let d = s.args.out.now in
     let room : at ≤ length d = omega (arith, s.requires.room) in

@@ -7,6 +7,6 @@ use Rattle.charges.proofs.line.put_sum.Goals as goal
 
 pub returns : goal.returns
 returns c =
-    let put = c.before.before.before in
-    let sum = put.before.before in
+    let put = c in
+    let sum = put in
     let s = sum.args in record { text = put.put_whole.ensures.text ∙ ap (λ (z : ℤ). appended (buffer s.at s.out.now) (whole 21 z)) (got sum.charge_of-sum.type_inv sum.charge_of-sum.ensures); end = put.put_whole.ensures.end }

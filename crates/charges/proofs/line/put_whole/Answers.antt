@@ -14,6 +14,6 @@ shape_of-out c = c.put.auto.out ∙ simp length-set
 
 pub returns : goal.returns
 returns c =
-    let put = c.before.before.before in
-    let size = put.before.before in
-    let s = size.before.before.before in record { text = put_wide s.args.at s.args.out.now s.args.sum (omega arith) s.ranges.sum (back s.ranges.sum) size.is_negative-negative.ensures size.magnitude_i64-n.ensures put.put.ensures.text; end = omega (arith, put.put.ensures.end) }
+    let put = c in
+    let size = put in
+    let s = size in record { text = put_wide s.args.at s.args.out.now s.args.sum (omega arith) s.ranges.sum (back s.ranges.sum) size.is_negative-negative.ensures size.magnitude_i64-n.ensures put.put.ensures.text; end = omega (arith, put.put.ensures.end) }

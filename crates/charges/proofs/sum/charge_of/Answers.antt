@@ -22,14 +22,14 @@ loop-k-init c = (search rules, sum_none _)
 
 pub group_charge-sum-requires : goal.group_charge-sum-requires
 group_charge-sum-requires c =
-    let s = c.before.before.before.before in record { drivable = record { listable = s.requires.bounded.listable; takes = omega (arith, s.requires.lut) }; bounded = s.requires.bounded.groups_bounded c.loop-k.k (omega arith) }
+    let s = c in record { drivable = record { listable = s.requires.bounded.listable; takes = omega (arith, s.requires.lut) }; bounded = s.requires.bounded.groups_bounded c.loop-k.k (omega arith) }
 
 -- ---- after a turn
 abbrev Turn : Type 0
 Turn = After-group_charge-sum
 
 abbrev groups_in : Turn → ℕ → List Phase
-groups_in c = groups_of c.before.before.before.before.before.args.t1 (Lut c.before.before.before.before.before.args.lut)
+groups_in c = groups_of c.before.before.before.before.before.args.waveform (Lut c.before.before.before.before.before.args.lut)
 
 sum_is : (c : Turn) → to_z w64 c.before.before.before.loop.sum +ℤ rd c.group-charge.result ≡ drive_sum (joined (c.before.before.before.loop.k + 1) (groups_in c))
 sum_is c =
@@ -40,7 +40,7 @@ small : (c : Turn) → nat_abs (drive_sum (joined (c.before.before.before.loop.k
 small c =
     let l = c.before.before.before.loop in
     let s = c.before.before.before.before.before in
-    omega (arith, groups_within s.args.t1 (Lut s.args.lut) s.requires.1 (l.k + 1) (omega arith))
+    omega (arith, groups_within s.args.waveform (Lut s.args.lut) s.requires.1 (l.k + 1) (omega arith))
 
 pub overflow_add-sum : goal.overflow_add-sum
 overflow_add-sum c = fits_as (sum_is c) (small c)

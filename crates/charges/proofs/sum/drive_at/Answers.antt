@@ -9,7 +9,7 @@ use Rattle.charges.proofs.sum.drive_at.Goals as goal
 
 pub phase_drive-requires : goal.phase_drive-requires
 phase_drive-requires c =
-    let s = c.before in
+    let s = c in
     let d = s.args.driving in
     subst BoundedPhase (sym c.phase_of.ensures) (phase_bounded d.levels d.drive s.args.group s.requires.drivable.listable s.requires.bounded s.args.at)
 

@@ -11,13 +11,13 @@ use Rattle.charges.proofs.sum.group_charge.Goals as goal
 
 pub repeated-requires : goal.repeated-requires
 repeated-requires c =
-    let s = c.before in
+    let s = c in
     let d = s.args.driving in record { pass = subst (λ (z : ℤ). nat_abs z ≤ 3468000000000000) (sym (got c.pass_charge-pass.type_inv c.pass_charge-pass.ensures)) (phases_within d.levels d.drive s.args.group s.requires.drivable.listable s.requires.bounded 4); repeats = omega (arith, s.requires.bounded.repeats_within) }
 
 pub returns : goal.returns
 returns c =
-    let pass = c.before in
-    let s = pass.before in
+    let pass = c in
+    let s = pass in
     let g = s.args.group in
     got c.repeated.type_inv
     (c.repeated.ensures

@@ -15,8 +15,8 @@ whole s copied h e = e ∙ rw (take-length, h, append-nil)
 
 pub returns : goal.returns
 returns c =
-    let copy = c.before.before.before.before in
-    let known = copy.before.before in
-    let s = known.before in
+    let copy = c in
+    let known = copy in
+    let s = known in
     let p = s.args.frame_period.now in
     let is = c.from_setting.ensures ∙ ap (λ (l : List ℕ). waveform_of l p) (whole s.args.setting.now _ s.requires.setting copy.copy.ensures.front) in record { is = is; bounded = subst BoundedWaveform (sym is) (setting_bounded s.args.setting.now p (λ i. omega (arith, known.shared_slice_known-1.given i)) s.requires.periods) }

@@ -23,8 +23,8 @@ bounds-setting-lut c = omega (arith, lut_below c)
 
 pub returns-in-Lut : goal.returns-in-Lut
 returns-in-Lut c =
-    let told = c.before.before.before in
-    let s = told.before.before.before in
+    let told = c in
+    let s = told in
     let a = s.args in
     let codes = codes_of a.setting.now a.group in
     c.code_in.ensures

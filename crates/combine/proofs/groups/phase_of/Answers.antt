@@ -15,7 +15,7 @@ use Rattle.combine.proofs.groups.phase_of.Goals.{After-vcom_swing-vcom, Start}
 use Rattle.combine.proofs.groups.phase_of.Goals as goal
 
 abbrev start : After-vcom_swing-vcom → Start
-start c = c.before.before.before.before.before.before.before
+start c = c.before.before.before.before.before.before.before.before
 
 -- the codes of the group
 abbrev codes : After-vcom_swing-vcom → List ℕ
@@ -24,7 +24,7 @@ codes c = codes_of (start c).args.setting.now (start c).args.group
 -- the two levels, read back
 source_is : (c : After-vcom_swing-vcom) → rd c.source-source.result ≡ source_level (start c).args.driving.levels (code_for (start c).args.driving.drive (codes c) (start c).args.phase)
 source_is c =
-    let call = c.before.before.before.before in
+    let call = c in
     got call.source-source.type_inv (call.source-source.ensures ∙ ap (source_level (start c).args.driving.levels) call.code_for.ensures)
 
 vcom_is : (c : After-vcom_swing-vcom) → rd c.vcom_swing-vcom.result ≡ vcom_swing (start c).args.driving.levels (get_or (codes c) (16 + (start c).args.phase) 0)
@@ -43,7 +43,7 @@ overflow_sub-millivolts c =
 pub returns : goal.returns
 unfolding phase_of group_codes_of
 returns c =
-    let v = c.before.before.before in
+    let v = c in
     let s = start v in
     let a = s.args in
     λ i. record {

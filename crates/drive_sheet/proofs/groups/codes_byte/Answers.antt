@@ -9,7 +9,7 @@ use Rattle.drive_sheet.proofs.groups.codes_byte.Goals as goal
 
 pub packed-requires : goal.packed-requires
 packed-requires c =
-    let s = c.before.before.before.before in
+    let s = c in
     let below = code_below s.args.group s.requires.1 in
     let at = 4 * s.args.lut in
     (below at (omega arith), (below (at + 1) (omega arith), (below (at + 2) (omega arith), below (at + 3) (omega arith))))

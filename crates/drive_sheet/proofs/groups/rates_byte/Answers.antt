@@ -8,18 +8,18 @@ use Rattle.drive_sheet.proofs.groups.rates_byte.Goals as goal
 
 pub overflow_cast-result : goal.overflow_cast-result
 overflow_cast-result c =
-    let s = c.before in
+    let s = c in
     record { fits = omega (arith, rate_below s.args.even s.requires.0, rate_below s.args.odd s.requires.1) }
 
 pub overflow_cast-result-2 : goal.overflow_cast-result-2
 overflow_cast-result-2 c =
-    let s = c.before.before in
+    let s = c in
     record { fits = omega (arith, rate_below s.args.even s.requires.0, rate_below s.args.odd s.requires.1) }
 
 pub returns : goal.returns
 unfolding rates_byte
 returns c =
-    let s = c.before.before in
+    let s = c in
     let e = rate_below s.args.even s.requires.0 in
     let o = rate_below s.args.odd s.requires.1 in
     let p = beside 4 s.args.even.frame_rate (s.args.even.frame_rate * 16 % 256) s.args.odd.frame_rate (omega arith) (omega arith) in

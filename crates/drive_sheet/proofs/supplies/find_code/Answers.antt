@@ -26,7 +26,7 @@ searched supply z n h e = sym (rw (same_not z (pos 0) (λ s. h (ap (of_z w64) s)
 pub returns-then-millivolts-eq0 : goal.returns-then-millivolts-eq0
 unfolding supply_code
 returns-then-millivolts-eq0 c =
-    let s = c.before in
+    let s = c in
     rw (same_is s.args.millivolts (pos 0) (same_bits s.ranges.millivolts zero_fits c.if-millivolts-eq0.true))
 
 pub loop-code-init : goal.loop-code-init
@@ -37,8 +37,8 @@ stands_for-requires c = omega arith
 
 pub returns-then-stands_for : goal.returns-then-stands_for
 returns-then-stands_for c =
-    let m = c.before.before.before in
-    let s = m.before.before in
+    let m = c in
+    let s = m in
     let z = s.args.millivolts in
     searched s.args.supply z m.loop-code.code m.if-millivolts-eq0.false
     (lowest_at (stands_for s.args.supply z) 256 m.loop-code.code (omega arith)
@@ -56,8 +56,8 @@ loop-code-preserved c = (omega arith, below_more _ _ c.loop-code.invariant.1 (sy
 
 pub returns : goal.returns
 returns c =
-    let m = c.before in
-    let s = m.before.before in
+    let m = c in
+    let s = m in
     let z = s.args.millivolts in
     let n : m.loop-code.code ≡ 256 = omega arith in
     searched s.args.supply z 256 m.if-millivolts-eq0.false

@@ -8,7 +8,7 @@ use Rattle.drive_sheet.proofs.supplies.is_listed_as.Goals as goal
 pub returns-in-Listed : goal.returns-in-Listed
 unfolding is_listed_as
 returns-in-Listed c =
-    let s = c.before.before.before in
+    let s = c in
     let z = s.args.millivolts in
     bits_same c.in-Listed.value z (record { sfits = c.in-Listed.known_told-1-own.given.0.1 }) s.ranges.millivolts
     ∙ ap (λ (m : Millivolts). is_listed_as m z) (sym c.in-Listed.is)

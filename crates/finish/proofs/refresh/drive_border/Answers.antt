@@ -10,13 +10,13 @@ use Rattle.finish.proofs.refresh.drive_border.Goals as goal
 
 pub transfer-transfer-requires : goal.transfer-transfer-requires
 transfer-transfer-requires c =
-    let call = c.before.before.before in
+    let call = c in
     (call.requires.walkable _ (border_takes _ _ (sym call.border_drive-drives.ensures ∙ c.in-Driven.is)), call.requires.some)
 
 pub returns-in-Driven : goal.returns-in-Driven
 returns-in-Driven c =
-    let told = c.before.before.before.before in
-    let call = told.before.before in
+    let told = c in
+    let call = told in
     let a = call.args in
     let p = a.panel in
     let border =
@@ -26,6 +26,6 @@ returns-in-Driven c =
 
 pub returns-in-Left : goal.returns-in-Left
 returns-in-Left c =
-    let call = c.before.before in
+    let call = c in
     let a = call.args in
     ap (λ (b : Border). with_border a.panel (border_by (transfer_in a.refresh) b a.panel.border)) (sym c.in-Left.is ∙ call.border_drive-drives.ensures)

@@ -20,10 +20,10 @@ move_of-requires-4 c = c.requires 3 (omega arith)
 
 pub returns : goal.returns
 returns c =
-    let two = c.before in
-    let one = two.before in
-    let zero = one.before in
-    let left = zero.before in
+    let two = c in
+    let one = two in
+    let zero = one in
+    let left = zero in
     let ts = left.args.transfers in
     let l = left.move_of-left.result in
     let m₀ = zero.move_of.result in

@@ -55,7 +55,7 @@ slice_copy_out-apply c = omega arith
 
 pub apply-state-requires : goal.apply-state-requires
 apply-state-requires c =
-    let place = c.before.before.before in
+    let place = c in
     place.moves-moves.ensures.fitting _ place.place-at.ensures.1
 
 pub offset_bounds-states-i-in-loop-i : goal.offset_bounds-states-i-in-loop-i
@@ -66,7 +66,7 @@ bounds-states-i c = omega arith
 
 pub gray_of-requires : goal.gray_of-requires
 gray_of-requires c =
-    let ends = c.before.before.before.before.before.before.before.before.before.before.before in
+    let ends = c in
     record {
       some = search rules;
       steps = ends.shift-shift.ensures;
@@ -85,10 +85,10 @@ loop-i-smaller c = omega arith
 
 pub loop-i-preserved : goal.loop-i-preserved
 loop-i-preserved c =
-    let call = c.before.before.before.before in
-    let place = call.before.before.before in
-    let m = place.before.before.before in
-    let s = m.before.before.before.before.before.before.before.before in
+    let call = c in
+    let place = call in
+    let m = place in
+    let s = m in
     let a = s.args in
     let ms = m.moves-moves.result in
     let i = m.loop-i.i in
@@ -112,9 +112,9 @@ shape_of-pixels c = c.loop-i.invariant.1.long
 pub returns : goal.returns
 unfolding states_by
 returns c =
-    let made = c.before.before.before in
-    let told = made.before.before.before.before in
-    let s = told.before.before.before in
+    let made = c in
+    let told = made in
+    let s = told in
     let a = s.args in
     let n = length a.states.now in
     let f = moved made.moves-moves.result a.luts.now a.states.now in

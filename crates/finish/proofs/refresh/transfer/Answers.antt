@@ -13,8 +13,8 @@ use Rattle.finish.proofs.refresh.transfer.Goals as goal
 pub returns : goal.returns
 unfolding transfer_in
 returns c =
-    let told = c.before in
-    let s = told.before.before.before.before.before in
+    let told = c in
+    let s = told in
     let a = s.args in
     let r = a.refresh in
     let same = field_back r.swing told.struct_told-1.given.1.1.0.1 in

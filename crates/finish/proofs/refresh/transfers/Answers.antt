@@ -23,7 +23,7 @@ transfer-lut3-requires c = (c.requires.walkable _ (omega arith), c.requires.some
 
 pub returns : goal.returns
 returns c =
-    let one = c.before.before.before in
-    let two = c.before.before in
-    let three = c.before in
+    let one = c in
+    let two = c in
+    let three = c in
     let made = one.transfer-lut0.result ∷ two.transfer-lut1.result ∷ three.transfer-lut2.result ∷ c.transfer-lut3.result ∷ [] in record { four_alike = four (λ k. Alike (in_table made k) (transfer_in one.args.refresh (Lut k))) one.transfer-lut0.ensures.alike two.transfer-lut1.ensures.alike three.transfer-lut2.ensures.alike c.transfer-lut3.ensures.alike; movable = four (λ k. pos 0 ≤ℤ (in_table made k).hi) one.transfer-lut0.ensures.pos_bound two.transfer-lut1.ensures.pos_bound three.transfer-lut2.ensures.pos_bound c.transfer-lut3.ensures.pos_bound }

@@ -15,8 +15,8 @@ sum : (c : After-struct_told-3-1)
     → rd c.clamp_i64.result +ℤ rd c.args.self.add
     ≡ moved_by c.args.self c.args.state
 sum c =
-    let call = c.before.before in
-    let s = call.before.before.before in
+    let call = c in
+    let s = call in
     let m = s.args.self in
     let g = c.struct_told-3-1.given in
     let held = clamped call.clamp_i64.type_inv call.clamp_i64.ensures (back s.ranges.state) (field_back m.lo g.0.1) (field_back m.hi g.1.0.1) in
@@ -24,7 +24,7 @@ sum c =
 
 pub overflow_add-result : goal.overflow_add-result
 overflow_add-result c =
-    let s = c.before.before.before.before.before in
+    let s = c in
     subst (λ (z : ℤ). SFits w64 z) (sym (sum c)) (sum_fits s.args.self s.args.state s.requires)
 
 pub returns : goal.returns

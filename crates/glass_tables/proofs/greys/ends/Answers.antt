@@ -12,11 +12,11 @@ pub loop-i-init : goal.loop-i-init
 loop-i-init c = (painted_none _ _, omega arith)
 
 pub overflow_cast-swing : goal.overflow_cast-swing
-overflow_cast-swing c = let s = c.before.before in unsigned s.ranges.swing (let p = s.requires in omega whole)
+overflow_cast-swing c = let s = c in unsigned s.ranges.swing (let p = s.requires in omega whole)
 
 pub end-requires : goal.end-requires
 end-requires c =
-    let s = c.before.before in
+    let s = c in
     let p = s.requires in
     let g = ranged s.ranges.swing in
     let q = abs_back s.ranges.swing in
@@ -37,12 +37,12 @@ loop-i-smaller c = omega (arith, c.loop-i-test.true)
 
 pub loop-i-preserved : goal.loop-i-preserved
 loop-i-preserved c =
-    let m = c.before.before in
+    let m = c in
     (painted_more m.loop-i.invariant.0 c.loop-i-test.true c.end.ensures, omega (arith, c.loop-i-test.true))
 
 pub returns : goal.returns
 unfolding ends_of
 returns c =
-    let m = c.before in
+    let m = c in
     painted_all m.loop-i.invariant.0 c.loop-i-test.false
     ∙ ap (λ (n : ℕ). tab 256 (grey_end n)) (abs_back m.ranges.swing)

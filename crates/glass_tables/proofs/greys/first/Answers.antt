@@ -22,5 +22,5 @@ overflow_cast-step c = record { sfits = omega (arith, exact c, begins c) }
 
 pub returns : goal.returns
 returns c =
-    let s = c.before in
+    let s = c in
     c.gray.ensures ∙ (λ i. gray_z ((back (overflow_cast-step s) ∙ ap pos (exact s)) i) (back s.ranges.swing i))

@@ -24,13 +24,13 @@ loop-i-smaller c = omega (arith, c.loop-i-test.true)
 
 pub loop-i-preserved : goal.loop-i-preserved
 loop-i-preserved c =
-    let m = c.before.before in
+    let m = c in
     (painted_more m.loop-i.invariant.0 c.loop-i-test.true c.first.ensures, omega (arith, c.loop-i-test.true))
 
 pub returns : goal.returns
 unfolding firsts_of
 returns c =
-    let m = c.before in
-    let s = m.before in
+    let m = c in
+    let s = m in
     painted_all m.loop-i.invariant.0 c.loop-i-test.false
     ∙ ap (λ (z : ℤ). tab 512 (λ step. gray_z (pos (step * 2 ^ s.args.shift)) z)) (back s.ranges.swing)

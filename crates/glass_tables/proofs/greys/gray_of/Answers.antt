@@ -20,7 +20,7 @@ use Rattle.glass_tables.proofs.greys.gray_of.Goals as goal
 
 pub overflow_cast-swing : goal.overflow_cast-swing
 overflow_cast-swing c =
-    let s = c.before in
+    let s = c in
     unsigned s.ranges.swing (omega (whole, ranged s.ranges.swing, s.requires.some))
 
 found_is : (c : After-bits-found) → c.bits-found.result ≡ bits_of c.args.state
@@ -29,13 +29,13 @@ found_is c = c.bits-found.ensures ∙ ap bits_of (back c.ranges.state)
 -- ---- a state that is not from 0 to the swing
 pub returns-then-state-lt0 : goal.returns-then-state-lt0
 returns-then-state-lt0 c =
-    let s = c.before.before.before in
+    let s = c in
     gray_low s.args.state _ s.requires.some (is_le s.args.state (pos 0) (omega (whole, ranged s.ranges.state)))
 
 pub returns-else-state-lt0 : goal.returns-else-state-lt0
 returns-else-state-lt0 c =
-    let call = c.before.before in
-    let s = call.before in
+    let call = c in
+    let s = call in
     let f = ranged s.ranges.state in
     let g = ranged s.ranges.swing in
     let x = abs_pos s.args.state (omega whole) in
@@ -67,7 +67,7 @@ within : (c : Else-swing-found) → Within c
 within c =
     let s = start c in
     let o = s.pre.some in
-    let e = found_is c.before in
+    let e = found_is c in
     let f = ranged s.fits.state in
     let g = ranged s.fits.swing in
     let v = abs_pos s.args.swing (omega whole) in
@@ -121,33 +121,33 @@ is : (c : Else-swing-found) (g : ℕ) → g ≡ (510 * x c + n c) / (2 * n c) �
 is c g e = let w = within c in e ∙ gray_within (x c) (n c) w.below w.some ∙ (λ i. gray_z (w.state i) (w.swing i))
 
 pub overflow_cast-first : goal.overflow_cast-first
-overflow_cast-first c = record { fits = omega (arith, first_is c.before.before, l_lt c.before.before) }
+overflow_cast-first c = record { fits = omega (arith, first_is c, l_lt c) }
 
 pub offset_bounds-ends-first : goal.offset_bounds-ends-first
-offset_bounds-ends-first c = record { fits = omega (arith, first_is c.before.before, l_lt c.before.before) }
+offset_bounds-ends-first c = record { fits = omega (arith, first_is c, l_lt c) }
 
 pub bounds-ends-first : goal.bounds-ends-first
-bounds-ends-first c = omega (arith, first_is c.before.before, l_lt c.before.before)
+bounds-ends-first c = omega (arith, first_is c, l_lt c)
 
-next : (c : Then-ends-first) → l c.before.before.before.before + 1 ≡ (510 * x c.before.before.before.before + n c.before.before.before.before) / (2 * n c.before.before.before.before)
+next : (c : Then-ends-first) → l c + 1 ≡ (510 * x c + n c) / (2 * n c)
 next c =
-    let e = c.before.before.before.before in
+    let e = c in
     let w = within e in
     past (x e) (n e) (k e) w.some (start e).requires.steps.fine (omega (arith, end_is e, c.if-ends-first.true))
 
 pub overflow_add-result : goal.overflow_add-result
 overflow_add-result c =
-    let e = c.before.before.before.before in
+    let e = c in
     let w = within e in
     record { fits = omega (arith, first_is e, next c, within_lt (x e) (n e) w.below w.some) }
 
 pub returns-then-ends-first : goal.returns-then-ends-first
 returns-then-ends-first c =
-    let e = c.before.before.before.before in
+    let e = c in
     is e _ (ap (λ (g : ℕ). g + 1) (first_is e) ∙ next c)
 
 pub returns-else-ends-first : goal.returns-else-ends-first
 returns-else-ends-first c =
-    let e = c.before.before.before.before in
+    let e = c in
     let w = within e in
     is e _ (first_is e ∙ before (x e) (n e) (k e) w.some (start e).requires.steps.fine (omega (arith, end_is e, c.if-ends-first.false)))

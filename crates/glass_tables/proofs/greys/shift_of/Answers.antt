@@ -22,7 +22,7 @@ overflow_shr-swing c = omega arith
 
 pub returns-then-swing-shift-lt512 : goal.returns-then-swing-shift-lt512
 returns-then-swing-shift-lt512 c =
-    let m = c.before.before in
+    let m = c in
     record { small = m.loop-shift.invariant.0; few = c.if-swing-shift-lt512.true; fine = m.loop-shift.invariant.1 }
 
 pub overflow_add-shift : goal.overflow_add-shift
@@ -33,12 +33,12 @@ loop-shift-smaller c = omega arith
 
 pub loop-shift-preserved : goal.loop-shift-preserved
 loop-shift-preserved c =
-    let m = c.before.before in
+    let m = c in
     (omega arith, longer m.args.swing m.loop-shift.shift c.if-swing-shift-lt512.false)
 
 pub returns : goal.returns
 returns c =
-    let m = c.before in
+    let m = c in
     let n = m.args.swing in
     let e : 54 ≡ m.loop-shift.shift = omega arith in
     record {

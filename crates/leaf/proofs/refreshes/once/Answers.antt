@@ -7,10 +7,10 @@ use Rattle.leaf.proofs.refreshes.once.Goals as goal
 pub finish-requires : goal.finish-requires
 finish-requires c =
     let s : Start = search in
-    let lengths = c.before.before.before.before in
-    let swing = lengths.before.before in
-    let told = swing.before in
-    let tested = told.before.before in
+    let lengths = c in
+    let swing = lengths in
+    let told = swing in
+    let tested = told in
     record {
       luts_long = lengths.if-luts-states.true;
       pixels_long = lengths.if-pixels-states.true;

@@ -36,7 +36,7 @@ returns-then-line-ne10 c = no_end c.args.line.now c.if-line-ne27.false c.if-line
 
 pub returns : goal.returns
 returns c =
-    let number = c.before.before.before.before.before.before in
+    let number = c in
     let s = number.args.line.now in
     whole s number.number-number.result c.number-kind.result c.number-value.result c.three.result
     number.if-line-ne27.false number.if-line-ne10.false number.number-number.ensures c.number-kind.ensures

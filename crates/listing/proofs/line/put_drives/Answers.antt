@@ -25,10 +25,10 @@ loop-lut-smaller c = omega arith
 
 pub loop-lut-preserved : goal.loop-lut-preserved
 loop-lut-preserved c =
-    let put = c.before.before.before in
-    let drive = put.before.before in
-    let l = drive.before.before in
-    let s = l.before.before in
+    let put = c in
+    let drive = put in
+    let l = drive in
+    let s = l in
     let at = s.args.at in
     let d = s.args.out.now in
     let room : at ≤ length d = omega (arith, s.requires.room) in (
@@ -45,6 +45,6 @@ shape_of-out c = c.loop-lut.invariant.3
 pub returns : goal.returns
 unfolding drives_of
 returns c =
-    let l = c.before in
+    let l = c in
     let s = l.args in
     let e : l.loop-lut.lut ≡ 4 = omega arith in record { text = l.loop-lut.invariant.0 ∙ ap (λ (n : ℕ). appended (buffer s.at s.out.now) (joined n (λ k. whole 7 (drive_of s.levels s.group s.phase k)))) e; end = omega arith }

@@ -20,9 +20,9 @@ loop-phase-smaller c = omega arith
 
 pub loop-phase-preserved : goal.loop-phase-preserved
 loop-phase-preserved c =
-    let put = c.before.before.before in
-    let l = put.before.before.before in
-    let s = l.before.before in
+    let put = c in
+    let l = put in
+    let s = l in
     let at = s.args.at in
     let d = s.args.out.now in
     let room : at ≤ length d = omega (arith, s.requires.room) in (
@@ -38,6 +38,6 @@ shape_of-out c = c.loop-phase.invariant.3
 pub returns : goal.returns
 unfolding group_text
 returns c =
-    let l = c.before in
+    let l = c in
     let s = l.args in
     let e : l.loop-phase.phase ≡ 4 = omega arith in record { text = l.loop-phase.invariant.0 ∙ ap (λ (n : ℕ). appended (buffer s.at s.out.now) (joined n (phase_text s.levels s.group s.number))) e; end = omega arith }

@@ -11,12 +11,12 @@ use Rattle.listing.proofs.line.put_head.Goals as goal
 pub returns : goal.returns
 unfolding head_of
 returns c =
-    let fifth = c.before.before.before in
-    let fourth = fifth.before.before.before.before in
-    let third = fourth.before.before.before.before in
-    let second = third.before.before.before.before in
-    let first = second.before.before.before.before in
-    let s = first.before.before.before.before.before in
+    let fifth = c in
+    let fourth = fifth in
+    let third = fourth in
+    let second = third in
+    let first = second in
+    let s = first in
     let at = s.args.at in
     let d = s.args.out.now in
     let room : at ≤ length d = omega (arith, s.requires.room) in

@@ -20,6 +20,6 @@ returns-then-frames-eq0 c =
 pub returns : goal.returns
 unfolding phase_text
 returns c =
-    let line = c.before.before.before in
-    let test = line.before.before in
+    let line = c in
+    let test = line in
     let s = test.args in record { text = line.put_line.ensures.text ∙ ap (λ (t : List ℕ). appended (buffer s.at s.out.now) t) (passed _ _ _ _ (ne_eqb (get_or s.group.frames s.phase 0) 0 test.if-frames-eq0.false) refl); end = omega (arith, line.put_line.ensures.end) }

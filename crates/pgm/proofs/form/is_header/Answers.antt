@@ -24,17 +24,17 @@ put-requires c =
 
 pub slice_bounds-starts_with-end : goal.slice_bounds-starts_with-end
 slice_bounds-starts_with-end c =
-    let count = c.before.before in
-    let put = count.before.before in
+    let count = c in
+    let put = count in
     sym (length-take-le count.byte_count-length.result put.put.new.out (omega arith))
 
 pub returns : goal.returns
 unfolding is_header_of
 returns c =
-    let count = c.before.before.before in
-    let put = count.before.before in
-    let fine = put.before.before in
-    let test = fine.before in
+    let count = c in
+    let put = count in
+    let fine = put in
+    let test = fine in
     let s = test.args in
     let header = pgm_header s.width s.height in
     let front = (λ i. take (count.byte_count-length.ensures.count i) (put.put.ensures i)) ∙ take-append_seam header _ in

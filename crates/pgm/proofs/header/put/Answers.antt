@@ -16,23 +16,23 @@ put_text-magic_end-requires c =
 
 pub put_size-size_end-requires : goal.put_size-size_end-requires
 put_size-size_end-requires c =
-    let magic = c.before.before.before in
+    let magic = c in
     let s = magic.args in
     omega (arith, header_length s.width s.height)
 
 pub put_text-requires : goal.put_text-requires
 put_text-requires c =
-    let size = c.before.before.before.before in
-    let magic = size.before.before.before.before in
+    let size = c in
+    let magic = size in
     let s = magic.args in
     omega (arith, header_length s.width s.height)
 
 pub returns : goal.returns
 unfolding pgm_header
 returns c =
-    let maxval = c.before.before.before in
-    let size = maxval.before.before.before.before.before in
-    let magic = size.before.before.before.before in
+    let maxval = c in
+    let size = maxval in
+    let magic = size in
     let s = magic.args in
     let room : 0 ≤ length s.out.now = omega arith in
     let sized = after 0 s.out.now _ _ room magic.put_text-magic_end.ensures.text size.put_size-size_end.ensures.text in

@@ -6,6 +6,6 @@ use Rattle.pgm.proofs.header.put_decimal.Goals as goal
 
 pub returns : goal.returns
 returns c =
-    let put = c.before.before.before in
-    let count = put.before.before in
+    let put = c in
+    let count = put in
     let s = count.args in record { text = in_decimal (buffer s.at s.out.now) s.n put.put.ensures.text count.digit_count-width.ensures.count; end = omega (arith, put.put.ensures.end, count.digit_count-width.ensures.count) }

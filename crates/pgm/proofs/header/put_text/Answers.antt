@@ -8,5 +8,5 @@ use Rattle.pgm.proofs.header.put_text.Goals as goal
 pub returns : goal.returns
 unfolding appended
 returns c =
-    let copy = c.before.before.before in
+    let copy = c in
     let s = copy.args in record { text = λ i. buffer (s.at + copy.copy.ensures.count i) (copied s.out.now s.text.now copy.copy.new.dst s.at copy.copy.ensures.front i); end = omega (arith, copy.copy.ensures.count) }

@@ -5,7 +5,7 @@ use Rattle.replay.proofs.picture.rows.Goals as goal
 
 pub loop-i-smaller : goal.loop-i-smaller
 loop-i-smaller c =
-    let end = c.before.before.before.before.before.before.before in
+    let end = c in
     omega (arith, end.part_end-end.ensures.0, end.part_end-end.ensures.1)
 
 pub loop-i-preserved : goal.loop-i-preserved

@@ -9,9 +9,9 @@ use Rattle.sheet_text.proofs.lines.put_codes.Goals as goal
 pub returns : goal.returns
 unfolding codes_text
 returns c =
-    let digits = c.before.before.before in
-    let blank = digits.before.before.before.before in
-    let s = blank.before.before.before.before in
+    let digits = c in
+    let blank = digits in
+    let s = blank in
     let at = s.args.at in
     let d = s.args.out.now in
     let room : at ≤ length d = omega (arith, s.requires.room) in record { text = after at d _ _ room blank.put_text-first.ensures.text digits.put_digits.ensures.text; end = omega (arith, blank.put_text-first.ensures.end, digits.put_digits.ensures.end) }

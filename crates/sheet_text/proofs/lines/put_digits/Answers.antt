@@ -19,13 +19,13 @@ pub overflow_add-lut : goal.overflow_add-lut
 overflow_add-lut c = omega arith
 
 pub bounds-group-lut : goal.bounds-group-lut
-bounds-group-lut c = let s = c.before.before.before in omega (arith, s.requires.lut)
+bounds-group-lut c = let s = c in omega (arith, s.requires.lut)
 
 pub wide-code-requires : goal.wide-code-requires
 wide-code-requires c = tt
 
 pub put-next-requires : goal.put-next-requires
-put-next-requires c = let s = c.before.before.before.before.before.before in record { narrow = omega arith; room = omega (arith, s.requires.room) }
+put-next-requires c = let s = c in record { narrow = omega arith; room = omega (arith, s.requires.room) }
 
 pub overflow_add-phase : goal.overflow_add-phase
 overflow_add-phase c = omega arith
@@ -35,10 +35,10 @@ loop-phase-smaller c = omega arith
 
 pub loop-phase-preserved : goal.loop-phase-preserved
 loop-phase-preserved c =
-    let put = c.before.before.before in
-    let wide = put.before.before in
-    let l = wide.before.before.before in
-    let s = l.before.before in
+    let put = c in
+    let wide = put in
+    let l = wide in
+    let s = l in
     let a = s.args in
     let code = put.put-next.ensures.text ∙ ap (λ (n : ℕ). appended (buffer l.loop-phase.next l.loop-phase.out) (natural 1 n)) wide.wide-code.ensures in (
       joined_more a.at a.out.now (textIn a.group a.lut) l.loop-phase.phase (omega (arith, s.requires.room)) l.loop-phase.invariant.0 code,
@@ -53,6 +53,6 @@ shape_of-out c = c.loop-phase.invariant.3
 pub returns : goal.returns
 unfolding digits_text
 returns c =
-    let l = c.before in
+    let l = c in
     let a = l.args in
     let e : l.loop-phase.phase ≡ 4 = omega arith in record { text = l.loop-phase.invariant.0 ∙ ap (λ (n : ℕ). appended (buffer a.at a.out.now) (joined n (textIn a.group a.lut))) e; end = omega arith }

@@ -19,7 +19,7 @@ pub wide-frames-requires : goal.wide-frames-requires
 wide-frames-requires c = tt
 
 pub put-next-requires : goal.put-next-requires
-put-next-requires c = let s = c.before.before.before.before.before.before in record { narrow = omega arith; room = omega (arith, s.requires) }
+put-next-requires c = let s = c in record { narrow = omega arith; room = omega (arith, s.requires) }
 
 pub overflow_add-phase : goal.overflow_add-phase
 overflow_add-phase c = omega arith
@@ -29,10 +29,10 @@ loop-phase-smaller c = omega arith
 
 pub loop-phase-preserved : goal.loop-phase-preserved
 loop-phase-preserved c =
-    let put = c.before.before.before in
-    let wide = put.before.before in
-    let l = wide.before.before.before in
-    let s = l.before.before in
+    let put = c in
+    let wide = put in
+    let l = wide in
+    let s = l in
     let a = s.args in
     let frames = put.put-next.ensures.text ∙ ap (λ (n : ℕ). appended (buffer l.loop-phase.next l.loop-phase.out) (natural 4 n)) wide.wide-frames.ensures in (
       joined_more a.at a.out.now (textIn a.group) l.loop-phase.phase (omega (arith, s.requires)) l.loop-phase.invariant.0 frames,
@@ -47,6 +47,6 @@ shape_of-out c = c.loop-phase.invariant.3
 pub returns : goal.returns
 unfolding frames_text
 returns c =
-    let l = c.before in
+    let l = c in
     let a = l.args in
     let e : l.loop-phase.phase ≡ 4 = omega arith in record { text = l.loop-phase.invariant.0 ∙ ap (λ (n : ℕ). appended (buffer a.at a.out.now) (joined n (textIn a.group))) e; end = omega arith }

@@ -12,11 +12,11 @@ use Rattle.sheet_text.proofs.lines.put_gate.Goals as goal
 pub returns : goal.returns
 unfolding gate_line
 returns c =
-    let end = c.before.before.before in
-    let put = end.before.before.before.before in
-    let wide = put.before in
-    let name = wide.before.before.before.before in
-    let s = name.before.before.before.before in
+    let end = c in
+    let put = end in
+    let wide = put in
+    let name = wide in
+    let s = name in
     let at = s.args.at in
     let d = s.args.out.now in
     let room : at ≤ length d = omega (arith, s.requires) in

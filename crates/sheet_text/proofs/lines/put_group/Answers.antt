@@ -9,13 +9,13 @@ use Rattle.sheet_text.proofs.lines.put_group.Goals as goal
 pub returns : goal.returns
 unfolding group_line
 returns c =
-    let end = c.before.before.before in
-    let luts = end.before.before.before.before in
-    let rate = luts.before.before.before.before in
-    let repeats = rate.before.before.before.before in
-    let frames = repeats.before.before.before.before.before in
-    let first = frames.before.before.before.before in
-    let s = first.before.before.before in
+    let end = c in
+    let luts = end in
+    let rate = luts in
+    let repeats = rate in
+    let frames = repeats in
+    let first = frames in
+    let s = first in
     let at = s.args.at in
     let d = s.args.out.now in
     let room : at ≤ length d = omega (arith, s.requires) in record { text = after at d _ _ room (after at d _ _ room (after at d _ _ room (after at d _ _ room (after at d _ _ room first.put-first.ensures.text frames.put_frames-second.ensures.text) repeats.put-third.ensures.text) rate.put-fourth.ensures.text) luts.put_luts-fifth.ensures.text) end.put_line_end.ensures.text; end = omega (arith, first.put-first.ensures.end, frames.put_frames-second.ensures.end, repeats.put-third.ensures.end, rate.put-fourth.ensures.end, luts.put_luts-fifth.ensures.end, end.put_line_end.ensures.end) }

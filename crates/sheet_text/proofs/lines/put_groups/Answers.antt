@@ -29,8 +29,8 @@ loop-number-smaller c = omega arith
 
 pub loop-number-preserved : goal.loop-number-preserved
 loop-number-preserved c =
-    let put = c.before.before.before in
-    let l = put.before.before.before.before in
+    let put = c in
+    let l = put in
     let a = l.args in (
       joined_more 0 a.out.now (textIn a.sheet) l.loop-number.number (omega arith) l.loop-number.invariant.0 put.put_group-at.ensures.text,
       omega (arith, put.put_group-at.ensures.end),
@@ -44,6 +44,6 @@ shape_of-out c = c.loop-number.invariant.3
 pub returns : goal.returns
 unfolding group_lines
 returns c =
-    let l = c.before in
+    let l = c in
     let a = l.args in
     let e : l.loop-number.number ≡ 10 = omega arith in record { text = l.loop-number.invariant.0 ∙ ap (λ (n : ℕ). appended (buffer 0 a.out.now) (joined n (textIn a.sheet))) e; end = omega arith }

@@ -12,7 +12,7 @@ pub loop-lut-init : goal.loop-lut-init
 loop-lut-init c = let s = c.args in (joined_none s.at s.out.now _, omega arith, omega arith, refl)
 
 pub put_codes-next-requires : goal.put_codes-next-requires
-put_codes-next-requires c = let s = c.before.before.before.before in record { room = omega (arith, s.requires); lut = omega arith }
+put_codes-next-requires c = let s = c in record { room = omega (arith, s.requires); lut = omega arith }
 
 pub overflow_add-lut : goal.overflow_add-lut
 overflow_add-lut c = omega arith
@@ -22,9 +22,9 @@ loop-lut-smaller c = omega arith
 
 pub loop-lut-preserved : goal.loop-lut-preserved
 loop-lut-preserved c =
-    let put = c.before.before.before in
-    let l = put.before.before.before in
-    let s = l.before.before in
+    let put = c in
+    let l = put in
+    let s = l in
     let a = s.args in (
       joined_more a.at a.out.now (codes_text a.group) l.loop-lut.lut (omega (arith, s.requires)) l.loop-lut.invariant.0 put.put_codes-next.ensures.text,
       omega (arith, put.put_codes-next.ensures.end),
@@ -37,6 +37,6 @@ shape_of-out c = c.loop-lut.invariant.3
 
 pub returns : goal.returns
 returns c =
-    let l = c.before in
+    let l = c in
     let a = l.args in
     let e : l.loop-lut.lut ≡ 5 = omega arith in record { text = l.loop-lut.invariant.0 ∙ ap (λ (n : ℕ). appended (buffer a.at a.out.now) (joined n (codes_text a.group))) e; end = omega arith }

@@ -9,9 +9,9 @@ use Rattle.sheet_text.proofs.lines.put_sheet.Goals as goal
 pub returns : goal.returns
 unfolding sheet_text
 returns c =
-    let voltages = c.before.before.before in
-    let gate = voltages.before.before.before.before in
-    let groups = gate.before.before.before.before in
-    let s = groups.before.before.before in
+    let voltages = c in
+    let gate = voltages in
+    let groups = gate in
+    let s = groups in
     let d = s.args.out.now in
     let room : 0 ≤ length d = omega arith in record { text = after 0 d _ _ room (after 0 d _ _ room groups.put_groups-first.ensures.text gate.put_gate-second.ensures.text) voltages.put_voltages.ensures.text; end = omega (arith, groups.put_groups-first.ensures.end, gate.put_gate-second.ensures.end, voltages.put_voltages.ensures.end) }

@@ -13,10 +13,10 @@ use Rattle.sheet_text.proofs.lines.put_voltage.Goals as goal
 pub returns : goal.returns
 unfolding voltage_line
 returns c =
-    let end = c.before.before.before in
-    let put = end.before.before.before.before in
-    let name = put.before.before.before.before in
-    let s = name.before.before.before.before in
+    let end = c in
+    let put = end in
+    let name = put in
+    let s = name in
     let at = s.args.at in
     let d = s.args.out.now in
     let room : at ≤ length d = omega (arith, s.requires) in

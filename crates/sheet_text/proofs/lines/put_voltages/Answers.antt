@@ -13,11 +13,11 @@ use Rattle.sheet_text.proofs.lines.put_voltages.Goals as goal
 pub returns : goal.returns
 unfolding voltage_lines
 returns c =
-    let fourth = c.before.before.before in
-    let third = fourth.before.before.before.before.before.before in
-    let second = third.before.before.before.before.before.before in
-    let first = second.before.before.before.before.before.before in
-    let s = first.before.before.before.before.before in
+    let fourth = c in
+    let third = fourth in
+    let second = third in
+    let first = second in
+    let s = first in
     let h = s.args.sheet in
     let at = s.args.at in
     let d = s.args.out.now in

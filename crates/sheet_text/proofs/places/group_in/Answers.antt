@@ -5,9 +5,9 @@ use Rattle.sheet_text.proofs.places.group_in.Goals as goal
 pub returns : goal.returns
 unfolding group_drawn
 returns c =
-    let rate = c.before.before in
-    let repeats = rate.before in
-    let frames = repeats.before in
+    let rate = c in
+    let repeats = rate in
+    let frames = repeats in
     λ i. record {
       frames = frames.frames_at-frames.ensures i;
       repeats = repeats.repeats_at-repeats.ensures i;

@@ -19,13 +19,13 @@ pub digit_at-digit-requires : goal.digit_at-digit-requires
 digit_at-digit-requires c = tt
 
 pub overflow_mul-n : goal.overflow_mul-n
-overflow_mul-n c = let l = c.before.before.before in omega (arith, bounded l.loop-i.i l.loop-i.n (omega arith) l.loop-i.invariant.1.1)
+overflow_mul-n c = let l = c in omega (arith, bounded l.loop-i.i l.loop-i.n (omega arith) l.loop-i.invariant.1.1)
 
 pub wide-requires : goal.wide-requires
 wide-requires c = tt
 
 pub overflow_add-n : goal.overflow_add-n
-overflow_add-n c = let l = c.before.before.before.before in omega (arith, bounded l.loop-i.i l.loop-i.n (omega arith) l.loop-i.invariant.1.1)
+overflow_add-n c = let l = c in omega (arith, bounded l.loop-i.i l.loop-i.n (omega arith) l.loop-i.invariant.1.1)
 
 pub overflow_add-i : goal.overflow_add-i
 overflow_add-i c = omega arith
@@ -35,7 +35,7 @@ loop-i-smaller c = omega arith
 
 pub loop-i-preserved : goal.loop-i-preserved
 loop-i-preserved c =
-    let l = c.before.before.before.before in
+    let l = c in
     let s = l.args in
     let d = c.wide.ensures ∙ c.digit_at-digit.ensures.digit in (
       omega arith,
@@ -48,6 +48,6 @@ loop-i-preserved c =
 pub returns : goal.returns
 unfolding column_at
 returns c =
-    let l = c.before.before in
+    let l = c in
     let s = l.args in
     let e : l.loop-i.i ≡ s.width = omega arith in record { number = l.loop-i.invariant.1.0 ∙ ap (λ (k : ℕ). value_of (tab k (byteIn s.text.now s.at))) e; small = omega (arith, bounded l.loop-i.i l.loop-i.n (omega arith) l.loop-i.invariant.1.1) }

@@ -6,10 +6,10 @@ use Rattle.sheet_text.proofs.places.sheet_in.Goals as goal
 pub returns : goal.returns
 unfolding sheet_in
 returns c =
-    let vsl = c.before.before in
-    let vsh2 = vsl.before in
-    let vsh1 = vsh2.before in
-    let gate = vsh1.before in
+    let vsl = c in
+    let vsh2 = vsl in
+    let vsh1 = vsh2 in
+    let gate = vsh1 in
     λ i. record {
       groups = gate.groups_in-groups.ensures i;
       gate = gate.low_byte_at-gate.ensures i;

@@ -22,8 +22,8 @@ neg_fits (suc n) l = record { sfits = omega arith }
 pub returns-then-minus_at : goal.returns-then-minus_at
 unfolding whole_at
 returns-then-minus_at c =
-    let minus = c.before.before.before in
-    let number = minus.before in
+    let minus = c in
+    let number = minus in
     let e = number.number_at-n.ensures in
     let n = number.number_at-n.result in
     took _ _ _ _ (sym minus.minus_at.ensures ∙ c.if-minus_at.true)
@@ -32,8 +32,8 @@ returns-then-minus_at c =
 pub returns : goal.returns
 unfolding whole_at
 returns c =
-    let minus = c.before.before.before in
-    let number = minus.before in
+    let minus = c in
+    let number = minus in
     let e = number.number_at-n.ensures in
     let n = number.number_at-n.result in
     passed _ _ _ _ (sym minus.minus_at.ensures ∙ c.if-minus_at.false)

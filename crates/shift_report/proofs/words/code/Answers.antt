@@ -29,8 +29,8 @@ both a b h l e = (ltb-true h 16 (right (a && b) (ltb h 16) (left (a && b && ltb 
 
 below : (c : Then-word-high) → (c.hex_value-high.result < 16) × (c.hex_value-low.result < 16)
 below c =
-    let low = c.before.before.before.before in
-    let high = low.before.before in
+    let low = c in
+    let high = low in
     let w = high.args.word.now in
     both (eqb (get_or w 0 0) 48) (eqb (get_or w 1 0) 120) high.hex_value-high.result low.hex_value-low.result c.if-word-high.true
 
@@ -45,14 +45,14 @@ overflow_add-result c = record { fits = omega (arith, (below c).0, (below c).1) 
 
 pub returns-then-word-high : goal.returns-then-word-high
 returns-then-word-high c =
-    let low = c.before.before.before.before in
-    let high = low.before.before in
-    let test = high.before.before in
+    let low = c in
+    let high = low in
+    let test = high in
     sym (digits test.args.word.now test.if-word-ne4.false high.hex_value-high.ensures low.hex_value-low.ensures ∙ rw c.if-word-high.true)
 
 pub returns : goal.returns
 returns c =
-    let low = c.before.before.before.before in
-    let high = low.before.before in
-    let test = high.before.before in
+    let low = c in
+    let high = low in
+    let test = high in
     sym (digits test.args.word.now test.if-word-ne4.false high.hex_value-high.ensures low.hex_value-low.ensures ∙ rw c.if-word-high.false)

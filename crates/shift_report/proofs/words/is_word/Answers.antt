@@ -50,7 +50,7 @@ bounds-word-i c = omega (arith, c.loop-i.invariant.1)
 
 pub returns-then-given-i : goal.returns-then-given-i
 returns-then-given-i c =
-    let l = c.before.before.before.before.before in
+    let l = c in
     let a = l.args in
     sym (l.loop-i.invariant.2 ∙ other a.given.now a.word.now l.loop-i.i (omega arith) (omega (arith, l.loop-i.invariant.1)) c.if-given-i.true)
 
@@ -59,12 +59,12 @@ loop-i-smaller c = omega arith
 
 pub loop-i-preserved : goal.loop-i-preserved
 loop-i-preserved c =
-    let l = c.before.before.before.before.before in
+    let l = c in
     let a = l.args in
     (omega arith, l.loop-i.invariant.1, l.loop-i.invariant.2 ∙ alike a.given.now a.word.now l.loop-i.i (omega arith) (omega (arith, l.loop-i.invariant.1)) c.if-given-i.false)
 
 pub returns : goal.returns
 returns c =
-    let l = c.before in
+    let l = c in
     let a = l.args in
     sym (l.loop-i.invariant.2 ∙ all a.given.now a.word.now l.loop-i.i (omega arith) l.loop-i.invariant.1)

@@ -10,19 +10,19 @@ returns-then-is_word c = rw (sym c.is_IsWord.ensures ∙ c.if-is_word.true)
 pub returns-then-is_word-2 : goal.returns-then-is_word-2
 unfolding voltage_word
 returns-then-is_word-2 c =
-    let first = c.before.before.before.before in
+    let first = c in
     rw (sym first.is_IsWord.ensures ∙ first.if-is_word.false, sym c.is_word-2.ensures ∙ c.if-is_word-2.true)
 
 pub returns-then-is_word-3 : goal.returns-then-is_word-3
 unfolding voltage_word
 returns-then-is_word-3 c =
-    let second = c.before.before.before.before in
-    let first = second.before.before.before in
+    let second = c in
+    let first = second in
     rw (sym first.is_IsWord.ensures ∙ first.if-is_word.false, sym second.is_word-2.ensures ∙ second.if-is_word-2.false, sym c.is_word-3.ensures ∙ c.if-is_word-3.true)
 
 pub returns : goal.returns
 unfolding voltage_word
 returns c =
-    let second = c.before.before.before.before in
-    let first = second.before.before.before in
+    let second = c in
+    let first = second in
     rw (sym first.is_IsWord.ensures ∙ first.if-is_word.false, sym second.is_word-2.ensures ∙ second.if-is_word-2.false, sym c.is_word-3.ensures ∙ c.if-is_word-3.false)

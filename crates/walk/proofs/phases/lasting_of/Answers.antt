@@ -10,7 +10,7 @@ use Rattle.walk.proofs.phases.lasting_of.Goals as goal
 pub returns : goal.returns
 unfolding phase_step phase_of
 returns c =
-    let call = c.before.before in
+    let call = c in
     let a = call.args in
     let p = phase_in a.driving a.group a.at in
     let s = call.step_of-step.result in

@@ -14,10 +14,10 @@ abbrev start : After-vcom_swing-vcom → Start
 start c = c.before.before.before.before.before
 
 -- the two levels, read back
-source_is : (c : After-vcom_swing-vcom) → rd c.source-source.result ≡ source_level (start c).args.driving.levels (code_for (start c).args.driving.drive (start c).args.t2.codes (start c).args.phase)
+source_is : (c : After-vcom_swing-vcom) → rd c.source-source.result ≡ source_level (start c).args.driving.levels (code_for (start c).args.driving.drive (start c).args.group.codes (start c).args.phase)
 source_is c = got c.source-source.type_inv (c.source-source.ensures ∙ ap (source_level (start c).args.driving.levels) c.code_for.ensures)
 
-vcom_is : (c : After-vcom_swing-vcom) → rd c.vcom_swing-vcom.result ≡ vcom_swing (start c).args.driving.levels (get_or (start c).args.t2.codes (16 + (start c).args.phase) 0)
+vcom_is : (c : After-vcom_swing-vcom) → rd c.vcom_swing-vcom.result ≡ vcom_swing (start c).args.driving.levels (get_or (start c).args.group.codes (16 + (start c).args.phase) 0)
 vcom_is c = got c.vcom_swing-vcom.type_inv c.vcom_swing-vcom.ensures
 
 pub overflow_sub-millivolts : goal.overflow_sub-millivolts
@@ -29,10 +29,10 @@ overflow_sub-millivolts c =
 
 pub returns : goal.returns
 unfolding phase_of
-returns c = let v = c.before.before in
+returns c = let v = c in
     let s = (start v).args in
     λ i. record {
       frames = c.wide.ensures i;
-      frame_ns = s.t2.frame_ns;
+      frame_ns = s.group.frame_ns;
       millivolts = (back (overflow_sub-millivolts v) ∙ (λ j. source_is v j -ℤ vcom_is v j)) i;
     }

@@ -8,7 +8,7 @@ use Rattle.walk.proofs.phases.push.Goals as goal
 
 pub returns : goal.returns
 unfolding pushed
-returns c = let s = c.before.before.before.before.before in
+returns c = let s = c in
     let t = c.struct_told-1.given in
     let u = c.struct_told-2-1.given in
     let d = c.drive_of-drive in

@@ -8,14 +8,14 @@ use Rattle.walk.proofs.phases.step_of.Goals as goal
 
 pub returns-then-phase-eq0 : goal.returns-then-phase-eq0
 returns-then-phase-eq0 c =
-    let call = c.before.before in
+    let call = c in
     let d = call.args.driving in
     drive_none d call.phase_of-phase.result c.if-phase-eq0.true ∙ ap (phase_step d) call.phase_of-phase.ensures
 
 pub returns : goal.returns
 returns c =
-    let test = c.before.before in
-    let call = test.before.before in
+    let test = c in
+    let call = test in
     let d = call.args.driving in
     let p = call.phase_of-phase.result in
     let v = field_back p.millivolts c.struct_told-1.given.1.1.0.1 in
