@@ -16,19 +16,19 @@ given s = with_buffers s.args.state s.args.states.now s.args.luts.now (picture s
 pub returns-then-is_busy-command : goal.returns-then-is_busy-command
 returns-then-is_busy-command c =
     let s = c in
-    busy (kept s) s.args.command (given s) _ c.in-Running.is _ c.is_pending-is_busy.ensures _ c.if-is_busy-command.true c.report-then-is_busy-command.ensures
+    busy (kept c.before.before.before.before.before.before.before.before.before.before.before.before.before.before.before.before.before.before) s.args.command (given c.before.before.before.before.before.before.before.before.before.before.before.before.before.before.before.before.before.before) _ c.in-Running.is _ c.is_pending-is_busy.ensures _ c.if-is_busy-command.true c.report-then-is_busy-command.ensures
 
 pub returns-in-InReset : goal.returns-in-InReset
 returns-in-InReset c =
     let s = c in
-    in_reset_is (kept s) s.args.command (given s) _ _ c.in-InReset.is c.report.ensures
+    in_reset_is (kept c.before.before.before.before.before.before.before.before.before.before.before.before.before.before.before.before) s.args.command (given c.before.before.before.before.before.before.before.before.before.before.before.before.before.before.before.before) _ _ c.in-InReset.is c.report.ensures
 
 pub returns-in-Asleep : goal.returns-in-Asleep
 returns-in-Asleep c =
     let s = c in
-    asleep (kept s) s.args.command (given s) _ _ c.in-Asleep.is c.report-in-Asleep.ensures
+    asleep (kept c.before.before.before.before.before.before.before.before.before.before.before.before.before.before.before.before) s.args.command (given c.before.before.before.before.before.before.before.before.before.before.before.before.before.before.before.before) _ _ c.in-Asleep.is c.report-in-Asleep.ensures
 
 pub returns-else-is_busy-command : goal.returns-else-is_busy-command
 returns-else-is_busy-command c =
     let s = c in
-    free (kept s) s.args.command (given s) _ c.in-Running.is _ c.is_pending-is_busy.ensures _ c.if-is_busy-command.false c.decode.ensures
+    free (kept c.before.before.before.before.before.before.before.before.before.before.before.before.before.before.before.before.before.before.before.before.before.before.before.before.before.before.before.before.before) s.args.command (given c.before.before.before.before.before.before.before.before.before.before.before.before.before.before.before.before.before.before.before.before.before.before.before.before.before.before.before.before.before) _ c.in-Running.is _ c.is_pending-is_busy.ensures _ c.if-is_busy-command.false c.decode.ensures

@@ -21,4 +21,4 @@ start_command-requires c =
 pub returns : goal.returns
 returns c =
     let s = c in
-    accepts (kept s) s.args.command (given s) _ _ _ c.make_current-current.ensures c.start_command.ensures
+    accepts (kept c.before.before.before.before.before.before.before.before.before.before.before.before.before.before.before.before.before.before.before.before.before.before.before.before.before) s.args.command (given c.before.before.before.before.before.before.before.before.before.before.before.before.before.before.before.before.before.before.before.before.before.before.before.before.before) _ _ _ c.make_current-current.ensures c.start_command.ensures

@@ -16,24 +16,24 @@ given s = with_buffers s.args.state s.args.states.now s.args.luts.now (picture s
 pub returns-in_default : goal.returns-in_default
 returns-in_default c =
     let s = c in
-    unknown (kept s) s.args.command (given s) _ c.kind-known.ensures _ c.in_default.is c.report.ensures
+    unknown (kept c.before.before.before.before.before.before.before.before.before.before.before.before.before.before.before.before) s.args.command (given c.before.before.before.before.before.before.before.before.before.before.before.before.before.before.before.before) _ c.kind-known.ensures _ c.in_default.is c.report.ensures
 
 pub returns-in-Reserved : goal.returns-in-Reserved
 returns-in-Reserved c =
     let s = c in
-    reserved (kept s) s.args.command (given s) _ c.kind-known.ensures _ c.in-Of.is _ c.in-Reserved.is c.report-in-Reserved.ensures
+    reserved (kept c.before.before.before.before.before.before.before.before.before.before.before.before.before.before.before.before.before.before.before) s.args.command (given c.before.before.before.before.before.before.before.before.before.before.before.before.before.before.before.before.before.before.before) _ c.kind-known.ensures _ c.in-Of.is _ c.in-Reserved.is c.report-in-Reserved.ensures
 
 pub returns-in-Unsupported : goal.returns-in-Unsupported
 returns-in-Unsupported c =
     let s = c in
-    unsupported (kept s) s.args.command (given s) _ c.kind-known.ensures _ c.in-Of.is _ c.in-Unsupported.is c.report-in-Unsupported.ensures
+    unsupported (kept c.before.before.before.before.before.before.before.before.before.before.before.before.before.before.before.before.before.before.before) s.args.command (given c.before.before.before.before.before.before.before.before.before.before.before.before.before.before.before.before.before.before.before) _ c.kind-known.ensures _ c.in-Of.is _ c.in-Unsupported.is c.report-in-Unsupported.ensures
 
 pub returns-in-Write : goal.returns-in-Write
 returns-in-Write c =
     let s = c in
-    writes (kept s) s.args.command (given s) _ c.kind-known.ensures _ c.in-Of.is _ _ c.in-Write.is c.accept.ensures
+    writes (kept c.before.before.before.before.before.before.before.before.before.before.before.before.before.before.before.before.before.before.before.before.before.before.before.before.before.before.before.before.before.before) s.args.command (given c.before.before.before.before.before.before.before.before.before.before.before.before.before.before.before.before.before.before.before.before.before.before.before.before.before.before.before.before.before.before) _ c.kind-known.ensures _ c.in-Of.is _ _ c.in-Write.is c.accept.ensures
 
 pub returns-in-Read : goal.returns-in-Read
 returns-in-Read c =
     let s = c in
-    reads (kept s) s.args.command (given s) _ c.kind-known.ensures _ c.in-Of.is _ c.in-Read.is c.accept-in-Read.ensures
+    reads (kept c.before.before.before.before.before.before.before.before.before.before.before.before.before.before.before.before.before.before.before.before.before.before.before.before.before.before.before.before.before.before) s.args.command (given c.before.before.before.before.before.before.before.before.before.before.before.before.before.before.before.before.before.before.before.before.before.before.before.before.before.before.before.before.before.before) _ c.kind-known.ensures _ c.in-Of.is _ c.in-Read.is c.accept-in-Read.ensures

@@ -17,24 +17,24 @@ given s = with_buffers s.args.state s.args.states.now s.args.luts.now (picture s
 pub returns-then-command-eq18 : goal.returns-then-command-eq18
 returns-then-command-eq18 c =
     let s = c in
-    resets (kept s) s.args.command (given s) _ (eq-eqb _ _ c.if-command-eq18.true) c.soft_reset.ensures
+    resets (kept c.before.before.before.before.before.before.before.before.before.before.before) s.args.command (given c.before.before.before.before.before.before.before.before.before.before.before) _ (eq-eqb _ _ c.if-command-eq18.true) c.soft_reset.ensures
 
 pub returns-then-command-eq32 : goal.returns-then-command-eq32
 returns-then-command-eq32 c =
     let s = c in
-    activates (kept s) s.args.command (given s) (ne_eqb _ _ c.if-command-eq18.false) _ (eq-eqb _ _ c.if-command-eq32.true) c.activate.ensures
+    activates (kept c.before.before.before.before.before.before.before.before.before.before.before.before.before.before.before.before.before.before.before.before.before.before.before.before.before.before) s.args.command (given c.before.before.before.before.before.before.before.before.before.before.before.before.before.before.before.before.before.before.before.before.before.before.before.before.before.before) (ne_eqb _ _ c.if-command-eq18.false) _ (eq-eqb _ _ c.if-command-eq32.true) c.activate.ensures
 
 pub returns-then-command-eq40 : goal.returns-then-command-eq40
 returns-then-command-eq40 c =
     let s = c in
-    senses (kept s) s.args.command (given s) (ne_eqb _ _ c.if-command-eq18.false) (ne_eqb _ _ c.if-command-eq32.false) _ (eq-eqb _ _ c.if-command-eq40.true) c.sense_vcom.ensures
+    senses (kept c.before.before.before.before.before.before.before.before.before.before.before.before.before.before.before.before) s.args.command (given c.before.before.before.before.before.before.before.before.before.before.before.before.before.before.before.before) (ne_eqb _ _ c.if-command-eq18.false) (ne_eqb _ _ c.if-command-eq32.false) _ (eq-eqb _ _ c.if-command-eq40.true) c.sense_vcom.ensures
 
 pub returns-then-command : goal.returns-then-command
 returns-then-command c =
     let s = c in
-    points (kept s) s.args.command (given s) (ne_eqb _ _ c.if-command-eq18.false) (ne_eqb _ _ c.if-command-eq32.false) (ne_eqb _ _ c.if-command-eq40.false) _ c.if-command.true c.point.ensures
+    points (kept c.before.before.before.before.before.before.before.before.before.before.before.before.before.before.before.before.before) s.args.command (given c.before.before.before.before.before.before.before.before.before.before.before.before.before.before.before.before.before) (ne_eqb _ _ c.if-command-eq18.false) (ne_eqb _ _ c.if-command-eq32.false) (ne_eqb _ _ c.if-command-eq40.false) _ c.if-command.true c.point.ensures
 
 pub returns : goal.returns
 returns c =
     let s = c in
-    starts_nothing (kept s) s.args.command (given s) (ne_eqb _ _ c.if-command-eq18.false) (ne_eqb _ _ c.if-command-eq32.false) (ne_eqb _ _ c.if-command-eq40.false) c.if-command.false
+    starts_nothing (kept c.before.before.before.before.before.before.before.before.before.before.before.before.before) s.args.command (given c.before.before.before.before.before.before.before.before.before.before.before.before.before) (ne_eqb _ _ c.if-command-eq18.false) (ne_eqb _ _ c.if-command-eq32.false) (ne_eqb _ _ c.if-command-eq40.false) c.if-command.false

@@ -21,7 +21,7 @@ pub finish-finished-requires : goal.finish-finished-requires
 finish-finished-requires c =
     let made = c in
     let test = made in
-    let a = (started test).args in
+    let a = (started c.before.before.before.before.before.before.before.before.before).args in
     let n = length a.states.now in
     let l = length a.luts.now in
     let m = length a.pixels.now in
@@ -43,7 +43,7 @@ returns-then-can_finish c =
     let until = call in
     let made = until in
     let test = made in
-    let s = started test in
+    let s = started c.before.before.before.before.before.before.before.before.before.before.before.before.before.before.before.before.before.before in
     let a = s.args in
     let e = ap (λ (z : ℤ). finishable a.periods.now z (length a.states.now) (length a.luts.now) (length a.pixels.now) (length a.counts.now)) (sym (back s.fits.swing))
     ∙ sym test.can_finish.ensures ∙ test.if-can_finish.true in
@@ -56,7 +56,7 @@ returns-then-can_finish c =
 
 pub returns : goal.returns
 returns c =
-    let s = started c in
+    let s = started c.before.before in
     let a = s.args in
     let e = ap (λ (z : ℤ). finishable a.periods.now z (length a.states.now) (length a.luts.now) (length a.pixels.now) (length a.counts.now)) (sym (back s.fits.swing))
     ∙ sym c.can_finish.ensures ∙ c.if-can_finish.false in

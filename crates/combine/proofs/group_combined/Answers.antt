@@ -29,7 +29,7 @@ once_is d g e = ap (λ (n : ℕ). joined n (λ k. four_in d g)) (sym e)
 abbrev group_at : (c : Start) → Group
 group_at c = timed_group c.args.setting.now c.args.frame_period.now c.args.group
 
-repeats_are : (c : After-repeats-repeats) → c.repeats-repeats.result ≡ (group_at c).repeats
+repeats_are : (c : After-repeats-repeats) → c.repeats-repeats.result ≡ (group_at c.before).repeats
 unfolding group_codes_of
 repeats_are c = c.repeats-repeats.ensures
 
@@ -45,12 +45,12 @@ returns-then-once c =
     let a = ran.args in
     let d = a.driving in
     let t = a.transfer in
-    let g = group_at ran in
+    let g = group_at c.before.before.before.before.before in
     let from = call.start-start.ensures ∙ ap (λ (b : Bool). pick b t (identity_t (rd d.swing))) c.if-once.true in
-    walk_extends d (swing_in told) (group_in d g) t _
+    walk_extends d (swing_in c.before.before.before) (group_in d g) t _
     (call.pass-passed.ensures
     ∙ ap (λ (u : Transfer). foldl (whole_step d) u (four_in d g)) from
-    ∙ ap (foldl (whole_step d) t) (once_is d g (sym (repeats_are ran) ∙ eqb-true _ _ c.if-once.true)))
+    ∙ ap (foldl (whole_step d) t) (once_is d g (sym (repeats_are c.before.before.before.before) ∙ eqb-true _ _ c.if-once.true)))
 
 pub repeated-requires : goal.repeated-requires
 repeated-requires c = tt
@@ -63,11 +63,11 @@ returns c =
     let ran = told in
     let a = ran.args in
     let d = a.driving in
-    let w = swing_in told in
-    let four = four_in d (group_at ran) in
+    let w = swing_in c.before.before.before.before in
+    let four = four_in d (group_at c.before.before.before.before.before.before) in
     let from = call.start-start.ensures ∙ ap (λ (b : Bool). pick b a.transfer (identity_t (rd d.swing))) test.if-once.false ∙ ap identity_t (field_back d.swing told.struct_told-1.given.1.1.0.1) in
     let once = (walk_extends d w four _ _ call.pass-passed.ensures).acts (λ x. x) (start_acts d w from) in
-    let many = subst (λ (n : ℕ). Repeated a.transfer call.pass-passed.result n c.repeated.result) (repeats_are ran) c.repeated.ensures in
+    let many = subst (λ (n : ℕ). Repeated a.transfer call.pass-passed.result n c.repeated.result) (repeats_are c.before.before.before.before.before) c.repeated.ensures in
     record {
-      acts = λ f h. acts_as (swing_in d) w.room (λ x l. drive_again d (group_at ran).repeats four (f x)) (many.acts (swing_in d) w.room _ f h once);
+      acts = λ f h. acts_as (swing_in d) w.room (λ x l. drive_again d (group_at c.before.before.before.before.before.before).repeats four (f x)) (many.acts (swing_in d) w.room _ f h once);
     }

@@ -33,7 +33,7 @@ returns-in-Whole c =
     let a = s.args in
     let black = a.positive_drives_black in
     let swing = back s.ranges.swing in
-    let whole = c.in-Whole.is in record { value = c.transfer_whole.ensures.value ∙ ap (λ (z : ℤ). settled (whole_of (decoded s) a.drive z black)) swing ∙ sym (ap (combined_of (decoded s) a.drive a.swing black) whole); alike = λ z. c.transfer_whole.ensures.alike z ∙ ap (λ (y : ℤ). apply_t (whole_of (decoded s) a.drive y black) z) swing ∙ sym (ap (λ (u : Until). apply_t (transfer_of (decoded s) a.drive a.swing black u) z) whole) }
+    let whole = c.in-Whole.is in record { value = c.transfer_whole.ensures.value ∙ ap (λ (z : ℤ). settled (whole_of (decoded c.before.before.before) a.drive z black)) swing ∙ sym (ap (combined_of (decoded c.before.before.before) a.drive a.swing black) whole); alike = λ z. c.transfer_whole.ensures.alike z ∙ ap (λ (y : ℤ). apply_t (whole_of (decoded c.before.before.before) a.drive y black) z) swing ∙ sym (ap (λ (u : Until). apply_t (transfer_of (decoded c.before.before.before) a.drive a.swing black u) z) whole) }
 
 pub returns-in-Cut : goal.returns-in-Cut
 returns-in-Cut c =
@@ -44,4 +44,4 @@ returns-in-Cut c =
     let known = call.until-1.given in
     let e =
     c.transfer_cut.ensures
-    ∙ (λ i. cut_of (call.from_setting-decoded.ensures i) a.drive (back s.ranges.swing i) black known.0.0) in record { value = e ∙ sym (ap (combined_of (decoded s) a.drive a.swing black) known.1); alike = λ z. ap (λ (t : Transfer). apply_t t z) (e ∙ sym (ap (transfer_of (decoded s) a.drive a.swing black) known.1)) }
+    ∙ (λ i. cut_of (call.from_setting-decoded.ensures i) a.drive (back s.ranges.swing i) black known.0.0) in record { value = e ∙ sym (ap (combined_of (decoded c.before.before.before.before.before) a.drive a.swing black) known.1); alike = λ z. ap (λ (t : Transfer). apply_t t z) (e ∙ sym (ap (transfer_of (decoded c.before.before.before.before.before) a.drive a.swing black) known.1)) }

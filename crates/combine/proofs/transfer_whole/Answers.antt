@@ -34,7 +34,7 @@ driving s levels swing = record { levels = levels; drive = s.args.drive; swing =
 
 -- the same as the machine reads them
 abbrev machine : After-from_setting-levels → Driving
-machine c = driving c c.from_setting-levels.result (rd c.args.swing)
+machine c = driving c.before c.from_setting-levels.result (rd c.args.swing)
 
 swings : (s : Start → Swing s.args.swing
 swings s = swing_is s.ranges.swing s.requires.1
@@ -45,8 +45,8 @@ swings_in s = subst Swing (sym (back s.ranges.swing)) (swings s)
 pub loop-k-init : goal.loop-k-init
 loop-k-init c =
     let s = c in
-    let d = machine c in
-    let w = swings_in s in (
+    let d = machine c.before in
+    let w = swings_in c.before.before in (
       omega arith,
       acts_as (swing_in d) w.room (λ x h. drive_none d (of d s.args.setting.now s.args.frame_period.now) x) (start_acts d w c.identity-moved.ensures),
     )
@@ -71,8 +71,8 @@ loop-k-preserved c =
     let l = test in
     let made = l in
     let s = made in
-    let d = machine made in
-    let w = swings_in s in
+    let d = machine c.before.before.before.before.before in
+    let w = swings_in c.before.before.before.before.before.before in
     let k = l.loop-k.k in
     let bytes = s.args.setting.now in
     let periods = s.args.frame_period.now in
@@ -99,14 +99,14 @@ returns c =
     let bytes = a.setting.now in
     let periods = a.frame_period.now in
     let whole = waveform_of bytes periods in
-    let w = swings s in
+    let w = swings c.before.before.before.before.before in
     let d = driving_of whole a.drive a.swing black in
     let ps = phases_of whole a.drive in
     let r = l.loop-k.moved in
     let walk = whole_of whole a.drive a.swing black in
     let walked : ActsAs (swing_in d) walk (driven_by d ps) = walk_acts d w ps (identity_t a.swing) (λ x. x) (start_acts d w refl) in
     let all : l.loop-k.k ≡ 10 = omega arith in
-    let acts : Levels → ℤ → ℕ → Type 0 = λ levels swing k. ActsAs (nat_abs swing) r (driven_by (driving s levels swing) (joined k (of (driving s levels swing) bytes periods))) in
+    let acts : Levels → ℤ → ℕ → Type 0 = λ levels swing k. ActsAs (nat_abs swing) r (driven_by (driving c.before.before.before.before.before levels swing) (joined k (of (driving c.before.before.before.before.before levels swing) bytes periods))) in
     let combined : ActsAs (swing_in d) r (driven_by d ps) =
     subst (λ (z : ℤ). acts whole.levels z 10) (back s.ranges.swing)
     (subst (λ (v : Levels). acts v (rd a.swing) 10) made.from_setting-levels.ensures

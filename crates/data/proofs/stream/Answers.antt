@@ -19,7 +19,7 @@ returns-then-put c =
     let r = s.args.red.now in
     let is = c.in-Active.is in
     let found = c.put.ensures in
-    let y = sym c.if-put.true ∙ streams s.args.byte d b r d.bus.current _ _ is c.is_stream.ensures _ c.if-is_stream.true found.value in record { done_value = y; by_index = λ (l : List ℕ). streamed_as s.args.byte d b r d.bus.current _ (given s l) y refl (stream_is s.args.byte (given s l) _ d.bus.current _ _ is c.is_stream.ensures c.if-is_stream.true (puts s.args.byte _ (given s l) _ _ _ found.value found.black_white_after found.red_after _ _ _ _ c.if-put.true c.advanced-counter.ensures c.count-next.ensures c.set_current-after.ensures refl)) }
+    let y = sym c.if-put.true ∙ streams s.args.byte d b r d.bus.current _ _ is c.is_stream.ensures _ c.if-is_stream.true found.value in record { done_value = y; by_index = λ (l : List ℕ). streamed_as s.args.byte d b r d.bus.current _ (given c.before.before.before.before.before.before.before.before.before.before.before.before.before.before.before.before.before.before.before.before.before.before.before l) y refl (stream_is s.args.byte (given c.before.before.before.before.before.before.before.before.before.before.before.before.before.before.before.before.before.before.before.before.before.before.before l) _ d.bus.current _ _ is c.is_stream.ensures c.if-is_stream.true (puts s.args.byte _ (given c.before.before.before.before.before.before.before.before.before.before.before.before.before.before.before.before.before.before.before.before.before.before.before l) _ _ _ found.value found.black_white_after found.red_after _ _ _ _ c.if-put.true c.advanced-counter.ensures c.count-next.ensures c.set_current-after.ensures refl)) }
 
 pub returns-then-is_stream : goal.returns-then-is_stream
 returns-then-is_stream c =
@@ -30,7 +30,7 @@ returns-then-is_stream c =
     let is = c.in-Active.is in
     let found = c.put.ensures in
     let n = sym c.if-put.false ∙ streams s.args.byte d b r d.bus.current _ _ is c.is_stream.ensures _ c.if-is_stream.true found.value in
-    let k = stays s.args.byte c.in-Active.active (given s []) _ _ _ found.value found.black_white_after found.red_after c.if-put.false in let whole = leaves s.args.byte d b r d.bus.current _ _ _ c.left.ensures n k.0 k.1 in record { done_value = whole.0; by_index = whole.1 }
+    let k = stays s.args.byte c.in-Active.active (given c.before.before.before.before.before.before.before.before.before.before.before.before.before.before.before.before.before.before.before []) _ _ _ found.value found.black_white_after found.red_after c.if-put.false in let whole = leaves s.args.byte d b r d.bus.current _ _ _ c.left.ensures n k.0 k.1 in record { done_value = whole.0; by_index = whole.1 }
 
 pub returns-else-is_stream : goal.returns-else-is_stream
 returns-else-is_stream c =

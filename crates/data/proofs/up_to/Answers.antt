@@ -9,7 +9,7 @@ abbrev given : Start → WithRam
 given s = with_ram s.args.state s.args.black_white.now s.args.red.now s.args.log.now
 
 pub returns-then-index-most : goal.returns-then-index-most
-returns-then-index-most c = let s = c in takes s.args.active (given s) s.args.most s.args.byte _ _ c.if-index-most.true c.parameter-taken.ensures c.go_on.ensures
+returns-then-index-most c = let s = c in takes s.args.active (given c.before.before.before.before.before.before.before.before.before.before.before.before.before.before.before.before) s.args.most s.args.byte _ _ c.if-index-most.true c.parameter-taken.ensures c.go_on.ensures
 
 pub returns : goal.returns
-returns c = let s = c in takes_not s.args.active (given s) s.args.most s.args.byte _ c.if-index-most.false (c.take_surplus.ensures s.args.black_white.now s.args.red.now)
+returns c = let s = c in takes_not s.args.active (given c.before.before.before.before.before.before.before.before.before) s.args.most s.args.byte _ c.if-index-most.false (c.take_surplus.ensures s.args.black_white.now s.args.red.now)

@@ -15,31 +15,31 @@ unfolding dispatched
 returns-in-Command c =
     let s = c in
     rw c.silent.ensures
-    (ap (tells buffers_in_world (given s)) c.write_command.ensures ∙ ap (dispatched s.args.otp.now (given s)) (sym c.in-Command.is))
+    (ap (tells buffers_in_world (given c.before.before.before.before.before.before.before.before.before.before.before.before.before.before.before.before.before.before.before.before.before.before.before.before.before.before.before.before)) c.write_command.ensures ∙ ap (dispatched s.args.otp.now (given c.before.before.before.before.before.before.before.before.before.before.before.before.before.before.before.before.before.before.before.before.before.before.before.before.before.before.before.before)) (sym c.in-Command.is))
 
 pub returns-in-Data : goal.returns-in-Data
 unfolding dispatched
 returns-in-Data c =
     let s = c in
     rw c.silent-in-Data.ensures
-    (ap (tells planes_in_world (given s)) c.write_data.ensures ∙ ap (dispatched s.args.otp.now (given s)) (sym c.in-Data.is))
+    (ap (tells planes_in_world (given c.before.before.before.before.before.before.before.before.before.before.before.before.before.before.before.before.before.before.before.before.before.before.before.before.before.before.before.before.before.before.before)) c.write_data.ensures ∙ ap (dispatched s.args.otp.now (given c.before.before.before.before.before.before.before.before.before.before.before.before.before.before.before.before.before.before.before.before.before.before.before.before.before.before.before.before.before.before.before)) (sym c.in-Data.is))
 
 pub returns-in-Read : goal.returns-in-Read
 unfolding dispatched
 returns-in-Read c =
     let s = c in
-    ap (tells_read (given s)) c.read_data.ensures ∙ ap (dispatched s.args.otp.now (given s)) (sym c.in-Read.is)
+    ap (tells_read (given c.before.before.before.before.before.before.before.before.before.before.before.before.before.before.before.before.before.before.before.before.before.before.before.before)) c.read_data.ensures ∙ ap (dispatched s.args.otp.now (given c.before.before.before.before.before.before.before.before.before.before.before.before.before.before.before.before.before.before.before.before.before.before.before.before)) (sym c.in-Read.is)
 
 pub returns-in-Reset : goal.returns-in-Reset
 unfolding dispatched
 returns-in-Reset c =
     let s = c in
     rw c.silent-in-Reset.ensures
-    (ap (tells glass_log_in_world (given s)) c.set_reset.ensures ∙ ap (dispatched s.args.otp.now (given s)) (sym c.in-Reset.is))
+    (ap (tells glass_log_in_world (given c.before.before.before.before.before.before.before.before.before.before.before.before.before.before.before.before.before.before.before.before.before.before.before.before.before)) c.set_reset.ensures ∙ ap (dispatched s.args.otp.now (given c.before.before.before.before.before.before.before.before.before.before.before.before.before.before.before.before.before.before.before.before.before.before.before.before.before)) (sym c.in-Reset.is))
 
 pub returns-in-Advance : goal.returns-in-Advance
 unfolding dispatched
 returns-in-Advance c =
     let s = c in
     rw c.silent-in-Advance.ensures
-    (ap (tells glass_in_world (given s)) c.advance.ensures ∙ ap (dispatched s.args.otp.now (given s)) (sym c.in-Advance.is))
+    (ap (tells glass_in_world (given c.before.before.before.before.before.before.before.before.before.before.before.before.before.before.before.before.before.before.before.before.before.before)) c.advance.ensures ∙ ap (dispatched s.args.otp.now (given c.before.before.before.before.before.before.before.before.before.before.before.before.before.before.before.before.before.before.before.before.before.before)) (sym c.in-Advance.is))

@@ -63,11 +63,11 @@ pub fill-requires : goal.fill-requires
 fill-requires c =
     let all = c in
     let found = all in
-    (all.if-out-ne-SETTING_BYTES.false, record { passes = writable all; found = found.find_codes-codes.ensures.codes })
+    (all.if-out-ne-SETTING_BYTES.false, record { passes = writable c.before; found = found.find_codes-codes.ensures.codes })
 
 pub returns : goal.returns
 returns c =
     let all = c in
     let tested = all in
     let s = start tested in
-    let e = c.fill.ensures in record { bytes = all_written s.args.sheet s.args.out.now _ all.if-out-ne-SETTING_BYTES.false (writable all) e; back = λ _. ap sheet_of e ∙ sheet_back s.args.sheet (formed tested) (writable all) }
+    let e = c.fill.ensures in record { bytes = all_written s.args.sheet s.args.out.now _ all.if-out-ne-SETTING_BYTES.false (writable c.before.before.before.before.before) e; back = λ _. ap sheet_of e ∙ sheet_back s.args.sheet (formed tested) (writable c.before.before.before.before.before) }

@@ -21,12 +21,12 @@ pub advance-present-requires : goal.advance-present-requires
 advance-present-requires c =
     let p = c in
     let a = p in
-    let s = started a in
+    let s = started c.before.before.before.before.before in
     read_ready s.args.luts.now s.args.black_white.now s.args.red.now s.args.time (given s) _ _ _ a.planes_log_lent-lengths.ensures a.check-refusal.ensures a.is_accepted.ensures p.if-is_accepted.true
 
 pub read-reading-requires : goal.read-reading-requires
 read-reading-requires c =
-    let p = passed c in
+    let p = passed c.before.before.before.before.before.before.before in
     let a = p.before in
     let s = started a in
     read_log s.args.luts.now s.args.black_white.now s.args.red.now s.args.time (given s) _ _ _ a.before.before.planes-log-lent.ensures a.before.check.ensures a.is-accepted.ensures p.if1.taken
@@ -34,7 +34,7 @@ read-reading-requires c =
 pub returns-then-is_accepted : goal.returns-then-is_accepted
 returns-then-is_accepted c =
     let advanced = c in
-    let p = passed advanced in
+    let p = passed c.before.before.before.before.before.before.before.before.before.before.before in
     let a = p.before in
     let s = started a in
     read_moves s.args.luts.now s.args.black_white.now s.args.red.now s.args.time (given s) _ _ _ a.before.before.planes-log-lent.ensures a.before.check.ensures a.is-accepted.ensures _ _ p.if1.taken advanced.advance-present.ensures c.read-reading.ensures
@@ -42,5 +42,5 @@ returns-then-is_accepted c =
 pub returns : goal.returns
 returns c =
     let a = c in
-    let s = started a in
+    let s = started c.before.before in
     read_refused s.args.luts.now s.args.black_white.now s.args.red.now s.args.time (given s) _ _ _ a.planes_log_lent-lengths.ensures a.check-refusal.ensures a.is_accepted.ensures c.if-is_accepted.false

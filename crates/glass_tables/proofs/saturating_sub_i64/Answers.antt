@@ -17,7 +17,7 @@ returns-then-b-a c =
     let b = s.args.b in
     let fa = ranged s.ranges.a in
     let fb = ranged s.ranges.b in
-    let fd = ranged (overflow_add-b c) in
+    let fd = ranged (overflow_add-b c.before) in
     sym (clamp_high (a -ℤ b) least most (omega (whole, sub_out a b, add_out most (rd b))) (omega (whole, sub_out a b, add_out most (rd b))))
 
 pub overflow_sub-result : goal.overflow_sub-result
@@ -29,7 +29,7 @@ overflow_sub-result c =
       ranged s.ranges.b,
       sub_out (rd s.args.a) (rd s.args.b),
       add_out most (rd s.args.b),
-      ranged (overflow_add-b c),
+      ranged (overflow_add-b c.before),
     ))
 
 pub returns-then-b-lt0 : goal.returns-then-b-lt0
@@ -47,7 +47,7 @@ overflow_sub-result-else-a-b c =
       ranged s.ranges.b,
       sub_out (rd s.args.a) (rd s.args.b),
       add_out least (rd s.args.b),
-      ranged (overflow_add-b-2 c),
+      ranged (overflow_add-b-2 c.before),
     ))
 
 pub returns-then-a-b : goal.returns-then-a-b
@@ -57,7 +57,7 @@ returns-then-a-b c =
     let b = s.args.b in
     let fa = ranged s.ranges.a in
     let fb = ranged s.ranges.b in
-    let fd = ranged (overflow_add-b-2 c) in
+    let fd = ranged (overflow_add-b-2 c.before) in
     sym (clamp_low (a -ℤ b) least most (omega (whole, sub_out a b, add_out least (rd b))))
 
 pub returns-else-a-b : goal.returns-else-a-b

@@ -25,7 +25,7 @@ moved c = c.before.before.before.before.before.before
 pub returns-then-step : goal.returns-then-step
 returns-then-step c =
     let k = c in
-    let m = moved k in
+    let m = moved c.before.before.before.before.before.before.before.before.before in
     let p = passed m in
     let a = p.before in
     let s = started a in
@@ -34,7 +34,7 @@ returns-then-step c =
 pub write_other-state-requires : goal.write_other-state-requires
 write_other-state-requires c =
     let k = c in
-    let m = moved k in
+    let m = moved c.before.before.before.before.before.before.before.before.before in
     let p = passed m in
     let a = p.before in
     let s = started a in record { log_len = data_log s.args.luts.now s.args.time s.args.byte (given s) _ _ _ a.before.before.planes-log-lent.ensures a.before.check.ensures a.is-accepted.ensures p.if1.taken; current_value = still_not s.args.byte m.move-clock.result s.args.black_white.now s.args.red.now k.stream-step.result k.stream-step.new.black_white k.stream-step.new.red k.stream-step.ensures.done_value k.stream-step.ensures.by_index c.if-step.false }
@@ -42,7 +42,7 @@ write_other-state-requires c =
 pub returns-then-is_quiet : goal.returns-then-is_quiet
 returns-then-is_quiet c =
     let k = c in
-    let m = moved k in
+    let m = moved c.before.before.before.before.before.before.before.before.before.before.before.before.before.before.before.before in
     let p = passed m in
     let a = p.before in
     let s = started a in
@@ -52,25 +52,25 @@ pub advance-present-requires : goal.advance-present-requires
 advance-present-requires c =
     let p = c in
     let a = p in
-    let s = started a in
+    let s = started c.before.before.before.before.before.before.before.before in
     data_ready s.args.luts.now s.args.time s.args.byte (given s) _ _ _ a.planes_log_lent-lengths.ensures a.check-refusal.ensures a.is_accepted.ensures p.if-is_accepted.true
 
 pub write-state-requires : goal.write-state-requires
 write-state-requires c =
     let p = c in
     let a = p in
-    let s = started a in
+    let s = started c.before.before.before.before.before.before.before.before.before.before.before.before.before.before.before.before.before in
     data_log s.args.luts.now s.args.time s.args.byte (given s) _ _ _ a.planes_log_lent-lengths.ensures a.check-refusal.ensures a.is_accepted.ensures p.if-is_accepted.true
 
 pub returns-then-is_accepted : goal.returns-then-is_accepted
 returns-then-is_accepted c =
     let p = c in
     let a = p in
-    let s = started a in
+    let s = started c.before.before.before.before.before.before.before.before.before.before.before.before.before.before.before.before.before.before.before.before.before.before.before.before in
     data_moves s.args.luts.now s.args.time s.args.byte (given s) _ _ _ a.planes_log_lent-lengths.ensures a.check-refusal.ensures a.is_accepted.ensures _ _ p.if-is_accepted.true c.advance-present.ensures c.write-state.ensures
 
 pub returns : goal.returns
 returns c =
     let a = c in
-    let s = started a in
+    let s = started c.before.before in
     data_refused s.args.luts.now s.args.time s.args.byte (given s) _ _ _ a.planes_log_lent-lengths.ensures a.check-refusal.ensures a.is_accepted.ensures c.if-is_accepted.false

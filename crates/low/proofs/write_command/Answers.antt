@@ -55,7 +55,7 @@ returns c =
     let tested = c in
     let checked = tested in
     let lengths = checked in
-    let s = start lengths in
+    let s = start c.before.before.before.before.before in
     command_refused (kept s) s.args.time s.args.command (given s) _ _ _
     lengths.all_lent-lengths.ensures
     checked.check_with_table-refusal.ensures

@@ -46,4 +46,4 @@ returns c =
     let s = c in
     let entry = c.in-At.entry in
     let e : 118 * entry + 118 - 118 * entry ≡ 118 = omega arith in
-    (rw e (ap (part_of s.args.otp.now) (sym (told c))), ap place_of (sym (told c)))
+    (rw e (ap (part_of s.args.otp.now) (sym (told c.before.before))), ap place_of (sym (told c.before.before)))

@@ -21,7 +21,7 @@ pub returns : goal.returns
 unfolding panel_at_power_on
 returns c =
     let a = c.args in
-    let s = swing c in
+    let s = swing c.before in
     let b = got c.level-border.type_inv c.level-border.ensures ∙ ap (level_z a.optics.initial_gray) s in
     λ i. record {
       swing = s i;

@@ -18,9 +18,9 @@ finish_cut-requires c =
 pub returns-then-display-state : goal.returns-then-display-state
 returns-then-display-state c =
     let s = c in
-    cuts s.args.luts.now (given s) _ _ c.if-display-state.true c.report-noted.ensures c.finish_cut.ensures
+    cuts s.args.luts.now (given c.before.before.before.before.before.before.before.before.before.before.before.before.before.before.before.before.before.before.before.before.before.before.before) _ _ c.if-display-state.true c.report-noted.ensures c.finish_cut.ensures
 
 pub returns : goal.returns
 returns c =
     let s = c in
-    drops s.args.luts.now (given s) _ _ c.if-display-state.false c.stop-off.ensures c.set_display.ensures
+    drops s.args.luts.now (given c.before.before.before.before.before.before.before.before.before.before.before.before) _ _ c.if-display-state.false c.stop-off.ensures c.set_display.ensures

@@ -27,7 +27,7 @@ loop-i-init c =
     let s = c in
     let n = c.shorter-count.result in
     let all : n - 0 ≡ n = omega arith in
-    (ap (λ (k : ℕ). feeding (step s) k 0 (given s)) all, search rules)
+    (ap (λ (k : ℕ). feeding (step c.before.before.before.before.before.before.before.before.before.before.before.before.before.before) k 0 (given c.before.before.before.before.before.before.before.before.before.before.before.before.before.before)) all, search rules)
 
 pub turn-fed-requires : goal.turn-fed-requires
 turn-fed-requires c =
@@ -63,10 +63,10 @@ returns-then-not-is_accepted c =
     let n = m.shorter-count.result in
     let t = c.turn-fed in
     let f = t.result in
-    sym (ended_there (step s) n f.refusal f.made _ (sym c.is_accepted.ensures ∙ not-true _ c.if-not-is_accepted.true))
+    sym (ended_there (step c.before.before.before.before.before.before.before.before.before.before.before.before.before.before.before.before.before.before.before.before.before.before.before.before.before.before.before.before.before.before.before.before.before.before.before.before.before.before.before) n f.refusal f.made _ (sym c.is_accepted.ensures ∙ not-true _ c.if-not-is_accepted.true))
     ∙ t.ensures.log_after
     ∙ m.loop-i.invariant.0
-    ∙ ap (λ (k : ℕ). feeding (step s) k 0 (given s)) (m.shorter-count.ensures ∙ ap (min (length s.args.kinds.now)) m.shorter.ensures)
+    ∙ ap (λ (k : ℕ). feeding (step c.before.before.before.before.before.before.before.before.before.before.before.before.before.before.before.before.before.before.before.before.before.before.before.before.before.before.before.before.before.before.before.before.before.before.before.before.before.before.before) k 0 (given c.before.before.before.before.before.before.before.before.before.before.before.before.before.before.before.before.before.before.before.before.before.before.before.before.before.before.before.before.before.before.before.before.before.before.before.before.before.before.before)) (m.shorter-count.ensures ∙ ap (min (length s.args.kinds.now)) m.shorter.ensures)
 
 pub loop-i-smaller : goal.loop-i-smaller
 loop-i-smaller c =
@@ -81,7 +81,7 @@ loop-i-preserved c =
     let t = c.turn-fed in
     let f = t.result in
     let a = sym c.is_accepted.ensures ∙ not-false _ c.if-not-is_accepted.false in (
-      sym (ended_on (step s) n f.refusal f.made _ a) ∙ t.ensures.log_after ∙ m.loop-i.invariant.0,
+      sym (ended_on (step c.before.before.before.before.before.before.before.before.before.before.before.before.before.before.before.before.before.before.before.before.before.before.before.before.before.before.before.before.before.before.before.before.before.before.before.before.before.before.before.before) n f.refusal f.made _ a) ∙ t.ensures.log_after ∙ m.loop-i.invariant.0,
       (
         t.auto.states ∙ m.loop-i.invariant.1.0,
         t.auto.luts ∙ m.loop-i.invariant.1.1,
@@ -122,5 +122,5 @@ returns c =
     let w = world m.loop-i.next m.loop-i.states m.loop-i.luts (picture m.loop-i.pixels m.loop-i.counts) m.loop-i.black_white m.loop-i.red s.args.gates.now m.loop-i.log in
     let n = m.shorter-count.result in
     let none : n - m.loop-i.i ≡ 0 = omega (arith, c.loop-i-test.false) in
-    fed_all (step s) n m.loop-i.i (feeding (step s) n 0 (given s)) w none m.loop-i.invariant.0
-    ∙ ap (λ (k : ℕ). feeding (step s) k 0 (given s)) (m.shorter-count.ensures ∙ ap (min (length s.args.kinds.now)) m.shorter.ensures)
+    fed_all (step c.before.before.before.before.before.before.before.before.before.before.before.before.before.before.before.before) n m.loop-i.i (feeding (step c.before.before.before.before.before.before.before.before.before.before.before.before.before.before.before.before) n 0 (given c.before.before.before.before.before.before.before.before.before.before.before.before.before.before.before.before)) w none m.loop-i.invariant.0
+    ∙ ap (λ (k : ℕ). feeding (step c.before.before.before.before.before.before.before.before.before.before.before.before.before.before.before.before) k 0 (given c.before.before.before.before.before.before.before.before.before.before.before.before.before.before.before.before)) (m.shorter-count.ensures ∙ ap (min (length s.args.kinds.now)) m.shorter.ensures)

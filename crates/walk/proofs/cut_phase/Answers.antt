@@ -31,11 +31,11 @@ returns-then-until-end c =
     let a = c in
     let some = a.if-phase-eq0.false in
     let going = a.if-progress.false in
-    let s = (start a).args in
+    let s = (start c.before.before.before).args in
     let p = s.lasting.step.phase in
     c.cut_short.ensures
-    ∙ (λ i. phase_cut s.driving p (c.saturating_sub_u64-left.ensures i) (end_is a i) s.progress.transfer)
-    ∙ sym (step_short s.driving s.until s.progress p going (omega (arith, c.if-until-end.true, end_is a)))
+    ∙ (λ i. phase_cut s.driving p (c.saturating_sub_u64-left.ensures i) (end_is c.before.before.before i) s.progress.transfer)
+    ∙ sym (step_short s.driving s.until s.progress p going (omega (arith, c.if-until-end.true, end_is c.before.before.before)))
     ∙ ap (foldl (cut_step s.driving s.until) s.progress) (sym (driven_some p some))
 
 pub returns : goal.returns
@@ -43,8 +43,8 @@ returns c =
     let a = c in
     let some = a.if-phase-eq0.false in
     let going = a.if-progress.false in
-    let s = (start a).args in
+    let s = (start c.before.before).args in
     let p = s.lasting.step.phase in
-    (λ i. record { transfer = (c.whole_step-moved.ensures ∙ ready_step s.driving s.lasting s.progress.transfer (start a).requires some) i; elapsed = end_is a i; stopped = false })
-    ∙ sym (step_on s.driving s.until s.progress p going (omega (arith, c.if-until-end.false, end_is a)))
+    (λ i. record { transfer = (c.whole_step-moved.ensures ∙ ready_step s.driving s.lasting s.progress.transfer (start c.before.before).requires some) i; elapsed = end_is c.before.before i; stopped = false })
+    ∙ sym (step_on s.driving s.until s.progress p going (omega (arith, c.if-until-end.false, end_is c.before.before)))
     ∙ ap (foldl (cut_step s.driving s.until) s.progress) (sym (driven_some p some))

@@ -34,7 +34,7 @@ gray-requires c =
 pub bounds-pixels-i : goal.bounds-pixels-i
 bounds-pixels-i c =
     let s = c in
-    omega (arith, c.loop-i.invariant.long, long s)
+    omega (arith, c.loop-i.invariant.long, long c.before.before.before.before.before)
 
 pub overflow_step-i : goal.overflow_step-i
 overflow_step-i c = omega arith
@@ -46,7 +46,7 @@ pub loop-i-preserved : goal.loop-i-preserved
 loop-i-preserved c =
     let s = c in
     painted_more c.loop-i.invariant
-    (omega (arith, long s))
+    (omega (arith, long c.before.before.before.before.before))
     (c.gray.ensures ∙ ap (λ (z : ℤ). gray_z z (rd s.args.swing)) (field_back _ c.gray-arg-1.given))
 
 pub shape_of-pixels : goal.shape_of-pixels
@@ -56,7 +56,7 @@ pub returns : goal.returns
 unfolding grays
 returns c =
     let s = c in
-    let n = long s in
+    let n = long c.before.before.before in
     painted_all c.loop-i.invariant (omega (arith, n))
     ∙ ap (λ (k : ℕ). tab k (λ i. gray_z (get_or s.args.states.now i (pos 0)) (rd s.args.swing))) n
     ∙ ap (λ (z : ℤ). tab (length s.args.states.now) (λ i. gray_z (get_or s.args.states.now i (pos 0)) z)) (back s.ranges.swing)

@@ -19,7 +19,7 @@ pub overflow_add-lut : goal.overflow_add-lut
 overflow_add-lut c = omega (arith, lut_below c)
 
 pub bounds-setting-lut : goal.bounds-setting-lut
-bounds-setting-lut c = omega (arith, lut_below c)
+bounds-setting-lut c = omega (arith, lut_below c.before.before)
 
 pub returns-in-Lut : goal.returns-in-Lut
 returns-in-Lut c =
@@ -28,5 +28,5 @@ returns-in-Lut c =
     let a = s.args in
     let codes = codes_of a.setting.now a.group in
     c.code_in.ensures
-    ∙ code_at a.setting.now a.group _ a.phase (lut_below told) s.requires.1
+    ∙ code_at a.setting.now a.group _ a.phase (lut_below c.before.before.before.before) s.requires.1
     ∙ sym (ap (λ (d : Drive). code_for d codes a.phase) told.in-Lut.is)

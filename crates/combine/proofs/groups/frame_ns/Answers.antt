@@ -14,7 +14,7 @@ pub offset_bounds-frame_period-rate : goal.offset_bounds-frame_period-rate
 offset_bounds-frame_period-rate c = omega (arith, below c)
 
 pub bounds-frame_period-rate : goal.bounds-frame_period-rate
-bounds-frame_period-rate c = omega (arith, below c)
+bounds-frame_period-rate c = omega (arith, below c.before.before)
 
 pub returns : goal.returns
 returns c = ap (λ (n : ℕ). get_or c.args.frame_period.now n 0) c.frame_rate_code-rate.ensures

@@ -44,10 +44,10 @@ pub returns : goal.returns
 unfolding phase_of group_codes_of
 returns c =
     let v = c in
-    let s = start v in
+    let s = start c.before.before.before in
     let a = s.args in
     λ i. record {
       frames = c.frames.ensures i;
       frame_ns = c.frame_ns.ensures i;
-      millivolts = (back (overflow_sub-millivolts v) ∙ (λ j. source_is v j -ℤ vcom_is v j)) i;
+      millivolts = (back (overflow_sub-millivolts c.before.before.before) ∙ (λ j. source_is c.before.before.before j -ℤ vcom_is c.before.before.before j)) i;
     }

@@ -45,4 +45,4 @@ returns c =
     let three = c in
     let two = three in
     let one = two in
-    let h = one.args.sheet in record { codes = λ i. record { vsh1 = (one.find_code.ensures ∙ ap (supply_code Vsh1) (field_back h.vsh1 one.struct_told-1.given.1.1.0.1)) i; vsh2 = (two.find_code-2.ensures ∙ ap (supply_code Vsh2) (field_back h.vsh2 two.struct_told-2-1.given.1.1.1.0.1)) i; vsl = (three.find_code-3.ensures ∙ ap (supply_code Vsl) (field_back h.vsl three.struct_told-3-1.given.1.1.1.1.0.1)) i; vcom = (c.find_code-4.ensures ∙ ap (supply_code Vcom) (field_back h.vcom c.struct_told-4-1.given.1.1.1.1.1.0.1)) i; }; formed = formed one }
+    let h = one.args.sheet in record { codes = λ i. record { vsh1 = (one.find_code.ensures ∙ ap (supply_code Vsh1) (field_back h.vsh1 one.struct_told-1.given.1.1.0.1)) i; vsh2 = (two.find_code-2.ensures ∙ ap (supply_code Vsh2) (field_back h.vsh2 two.struct_told-2-1.given.1.1.1.0.1)) i; vsl = (three.find_code-3.ensures ∙ ap (supply_code Vsl) (field_back h.vsl three.struct_told-3-1.given.1.1.1.1.0.1)) i; vcom = (c.find_code-4.ensures ∙ ap (supply_code Vcom) (field_back h.vcom c.struct_told-4-1.given.1.1.1.1.1.0.1)) i; }; formed = formed c.before.before.before.before.before.before.before }

@@ -23,4 +23,4 @@ overflow_cast-step c = record { sfits = omega (arith, exact c, begins c) }
 pub returns : goal.returns
 returns c =
     let s = c in
-    c.gray.ensures ∙ (λ i. gray_z ((back (overflow_cast-step s) ∙ ap pos (exact s)) i) (back s.ranges.swing i))
+    c.gray.ensures ∙ (λ i. gray_z ((back (overflow_cast-step c.before) ∙ ap pos (exact c.before)) i) (back s.ranges.swing i))

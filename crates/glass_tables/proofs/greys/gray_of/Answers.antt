@@ -42,7 +42,7 @@ returns-else-state-lt0 c =
     let n = abs_pos s.args.swing (omega (whole, s.requires.some)) in
     let b = bits_pos s.args.state (omega whole) in
     gray_high s.args.state s.args.swing s.requires.some
-    (is_le s.args.swing s.args.state (omega (whole, abs_back s.ranges.swing, found_is call, ltb-true, c.if-swing-found.true)))
+    (is_le s.args.swing s.args.state (omega (whole, abs_back s.ranges.swing, found_is c.before.before, ltb-true, c.if-swing-found.true)))
 
 -- ---- a state from 0 to the swing
 abbrev start : Else-swing-found → Start
@@ -67,7 +67,7 @@ within : (c : Else-swing-found) → Within c
 within c =
     let s = start c in
     let o = s.pre.some in
-    let e = found_is c in
+    let e = found_is c.before in
     let f = ranged s.fits.state in
     let g = ranged s.fits.swing in
     let v = abs_pos s.args.swing (omega whole) in
@@ -83,7 +83,7 @@ step_lt : (c : Else-swing-found) → x c / 2 ^ k c < 512
 step_lt c = let w = within c in omega (arith, shr_mono (k c) w.below, (start c).requires.steps.few)
 
 pub bounds-firsts-found : goal.bounds-firsts-found
-bounds-firsts-found c = step_lt c
+bounds-firsts-found c = step_lt c.before.before
 
 -- the grey that the state's step begins with
 abbrev l : Else-swing-found → ℕ
@@ -121,33 +121,33 @@ is : (c : Else-swing-found) (g : ℕ) → g ≡ (510 * x c + n c) / (2 * n c) �
 is c g e = let w = within c in e ∙ gray_within (x c) (n c) w.below w.some ∙ (λ i. gray_z (w.state i) (w.swing i))
 
 pub overflow_cast-first : goal.overflow_cast-first
-overflow_cast-first c = record { fits = omega (arith, first_is c, l_lt c) }
+overflow_cast-first c = record { fits = omega (arith, first_is c.before.before.before, l_lt c.before.before.before) }
 
 pub offset_bounds-ends-first : goal.offset_bounds-ends-first
-offset_bounds-ends-first c = record { fits = omega (arith, first_is c, l_lt c) }
+offset_bounds-ends-first c = record { fits = omega (arith, first_is c.before.before.before, l_lt c.before.before.before) }
 
 pub bounds-ends-first : goal.bounds-ends-first
-bounds-ends-first c = omega (arith, first_is c, l_lt c)
+bounds-ends-first c = omega (arith, first_is c.before.before.before.before, l_lt c.before.before.before.before)
 
-next : (c : Then-ends-first) → l c + 1 ≡ (510 * x c + n c) / (2 * n c)
+next : (c : Then-ends-first) → l c.before.before.before.before.before.before + 1 ≡ (510 * x c.before.before.before.before.before.before + n c.before.before.before.before.before.before) / (2 * n c.before.before.before.before.before.before)
 next c =
     let e = c in
-    let w = within e in
-    past (x e) (n e) (k e) w.some (start e).requires.steps.fine (omega (arith, end_is e, c.if-ends-first.true))
+    let w = within c.before.before.before.before.before.before in
+    past (x c.before.before.before.before.before.before) (n c.before.before.before.before.before.before) (k c.before.before.before.before.before.before) w.some (start c.before.before.before.before.before.before).requires.steps.fine (omega (arith, end_is c.before.before.before.before.before.before, c.if-ends-first.true))
 
 pub overflow_add-result : goal.overflow_add-result
 overflow_add-result c =
     let e = c in
-    let w = within e in
-    record { fits = omega (arith, first_is e, next c, within_lt (x e) (n e) w.below w.some) }
+    let w = within c.before.before.before.before.before.before in
+    record { fits = omega (arith, first_is c.before.before.before.before.before.before, next c, within_lt (x c.before.before.before.before.before.before) (n c.before.before.before.before.before.before) w.below w.some) }
 
 pub returns-then-ends-first : goal.returns-then-ends-first
 returns-then-ends-first c =
     let e = c in
-    is e _ (ap (λ (g : ℕ). g + 1) (first_is e) ∙ next c)
+    is c.before.before.before.before.before.before _ (ap (λ (g : ℕ). g + 1) (first_is c.before.before.before.before.before.before) ∙ next c)
 
 pub returns-else-ends-first : goal.returns-else-ends-first
 returns-else-ends-first c =
     let e = c in
-    let w = within e in
-    is e _ (first_is e ∙ before (x e) (n e) (k e) w.some (start e).requires.steps.fine (omega (arith, end_is e, c.if-ends-first.false)))
+    let w = within c.before.before.before.before.before.before in
+    is c.before.before.before.before.before.before _ (first_is c.before.before.before.before.before.before ∙ before (x c.before.before.before.before.before.before) (n c.before.before.before.before.before.before) (k c.before.before.before.before.before.before) w.some (start c.before.before.before.before.before.before).requires.steps.fine (omega (arith, end_is c.before.before.before.before.before.before, c.if-ends-first.false)))

@@ -33,9 +33,9 @@ pub returns-then-positive_drives_black : goal.returns-then-positive_drives_black
 unfolding saturated_drive
 returns-then-positive_drives_black c = let b = c in
     got c.saturating_neg_i64.type_inv
-    (c.saturating_neg_i64.ensures ∙ ap (λ (z : ℤ). sat_z (neg_ℤ z)) (amount b) ∙ ap (λ (t : Bool). negated_if t (product b)) (sym c.if-positive_drives_black.true))
+    (c.saturating_neg_i64.ensures ∙ ap (λ (z : ℤ). sat_z (neg_ℤ z)) (amount c.before.before) ∙ ap (λ (t : Bool). negated_if t (product c.before.before)) (sym c.if-positive_drives_black.true))
 
 pub returns-else-positive_drives_black : goal.returns-else-positive_drives_black
 unfolding saturated_drive
 returns-else-positive_drives_black c = let b = c in
-    amount b ∙ ap (λ (t : Bool). negated_if t (product b)) (sym c.if-positive_drives_black.false)
+    amount c.before ∙ ap (λ (t : Bool). negated_if t (product c.before)) (sym c.if-positive_drives_black.false)

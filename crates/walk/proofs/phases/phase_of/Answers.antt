@@ -30,9 +30,9 @@ overflow_sub-millivolts c =
 pub returns : goal.returns
 unfolding phase_of
 returns c = let v = c in
-    let s = (start v).args in
+    let s = (start c.before.before).args in
     λ i. record {
       frames = c.wide.ensures i;
       frame_ns = s.group.frame_ns;
-      millivolts = (back (overflow_sub-millivolts v) ∙ (λ j. source_is v j -ℤ vcom_is v j)) i;
+      millivolts = (back (overflow_sub-millivolts c.before.before) ∙ (λ j. source_is c.before.before j -ℤ vcom_is c.before.before j)) i;
     }
