@@ -26,8 +26,7 @@ ghost use Rattle.bench.specs.Runs.{run, ran_over, counter_of, window_of, entry_o
 ghost use Rattle.bench.specs.Made.{until_of, numbers_of, geometry_of, scan_of, panel_of, display_of, shown, shown_of};
 
 // The grey of each state.
-#[unsafe(no_mangle)]
-pub extern "C" fn proved_grays(states: &[i64], swing: i64, pixels: &mut [u8]) -> bool
+pub fn proved_grays(states: &[i64], swing: i64, pixels: &mut [u8]) -> bool
     ensures value { result ≡ grayable swing (length states.now) (length pixels.old) }
     ensures pixels_after { pixels.new ≡ pick result (grays swing states.now) pixels.old }
 {
@@ -39,8 +38,7 @@ pub extern "C" fn proved_grays(states: &[i64], swing: i64, pixels: &mut [u8]) ->
 }
 
 // The transfer of a setting's LUT, walked, whole or up to a cut: what it adds, and its two ends.
-#[unsafe(no_mangle)]
-pub extern "C" fn proved_transfer(
+pub fn proved_transfer(
     setting: &[u8; 112],
     periods: &[u64; 16],
     lut: usize,
@@ -63,8 +61,7 @@ pub extern "C" fn proved_transfer(
 }
 
 // The same of a whole display, each group combined with itself: what it adds is 0 where its ends have met.
-#[unsafe(no_mangle)]
-pub extern "C" fn proved_combined(
+pub fn proved_combined(
     setting: &[u8; 112],
     periods: &[u64; 16],
     lut: usize,
@@ -84,8 +81,7 @@ pub extern "C" fn proved_combined(
 }
 
 // The gate of every row, stored in a buffer of any length.
-#[unsafe(no_mangle)]
-pub extern "C" fn proved_gates(
+pub fn proved_gates(
     gates: &mut [u16],
     width: u16,
     height: u16,
@@ -110,8 +106,7 @@ pub extern "C" fn proved_gates(
 }
 
 // The LUT of every pixel.
-#[unsafe(no_mangle)]
-pub extern "C" fn proved_start(
+pub fn proved_start(
     luts: &mut [u8],
     gates: &[u16],
     red: &[u8],
@@ -157,8 +152,7 @@ pub extern "C" fn proved_start(
 }
 
 // The end of a display: the border's state after it, and how often each grey now occurs. The header is that of the image published.
-#[unsafe(no_mangle)]
-pub extern "C" fn proved_finish(
+pub fn proved_finish(
     states: &mut [i64],
     luts: &[u8],
     pixels: &mut [u8],
@@ -212,16 +206,14 @@ pub extern "C" fn proved_finish(
 }
 
 // The auto write of a plane.
-#[unsafe(no_mangle)]
-pub extern "C" fn proved_auto_write(plane: &mut [u8], parameter: u8)
+pub fn proved_auto_write(plane: &mut [u8], parameter: u8)
     ensures { plane.new ≡ auto_written parameter plane.old }
 {
     auto_write::auto_write(&mut plane[..], parameter);
 }
 
 // A run of data bytes; the counter is moved past them.
-#[unsafe(no_mangle)]
-pub extern "C" fn proved_write(
+pub fn proved_write(
     plane: &mut [u8],
     bytes: &[u8],
     counter: &mut [u16; 2],

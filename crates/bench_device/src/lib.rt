@@ -13,8 +13,7 @@ use bench::made;
 
 // A device started and fed with events; how many of them were made. The header is that of the image it then shows. After a refused start
 // none is made.
-#[unsafe(no_mangle)]
-pub extern "C" fn proved_traffic(
+pub fn proved_traffic(
     states: &mut [i64],
     luts: &mut [u8],
     pixels: &mut [u8],
