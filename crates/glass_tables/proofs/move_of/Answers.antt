@@ -1,6 +1,6 @@
 -- `glass_tables::move_of` meets its contract. Assumes nothing.
 use mathlib.Core.Path.{◌≡◌, refl, sym, subst, ◌∙◌}
-use lib.IntN.{ℤ, pos, ◌+ℤ◌, ◌-ℤ◌}
+use lib.IntN.{pos, ◌+ℤ◌, ◌-ℤ◌}
 use Rattle.numbers.specs.Saturation.{sat_z, most}
 use Rattle.numbers.proofs.Lin.{whole, rd, got, field_back}
 use Rattle.numbers.proofs.Hold.{summed}

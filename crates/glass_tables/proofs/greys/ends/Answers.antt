@@ -1,6 +1,6 @@
 -- `glass_tables::greys::ends` meets its contract: after i turns the first i ends are filled. Assumes nothing.
 use mathlib.Core.Path.{ap, ◌∙◌}
-use Prim.Native.Nat.{ℕ, ◌-◌}
+use Prim.Native.Nat.{ℕ}
 use native.Mathlib.Omega.{arith}
 use Rattle.numbers.specs.Lists.{tab}
 use Rattle.numbers.proofs.Lin.{whole, ranged, unsigned, abs_back, abs_pos}

@@ -1,6 +1,6 @@
 -- `glass_tables::greys::firsts` meets its contract: after i turns the first i greys are filled. Assumes nothing.
 use mathlib.Core.Path.{ap, ◌∙◌}
-use Prim.Native.Nat.{◌*◌, ◌-◌, ◌^◌}
+use Prim.Native.Nat.{◌*◌, ◌^◌}
 use native.Mathlib.Omega.{arith}
 use lib.IntN.{ℤ, pos}
 use Rattle.numbers.specs.Lists.{tab}

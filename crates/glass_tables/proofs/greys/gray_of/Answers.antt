@@ -66,17 +66,17 @@ record Within (c : Else-swing-found) : Type 0 where
 within : (c : Else-swing-found) → Within c
 within c =
     let s = start c in
-    let o = s.pre.some in
+    let o = s.requires.some in
     let e = found_is c.before in
-    let f = ranged s.fits.state in
-    let g = ranged s.fits.swing in
+    let f = ranged s.ranges.state in
+    let g = ranged s.ranges.swing in
     let v = abs_pos s.args.swing (omega whole) in
-    let b : x c ≤ n c = omega (arith, abs_back s.fits.swing, ltb-false, c.if-swing-found.false) in
+    let b : x c ≤ n c = omega (arith, abs_back s.ranges.swing, ltb-false, c.if-swing-found.false) in
     record {
       below = b;
       some = omega whole;
       state = ap pos e ∙ bits_within s.args.state (n c) (omega whole) (omega whole) (omega arith);
-      swing = ap pos (sym (abs_back s.fits.swing)) ∙ pos-nat_abs _ (unsigned s.fits.swing (omega whole)).0 ∙ back s.fits.swing;
+      swing = ap pos (sym (abs_back s.ranges.swing)) ∙ pos-nat_abs _ (unsigned s.ranges.swing (omega whole)).0 ∙ back s.ranges.swing;
     }
 
 step_lt : (c : Else-swing-found) → x c / 2 ^ k c < 512
@@ -97,22 +97,22 @@ unfolding firsts_of
 first_is c =
     let s = start c in
     let w = within c in
-    ap (λ (ls : List ℕ). get_or ls (x c / 2 ^ k c) 0) s.pre.firsts_are
+    ap (λ (ls : List ℕ). get_or ls (x c / 2 ^ k c) 0) s.requires.firsts_are
     ∙ get_d_tab 512 (λ step. gray_z (pos (step * 2 ^ k c)) s.args.swing) (x c / 2 ^ k c) 0 (step_lt c)
     ∙ ap (gray_z _) (sym w.swing)
-    ∙ sym (gray_within _ (n c) (let b = first_le (x c) (n c) (k c) w.some s.pre.steps.fine in omega arith) w.some)
+    ∙ sym (gray_within _ (n c) (let b = first_le (x c) (n c) (k c) w.some s.requires.steps.fine in omega arith) w.some)
 
 l_lt : (c : Else-swing-found) → l c < 256
 l_lt c =
     let s = start c in
     let w = within c in
-    within_lt _ (n c) (let b = first_le (x c) (n c) (k c) w.some s.pre.steps.fine in omega arith) w.some
+    within_lt _ (n c) (let b = first_le (x c) (n c) (k c) w.some s.requires.steps.fine in omega arith) w.some
 
 end_is : (c : Else-swing-found) → get_or (start c).args.ends.now (first c) 0 ≡ grey_end (n c) (l c)
 unfolding ends_of
 end_is c =
     let s = start c in
-    ap (λ (es : List ℕ). get_or es (first c) 0) s.pre.ends_are
+    ap (λ (es : List ℕ). get_or es (first c) 0) s.requires.ends_are
     ∙ ap (λ (g : ℕ). get_or (tab 256 (grey_end (n c))) g 0) (first_is c)
     ∙ get_d_tab 256 (grey_end (n c)) (l c) 0 (l_lt c)
 
