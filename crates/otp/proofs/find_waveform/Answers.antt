@@ -46,4 +46,5 @@ returns c =
     let s = c in
     let entry = c.in-At.entry in
     let e : 118 * entry + 118 - 118 * entry ≡ 118 = omega arith in
-    (rw e (ap (part_of s.args.otp.now) (sym (told c.before.before))), ap place_of (sym (told c.before.before)))
+    let found = sym c.in-At.is ∙ c.find_entry.ensures in
+    (rw e (ap (part_of s.args.otp.now) found), ap place_of found)
