@@ -1,11 +1,10 @@
 -- `gates::gate_of_row` meets its contract: after each turn one gate more is stored at its row.
 use mathlib.Core.Path.{◌∙◌}
-use mathlib.Core.Logic.{⊎_elim}
-use Prim.Native.Nat.{◌-◌}
 use native.Mathlib.Omega.{arith}
 use Rattle.numbers.proofs.Scattered.{scattered_none, scattered_more, scattered_past, scattered_all}
 use Rattle.gates.proofs.Stored.{stored_is}
 use Rattle.gates.proofs.gate_of_row.Goals as goal
+use Rattle.gates.proofs.gate_of_row.Goals.{then-row-gates, else-row-gates}
 
 pub loop-gate-init : goal.loop-gate-init
 loop-gate-init c = (scattered_none _ _, omega arith)
@@ -26,7 +25,7 @@ pub loop-gate-preserved : goal.loop-gate-preserved
 loop-gate-preserved c =
     let stored = c.loop-gate.invariant.0 in
     let row = c.physical_row-row.ensures in
-    (⊎_elim (λ w. rw w.1 (scattered_more stored row)) (λ w. rw w.1 (scattered_past stored row w.0.left)) c.if-row-gates.branch, omega arith)
+    (elim c.if-row-gates.branch [ then-row-gates w ↦ rw w.gates-is (scattered_more stored row) | else-row-gates w ↦ rw w.gates-is (scattered_past stored row (omega arith)) ], omega arith)
 
 pub shape_of-gates : goal.shape_of-gates
 shape_of-gates c = c.loop-gate.invariant.0.long
