@@ -1,7 +1,6 @@
 -- `pgm::read` meets its contract: the header that stands there, the count, the room, and then the rest of the file.
 use mathlib.Core.Path.{sym, ◌∙◌}
 use native.Mathlib.Omega.{arith}
-use borrow.Author.Tests.{not-true, not-false}
 use Rattle.pgm.proofs.Headers.{most}
 use Rattle.pgm.proofs.Starts.{found_in_range, found_within}
 use Rattle.pgm.proofs.Parts.{copied_front}
@@ -14,7 +13,7 @@ returns-then-not-fine c =
     let test = fine in
     let size = test.size_in-size in
     let s = test.args in
-    read_71 s.file.now s.out.now size.ensures (sym test.is_header-fine.ensures ∙ not-true _ fine.if-not-fine.true) c.not_read.ensures
+    read_71 s.file.now s.out.now size.ensures (sym test.is_header-fine.ensures ∙ fine.if-not-fine.true) c.not_read.ensures
 
 pub overflow_sub-found : goal.overflow_sub-found
 overflow_sub-found c =
@@ -22,7 +21,7 @@ overflow_sub-found c =
     let test = fine in
     let size = test.size_in-size in
     let s = test.args in
-    let found = sym test.is_header-fine.ensures ∙ not-false _ fine.if-not-fine.false in
+    let found = sym test.is_header-fine.ensures ∙ fine.if-not-fine.false in
     omega (arith, c.byte_count-start.ensures.count, found_within size.result.width size.result.height s.file.now found)
 
 pub overflow_mul-count : goal.overflow_mul-count
@@ -31,7 +30,7 @@ overflow_mul-count c =
     let test = fine in
     let size = test.size_in-size in
     let s = test.args in
-    let found = sym test.is_header-fine.ensures ∙ not-false _ fine.if-not-fine.false in
+    let found = sym test.is_header-fine.ensures ∙ fine.if-not-fine.false in
     let w = size.result.width in
     let h = size.result.height in
     omega (arith, most w h (found_in_range w h s.file.now found))
@@ -43,7 +42,7 @@ returns-then-found-count c =
     let test = fine in
     let size = test.size_in-size in
     let s = test.args in
-    let found = sym test.is_header-fine.ensures ∙ not-false _ fine.if-not-fine.false in
+    let found = sym test.is_header-fine.ensures ∙ fine.if-not-fine.false in
     read_72 s.file.now s.out.now size.ensures found count.byte_count-start.ensures.count (λ e. omega arith) c.not_read-then-found-count.ensures
 
 pub returns-then-out-count : goal.returns-then-out-count
@@ -53,7 +52,7 @@ returns-then-out-count c =
     let test = fine in
     let size = test.size_in-size in
     let s = test.args in
-    let found = sym test.is_header-fine.ensures ∙ not-false _ fine.if-not-fine.false in
+    let found = sym test.is_header-fine.ensures ∙ fine.if-not-fine.false in
     read_73 s.file.now s.out.now size.ensures found count.byte_count-start.ensures.count (omega arith) (omega arith) c.not_read-then-out-count.ensures
 
 pub slice_bounds-copy-count : goal.slice_bounds-copy-count
@@ -63,7 +62,7 @@ slice_bounds-copy-count c =
     let test = fine in
     let size = test.size_in-size in
     let s = test.args in
-    let found = sym test.is_header-fine.ensures ∙ not-false _ fine.if-not-fine.false in
+    let found = sym test.is_header-fine.ensures ∙ fine.if-not-fine.false in
     omega (arith, count.byte_count-start.ensures.count, found_within size.result.width size.result.height s.file.now found)
 
 pub slice_bounds-copy-start : goal.slice_bounds-copy-start
@@ -73,7 +72,7 @@ slice_bounds-copy-start c =
     let test = fine in
     let size = test.size_in-size in
     let s = test.args in
-    let found = sym test.is_header-fine.ensures ∙ not-false _ fine.if-not-fine.false in
+    let found = sym test.is_header-fine.ensures ∙ fine.if-not-fine.false in
     omega (arith, count.byte_count-start.ensures.count, found_within size.result.width size.result.height s.file.now found)
 
 pub returns : goal.returns
@@ -85,6 +84,6 @@ returns c =
     let test = fine in
     let size = test.size_in-size in
     let s = test.args in
-    let found = sym test.is_header-fine.ensures ∙ not-false _ fine.if-not-fine.false in
+    let found = sym test.is_header-fine.ensures ∙ fine.if-not-fine.false in
     read_whole s.file.now s.out.now size.ensures found count.byte_count-start.ensures.count (omega (arith, full.if-found-count.false)) (omega arith)
     (copied_front s.file.now s.out.now _ count.byte_count-start.result copy.copy.ensures.front)

@@ -1,7 +1,6 @@
 -- `pgm::write` meets its contract: the header, and then the pixels.
 use mathlib.Core.Path.{sym, ◌∙◌}
 use native.Mathlib.Omega.{arith}
-use borrow.Author.Tests.{not-true, not-false}
 use Rattle.pgm.specs.Form.{pgm_header}
 use Rattle.pgm.proofs.Headers.{most}
 use Rattle.pgm.proofs.Parts.{filled}
@@ -13,20 +12,20 @@ returns-then-not-fine c =
     let fine = c in
     let test = fine in
     let s = test.args in let whole = write_answered s.width s.height s.pixels.now s.out.now
-    (write_71 s.width s.height s.pixels.now s.out.now (sym test.in_range-fine.ensures ∙ not-true _ fine.if-not-fine.true) c.not_written.ensures) in record { file = whole.0; within = whole.1 }
+    (write_71 s.width s.height s.pixels.now s.out.now (sym test.in_range-fine.ensures ∙ fine.if-not-fine.true) c.not_written.ensures) in record { file = whole.0; within = whole.1 }
 
 pub overflow_mul-count : goal.overflow_mul-count
 overflow_mul-count c =
     let test = c in
     let s = test.args in
-    omega (arith, most s.width s.height (sym test.in_range-fine.ensures ∙ not-false _ c.if-not-fine.false))
+    omega (arith, most s.width s.height (sym test.in_range-fine.ensures ∙ c.if-not-fine.false))
 
 pub returns-then-pixels-count : goal.returns-then-pixels-count
 returns-then-pixels-count c =
     let fine = c in
     let test = fine in
     let s = test.args in
-    let ranged = sym test.in_range-fine.ensures ∙ not-false _ fine.if-not-fine.false in let whole = write_answered s.width s.height s.pixels.now s.out.now (write_72 s.width s.height s.pixels.now s.out.now ranged (λ e. omega arith) c.not_written-then-pixels-count.ensures) in record { file = whole.0; within = whole.1 }
+    let ranged = sym test.in_range-fine.ensures ∙ fine.if-not-fine.false in let whole = write_answered s.width s.height s.pixels.now s.out.now (write_72 s.width s.height s.pixels.now s.out.now ranged (λ e. omega arith) c.not_written-then-pixels-count.ensures) in record { file = whole.0; within = whole.1 }
 
 pub returns-then-out-length : goal.returns-then-out-length
 returns-then-out-length c =
@@ -34,7 +33,7 @@ returns-then-out-length c =
     let fine = count in
     let test = fine in
     let s = test.args in
-    let ranged = sym test.in_range-fine.ensures ∙ not-false _ fine.if-not-fine.false in let whole = write_answered s.width s.height s.pixels.now s.out.now
+    let ranged = sym test.in_range-fine.ensures ∙ fine.if-not-fine.false in let whole = write_answered s.width s.height s.pixels.now s.out.now
     (write_73 s.width s.height s.pixels.now s.out.now ranged (omega arith) (omega (arith, count.byte_count-start.ensures.count)) c.not_written-then-out-length.ensures) in record { file = whole.0; within = whole.1 }
 
 pub returns : goal.returns
@@ -45,7 +44,7 @@ returns c =
     let fine = count in
     let test = fine in
     let s = test.args in
-    let ranged = sym test.in_range-fine.ensures ∙ not-false _ fine.if-not-fine.false in
+    let ranged = sym test.in_range-fine.ensures ∙ fine.if-not-fine.false in
     let start = count.byte_count-start in let whole = write_answered s.width s.height s.pixels.now s.out.now
     (write_written s.width s.height s.pixels.now s.out.now ranged (omega arith) (omega (arith, start.ensures.count)) (omega (arith, start.ensures.count))
     (filled (pgm_header s.width s.height) s.pixels.now s.out.now put.put.new.out copy.copy.new.dst start.result start.ensures.count put.put.ensures

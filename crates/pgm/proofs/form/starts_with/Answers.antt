@@ -1,6 +1,5 @@
 -- `pgm::form::starts_with` meets its contract: what is left of the text at the place is what is left of the file there.
 use mathlib.Core.Path.{refl, sym, ◌∙◌}
-use Prim.Native.Nat.{◌-◌}
 use native.Mathlib.Omega.{arith}
 use Rattle.pgm.proofs.Starts.{byte_same, byte_other, byte_missing, starts_all}
 use Rattle.pgm.proofs.form.starts_with.Goals as goal
