@@ -9,4 +9,4 @@ pub returns : goal.returns
 returns c =
     let s = c.args in
     let d = c.decimal-count in
-    c.word.ensures ∙ ap (written (gathered s.at s.text.now)) (d.ensures.1.1 ∙ decimal_is s.n d.result (omega arith) d.ensures.len)
+    c.word.ensures ∙ ap (written (gathered s.at s.text.now)) (d.ensures.digits ∙ decimal_is s.n d.result (omega arith) d.ensures.len)
