@@ -1,15 +1,16 @@
 -- `walk::cut_groups` meets its contract. Assumes nothing.
 use mathlib.Core.Path.{◌≡◌, ap, ◌∙◌}
 use native.Mathlib.Omega.{arith}
-use Prim.Native.Nat.{ℕ, ◌-◌}
+use Prim.Native.Nat.{ℕ}
 use mathlib.Core.List.{foldl}
-use mathlib.Core.Logic.{⊎_elim}
+use mathlib.Core.Bool.{not}
 use lib.ListN.{get_or}
 use Rattle.waveform.specs.Phases.{no_group, joined}
 use Rattle.waveform.specs.Walks.{group_in, cut_step}
 use Rattle.waveform_laws.proofs.Joined.{fold_none, fold_more}
 use Rattle.walk.proofs.Made.{idle_walk}
 use borrow.Author.Rules.{rules}
+use Rattle.walk.proofs.cut_groups.Goals.{then-not-idle, else-not-idle}
 use Rattle.walk.proofs.cut_groups.Goals as goal
 
 pub loop-k-init : goal.loop-k-init
@@ -28,10 +29,10 @@ loop-k-preserved c =
     let g = get_or s.waveform.groups m.loop-k.k no_group in (
       omega arith,
       fold_more step s.progress (λ j. group_in s.driving (get_or s.waveform.groups j no_group)) m.loop-k.k m.loop-k.invariant.1
-          (⊎_elim
-          (λ w. w.2 ∙ w.1.ensures)
-          (λ w. w.1 ∙ idle_walk step s.driving g m.loop-k.moved c.idle.ensures w.0.left)
-          c.if-not-idle.branch),
+          (elim c.if-not-idle.branch [
+            | then-not-idle w ↦ w.moved-is ∙ w.cut_group-moved.ensures
+            | else-not-idle w ↦ w.moved-is ∙ idle_walk step s.driving g m.loop-k.moved c.idle.ensures (ap not w.if-not-idle.false)
+          ]),
     )
 
 pub returns : goal.returns

@@ -1,7 +1,7 @@
 -- `walk::cut_repeats` meets its contract. Assumes nothing.
 use mathlib.Core.Path.{◌≡◌, ap, ◌∙◌}
 use native.Mathlib.Omega.{arith}
-use Prim.Native.Nat.{ℕ, ◌-◌}
+use Prim.Native.Nat.{ℕ}
 use mathlib.Core.List.{List, foldl}
 use Rattle.waveform.specs.declared.Phase.{Phase}
 use Rattle.waveform.specs.Phases.{phases_in, joined}

@@ -4,10 +4,9 @@ use native.Mathlib.Omega.{arith}
 use mathlib.Core.Path.{ap, sym, subst}
 use Rattle.waveform.specs.declared.Drive.{Drive}
 use Rattle.waveform.specs.Phases.{code_for, Takes}
-use Rattle.walk.proofs.phases.code_for.Goals.{In-Lut}
 use Rattle.walk.proofs.phases.code_for.Goals as goal
 
-lut_below : (c : In-Lut) → c.in-Lut.lut < 5
+lut_below : (c : goal.In-Lut-unread) → c.in-Lut.lut < 5
 lut_below c = subst Takes c.in-Lut.is c.requires.1
 
 pub overflow_mul-result : goal.overflow_mul-result
