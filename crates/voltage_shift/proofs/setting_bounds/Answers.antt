@@ -7,6 +7,7 @@ use native.Mathlib.Omega.{arith}
 use lib.Dec.{eqb}
 use lib.ListN.{length}
 use borrow.Author.Tests.{eqb-true}
+use Rattle.std.proofs.lemmas.Bool.{ne_eqb}
 use Rattle.numbers.specs.Choice.{pick}
 use Rattle.voltage.specs.Codes.{is_voltage}
 use Rattle.config.specs.Answer.{accepted, refused, first_of}
@@ -61,4 +62,4 @@ unfolding shift_answer
 returns c =
     let l = c in
     let a = l.args in
-    decided a.setting.now a.driving a.before a.after _ l.is_listed.ensures l.is_listed-2.ensures _ (rw c.if-whole.false)
+    decided a.setting.now a.driving a.before a.after _ l.is_listed.ensures l.is_listed-2.ensures _ (rw (ne_eqb (length a.setting.now) 112 c.if-whole.false))

@@ -2,7 +2,7 @@
 use mathlib.Core.Path.{◌≡◌, refl, sym, ap, ◌∙◌}
 use native.Mathlib.Omega.{arith}
 use native.Mathlib.Numerals.{add-one}
-use Prim.Native.Nat.{ℕ, ◌+◌, ◌-◌, min}
+use Prim.Native.Nat.{ℕ, ◌+◌, min}
 use Rattle.numbers.specs.Saturation.{largest}
 use borrow.Author.Rules.{rules}
 use Rattle.voltage_shift.specs.Shift.{sum, shift_of}
