@@ -7,24 +7,24 @@ use Rattle.guard.proofs.check.Goals as goal
 
 pub returns-then-not-fine : goal.returns-then-not-fine
 unfolding guarded
-returns-then-not-fine c = took _ _ _ _ (ap not (sym c.state_is_fine-fine.ensures) ∙ c.if-not-fine.true) refl
+returns-then-not-fine c = took _ _ _ _ (ap not (sym c.state_is_fine-fine.ensures ∙ c.if-not-fine.true)) refl
 
 pub returns-then-not-fit : goal.returns-then-not-fit
 unfolding guarded
 returns-then-not-fit c =
-    passed _ _ _ _ (ap not (sym c.state_is_fine-fine.ensures) ∙ c.if-not-fine.false)
-    (took _ _ _ _ (ap not (sym c.lengths_fit-fit.ensures) ∙ c.if-not-fit.true) refl)
+    passed _ _ _ _ (ap not (sym c.state_is_fine-fine.ensures ∙ c.if-not-fine.false))
+    (took _ _ _ _ (ap not (sym c.lengths_fit-fit.ensures ∙ c.if-not-fit.true)) refl)
 
 pub returns-then-not-counted : goal.returns-then-not-counted
 unfolding guarded
 returns-then-not-counted c =
-    passed _ _ _ _ (ap not (sym c.state_is_fine-fine.ensures) ∙ c.if-not-fine.false)
-    (passed _ _ _ _ (ap not (sym c.lengths_fit-fit.ensures) ∙ c.if-not-fit.false)
-    (took _ _ _ _ (ap not (sym c.counts_fit-counted.ensures) ∙ c.if-not-counted.true) refl))
+    passed _ _ _ _ (ap not (sym c.state_is_fine-fine.ensures ∙ c.if-not-fine.false))
+    (passed _ _ _ _ (ap not (sym c.lengths_fit-fit.ensures ∙ c.if-not-fit.false))
+    (took _ _ _ _ (ap not (sym c.counts_fit-counted.ensures ∙ c.if-not-counted.true)) refl))
 
 pub returns : goal.returns
 unfolding guarded
 returns c =
-    passed _ _ _ _ (ap not (sym c.state_is_fine-fine.ensures) ∙ c.if-not-fine.false)
-    (passed _ _ _ _ (ap not (sym c.lengths_fit-fit.ensures) ∙ c.if-not-fit.false)
-    (passed _ _ _ _ (ap not (sym c.counts_fit-counted.ensures) ∙ c.if-not-counted.false) refl))
+    passed _ _ _ _ (ap not (sym c.state_is_fine-fine.ensures ∙ c.if-not-fine.false))
+    (passed _ _ _ _ (ap not (sym c.lengths_fit-fit.ensures ∙ c.if-not-fit.false))
+    (passed _ _ _ _ (ap not (sym c.counts_fit-counted.ensures ∙ c.if-not-counted.false)) refl))
