@@ -1,5 +1,5 @@
 -- What the parts of a combined display promise one another: transfers that act on the states from 0 to S as functions do.
-use Rattle.std.specs.Prelude.{◌≡◌, List, ℕ, zero, suc, ◌≤◌, ℤ, pos, nat_abs, ◌≤ℤ◌}
+use Rattle.std.specs.Prelude.{◌≡◌, List, ℕ, zero, suc, ◌≤◌, pos, nat_abs, ◌≤ℤ◌}
 use Rattle.glass.specs.declared.Transfer.{Transfer}
 use Rattle.glass.specs.Transfers.{apply_t}
 use Rattle.glass.specs.Exact.{drives}

@@ -4,7 +4,7 @@ use mathlib.Core.Path.{◌≡◌, sym, ap, subst, ◌∙◌}
 use mathlib.Core.Bool.{Bool}
 use mathlib.Core.List.{foldl}
 use Prim.Native.Nat.{ℕ}
-use borrow.Author.Tests.{eqb-true}
+use borrow.Author.Tests.{eq-eqb, ne_eqb}
 use Rattle.numbers.specs.Choice.{pick}
 use Rattle.numbers.proofs.Lin.{rd, field_back}
 use Rattle.glass.specs.declared.Transfer.{Transfer}
@@ -16,9 +16,9 @@ use Rattle.waveform.specs.Setting.{group_codes_of}
 use Rattle.waveform.specs.Walks.{four_in, group_in, whole_step}
 use Rattle.combine.specs.Acts.{Repeated, swing_in}
 use Rattle.combine.specs.Groups.{timed_group}
-use Rattle.combine.proofs.Powers.{Swing, swing_is, acts_as}
+use Rattle.combine.proofs.Powers.{swing_is, acts_as}
 use Rattle.combine.proofs.Phases.{walk_extends, start_acts, drive_again}
-use Rattle.combine.proofs.group_combined.Goals.{After-repeats-repeats, After-struct_told-1, Start}
+use Rattle.combine.proofs.group_combined.Goals.{After-repeats-repeats, Start}
 use Rattle.combine.proofs.group_combined.Goals as goal
 
 once_is : (d : Driving) (g : Group) → g.repeats ≡ 1 → four_in d g ≡ group_in d g
@@ -33,10 +33,6 @@ repeats_are : (c : After-repeats-repeats) → c.repeats-repeats.result ≡ (grou
 unfolding group_codes_of
 repeats_are c = c.repeats-repeats.ensures
 
--- the swing of the group's walk, as the machine has it
-swing_in : (c : After-struct_told-1) → Swing c.args.driving.swing
-swing_in c = swing_is (record { sfits = c.struct_told-1.given.1.1.0.1 }) c.requires.1.some
-
 pub returns-then-once : goal.returns-then-once
 returns-then-once c =
     let call = c in
@@ -46,11 +42,12 @@ returns-then-once c =
     let d = a.driving in
     let t = a.transfer in
     let g = group_at c.before.before.before.before.before in
-    let from = call.start-start.ensures ∙ ap (λ (b : Bool). pick b t (identity_t (rd d.swing))) c.if-once.true in
-    walk_extends d (swing_in c.before.before.before) (group_in d g) t _
+    let from = call.start-start.ensures ∙ ap (λ (b : Bool). pick b t (identity_t (rd d.swing))) (eq-eqb _ _ c.if-once.true) in
+    let w = swing_is (record { sfits = c.struct_told-1.given.1.1.0.1 }) c.requires.1.some in
+    walk_extends d w (group_in d g) t _
     (call.pass-passed.ensures
     ∙ ap (λ (u : Transfer). foldl (whole_step d) u (four_in d g)) from
-    ∙ ap (foldl (whole_step d) t) (once_is d g (sym (repeats_are c.before.before.before.before) ∙ eqb-true _ _ c.if-once.true)))
+    ∙ ap (foldl (whole_step d) t) (once_is d g (sym (repeats_are c.before.before.before.before) ∙ c.if-once.true)))
 
 pub repeated-requires : goal.repeated-requires
 repeated-requires c = tt
@@ -63,9 +60,9 @@ returns c =
     let ran = told in
     let a = ran.args in
     let d = a.driving in
-    let w = swing_in c.before.before.before.before in
+    let w = swing_is (record { sfits = c.struct_told-1.given.1.1.0.1 }) c.requires.1.some in
     let four = four_in d (group_at c.before.before.before.before.before.before) in
-    let from = call.start-start.ensures ∙ ap (λ (b : Bool). pick b a.transfer (identity_t (rd d.swing))) test.if-once.false ∙ ap identity_t (field_back d.swing told.struct_told-1.given.1.1.0.1) in
+    let from = call.start-start.ensures ∙ ap (λ (b : Bool). pick b a.transfer (identity_t (rd d.swing))) (ne_eqb _ _ test.if-once.false) ∙ ap identity_t (field_back d.swing told.struct_told-1.given.1.1.0.1) in
     let once = (walk_extends d w four _ _ call.pass-passed.ensures).acts (λ x. x) (start_acts d w from) in
     let many = subst (λ (n : ℕ). Repeated a.transfer call.pass-passed.result n c.repeated.result) (repeats_are c.before.before.before.before.before) c.repeated.ensures in
     record {

@@ -1,11 +1,11 @@
 -- `combine::repeated` meets its contract: `Halving` holds whenever the count is tested. Assumes nothing.
 use mathlib.Core.Path.{sym, subst, ◌∙◌}
-use mathlib.Core.Logic.{⊎_elim}
 use Prim.Native.Nat.{ℕ}
 use native.Mathlib.Omega.{arith}
 use Rattle.combine.specs.Acts.{Repeated}
 use Rattle.combine.proofs.Powers.{repeated_none, halving_of, halving_start, halving_odd, halving_even, halving_end}
 use Rattle.combine.proofs.repeated.Goals as goal
+use Rattle.combine.proofs.repeated.Goals.{then-left-eq1, else-left-eq1}
 
 pub returns-then-times-eq0 : goal.returns-then-times-eq0
 returns-then-times-eq0 c =
@@ -22,10 +22,10 @@ pub loop-left-preserved : goal.loop-left-preserved
 loop-left-preserved c =
     let m = c in
     let more = c.loop-left-test.true in
-    ⊎_elim
-    (λ w. halving_of (w.2 ∙ w.1.ensures) c.then-power.ensures (halving_odd more w.0.taken m.loop-left.invariant))
-    (λ w. halving_of w.1 c.then-power.ensures (halving_even more w.0.left m.loop-left.invariant))
-    c.if-left-eq1.branch
+    elim c.if-left-eq1.branch [
+      | then-left-eq1 w ↦ halving_of (w.done-is ∙ w.then-done.ensures) c.then-power.ensures (halving_odd more w.if-left-eq1.true m.loop-left.invariant)
+      | else-left-eq1 w ↦ halving_of w.done-is c.then-power.ensures (halving_even more w.if-left-eq1.false m.loop-left.invariant)
+    ]
 
 pub returns : goal.returns
 returns c = halving_end (λ h. omega (arith, c.loop-left-test.false)) c.then.ensures c.loop-left.invariant

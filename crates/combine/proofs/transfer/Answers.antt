@@ -10,12 +10,7 @@ use Rattle.waveform.specs.declared.Waveform.{Waveform}
 use Rattle.waveform.specs.Setting.{waveform_of}
 use Rattle.waveform.specs.Walks.{Walkable, whole_of, cut_of, transfer_of}
 use Rattle.combine.specs.Settled.{settled, combined_of}
-use Rattle.combine.proofs.transfer.Goals.{Start}
 use Rattle.combine.proofs.transfer.Goals as goal
-
--- the waveform of the setting
-abbrev decoded : Start → Waveform
-decoded s = waveform_of s.args.setting.now s.args.frame_period.now
 
 pub transfer_whole-requires : goal.transfer_whole-requires
 transfer_whole-requires c =
@@ -31,17 +26,19 @@ pub returns-in-Whole : goal.returns-in-Whole
 returns-in-Whole c =
     let s = c in
     let a = s.args in
+    let decoded = waveform_of a.setting.now a.frame_period.now in
     let black = a.positive_drives_black in
     let swing = back s.ranges.swing in
-    let whole = c.in-Whole.is in record { value = c.transfer_whole.ensures.value ∙ ap (λ (z : ℤ). settled (whole_of (decoded c.before.before.before) a.drive z black)) swing ∙ sym (ap (combined_of (decoded c.before.before.before) a.drive a.swing black) whole); alike = λ z. c.transfer_whole.ensures.alike z ∙ ap (λ (y : ℤ). apply_t (whole_of (decoded c.before.before.before) a.drive y black) z) swing ∙ sym (ap (λ (u : Until). apply_t (transfer_of (decoded c.before.before.before) a.drive a.swing black u) z) whole) }
+    let whole = c.in-Whole.is in record { value = c.transfer_whole.ensures.value ∙ ap (λ (z : ℤ). settled (whole_of decoded a.drive z black)) swing ∙ sym (ap (combined_of decoded a.drive a.swing black) whole); alike = λ z. c.transfer_whole.ensures.alike z ∙ ap (λ (y : ℤ). apply_t (whole_of decoded a.drive y black) z) swing ∙ sym (ap (λ (u : Until). apply_t (transfer_of decoded a.drive a.swing black u) z) whole) }
 
 pub returns-in-Cut : goal.returns-in-Cut
 returns-in-Cut c =
     let call = c in
     let s = call in
     let a = s.args in
+    let decoded = waveform_of a.setting.now a.frame_period.now in
     let black = a.positive_drives_black in
-    let known = call.until-1.given in
+    let known = call.in-Cut in
     let e =
     c.transfer_cut.ensures
-    ∙ (λ i. cut_of (call.from_setting-decoded.ensures i) a.drive (back s.ranges.swing i) black known.0.0) in record { value = e ∙ sym (ap (combined_of (decoded c.before.before.before.before.before) a.drive a.swing black) known.1); alike = λ z. ap (λ (t : Transfer). apply_t t z) (e ∙ sym (ap (transfer_of (decoded c.before.before.before.before.before) a.drive a.swing black) known.1)) }
+    ∙ (λ i. cut_of (c.from_setting-decoded.ensures i) a.drive (back s.ranges.swing i) black known.cut) in record { value = e ∙ sym (ap (combined_of decoded a.drive a.swing black) known.is); alike = λ z. ap (λ (t : Transfer). apply_t t z) (e ∙ sym (ap (transfer_of decoded a.drive a.swing black) known.is)) }

@@ -1,9 +1,9 @@
 -- `combine::transfer_whole` meets its contract: after k turns the first k groups are worked in, and what all ten make acts as the walk
 -- does, so that it is the walk's, settled. Assumes nothing.
+use mathlib.Core.Bool.{not}
 use mathlib.Core.Path.{◌≡◌, refl, sym, ap, subst, ◌∙◌}
-use mathlib.Core.Logic.{⊎_elim}
 use native.Mathlib.Omega.{arith}
-use Prim.Native.Nat.{ℕ, ◌≤◌, ◌-◌}
+use Prim.Native.Nat.{ℕ}
 use lib.IntN.{ℤ, pos, nat_abs}
 use lib.Signed.{◌≤ℤ◌}
 use Rattle.numbers.proofs.Lin.{rd, back}
@@ -27,6 +27,7 @@ use Rattle.combine.proofs.Unique.{unique, settled_alike}
 use Rattle.combine.proofs.transfer_whole.Invariants.{of}
 use Rattle.combine.proofs.transfer_whole.Goals.{After-from_setting-levels, Start}
 use Rattle.combine.proofs.transfer_whole.Goals as goal
+use Rattle.combine.proofs.transfer_whole.Goals.{then-not-idle, else-not-idle}
 
 -- what drives, by its levels and its swing
 abbrev driving : Start → Levels → ℤ → Driving
@@ -36,10 +37,10 @@ driving s levels swing = record { levels = levels; drive = s.args.drive; swing =
 abbrev machine : After-from_setting-levels → Driving
 machine c = driving c.before c.from_setting-levels.result (rd c.args.swing)
 
-swings : (s : Start → Swing s.args.swing
+swings : (s : Start) → Swing s.args.swing
 swings s = swing_is s.ranges.swing s.requires.1
 
-swings_in : (s : Start → Swing (rd s.args.swing)
+swings_in : (s : Start) → Swing (rd s.args.swing)
 swings_in s = subst Swing (sym (back s.ranges.swing)) (swings s)
 
 pub loop-k-init : goal.loop-k-init
@@ -78,10 +79,10 @@ loop-k-preserved c =
     let periods = s.args.frame_period.now in
     let g = timed_group bytes periods k in
     let next : Extends d (group_in d g) l.loop-k.moved c.if-not-idle.moved =
-    ⊎_elim
-    (λ v. subst (λ (u : Transfer). Extends d (group_in d g) l.loop-k.moved u) (sym v.2) v.1.ensures)
-    (λ v. walk_extends d w (group_in d g) l.loop-k.moved c.if-not-idle.moved (v.1 ∙ idle_walk (whole_step d) d g l.loop-k.moved c.idle.ensures v.0.left))
-    c.if-not-idle.branch in
+    elim c.if-not-idle.branch [
+      | then-not-idle v ↦ subst (λ (u : Transfer). Extends d (group_in d g) l.loop-k.moved u) (sym v.moved-is) v.group_combined-moved.ensures
+      | else-not-idle v ↦ walk_extends d w (group_in d g) l.loop-k.moved c.if-not-idle.moved (v.moved-is ∙ idle_walk (whole_step d) d g l.loop-k.moved c.idle.ensures (ap not v.if-not-idle.false))
+    ] in
     let worked : Extends d (of d bytes periods k) l.loop-k.moved c.if-not-idle.moved =
     subst (λ (h : Group). Extends d (group_in d h) l.loop-k.moved c.if-not-idle.moved) (group_is bytes periods k test.loop-k-test.true) next in (
       omega arith,
