@@ -1,6 +1,6 @@
 -- `drive_sheet::fill` meets its contract: the loop paints the sheet's bytes from the front.
 use mathlib.Core.Path.{ap, ◌∙◌}
-use Prim.Native.Nat.{ℕ, ◌-◌}
+use Prim.Native.Nat.{ℕ}
 use native.Mathlib.Omega.{arith}
 use Rattle.numbers.specs.Lists.{tab}
 use Rattle.numbers.proofs.Painted.{painted_none, painted_more, painted_all}

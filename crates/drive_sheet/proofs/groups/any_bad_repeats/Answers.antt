@@ -1,6 +1,5 @@
 -- `drive_sheet::groups::any_bad_repeats` meets its contract.
 use mathlib.Core.Path.{◌≡◌, ap, ◌∙◌}
-use Prim.Native.Nat.{◌-◌}
 use native.Mathlib.Omega.{arith}
 use Rattle.otp.specs.Search.{any_of}
 use Rattle.otp.proofs.Search.{any_none, any_more}

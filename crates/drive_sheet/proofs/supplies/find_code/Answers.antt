@@ -1,6 +1,6 @@
 -- `drive_sheet::supplies::find_code` meets its contract: the loop has passed no code that is listed with the millivolts.
 use mathlib.Core.Path.{◌≡◌, sym, ap, ◌∙◌}
-use Prim.Native.Nat.{ℕ, ◌-◌}
+use Prim.Native.Nat.{ℕ}
 use native.Mathlib.Omega.{arith}
 use lib.IntN.{ℤ, pos}
 use borrow.Author.Count.{below_more, below_none}
