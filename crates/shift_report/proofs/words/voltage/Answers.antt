@@ -5,24 +5,18 @@ use Rattle.shift_report.proofs.words.voltage.Goals as goal
 
 pub returns-then-is_word : goal.returns-then-is_word
 unfolding voltage_word
-returns-then-is_word c = rw (sym c.is_IsWord.ensures ∙ c.if-is_word.true)
+returns-then-is_word c = rw (sym c.is_word.ensures ∙ c.if-is_word.true)
 
 pub returns-then-is_word-2 : goal.returns-then-is_word-2
 unfolding voltage_word
-returns-then-is_word-2 c =
-    let first = c in
-    rw (sym first.is_IsWord.ensures ∙ first.if-is_word.false, sym c.is_word-2.ensures ∙ c.if-is_word-2.true)
+returns-then-is_word-2 c = rw (sym c.is_word.ensures ∙ c.if-is_word.false, sym c.is_word-2.ensures ∙ c.if-is_word-2.true)
 
 pub returns-then-is_word-3 : goal.returns-then-is_word-3
 unfolding voltage_word
 returns-then-is_word-3 c =
-    let second = c in
-    let first = second in
-    rw (sym first.is_IsWord.ensures ∙ first.if-is_word.false, sym second.is_word-2.ensures ∙ second.if-is_word-2.false, sym c.is_word-3.ensures ∙ c.if-is_word-3.true)
+    rw (sym c.is_word.ensures ∙ c.if-is_word.false, sym c.is_word-2.ensures ∙ c.if-is_word-2.false, sym c.is_word-3.ensures ∙ c.if-is_word-3.true)
 
 pub returns : goal.returns
 unfolding voltage_word
 returns c =
-    let second = c in
-    let first = second in
-    rw (sym first.is_IsWord.ensures ∙ first.if-is_word.false, sym second.is_word-2.ensures ∙ second.if-is_word-2.false, sym c.is_word-3.ensures ∙ c.if-is_word-3.false)
+    rw (sym c.is_word.ensures ∙ c.if-is_word.false, sym c.is_word-2.ensures ∙ c.if-is_word-2.false, sym c.is_word-3.ensures ∙ c.if-is_word-3.false)
