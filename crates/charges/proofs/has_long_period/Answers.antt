@@ -1,6 +1,5 @@
 -- `charges::has_long_period` meets its contract.
 use mathlib.Core.Path.{◌≡◌, refl, ap, ◌∙◌}
-use Prim.Native.Nat.{◌-◌}
 use native.Mathlib.Omega.{arith}
 use Rattle.otp.specs.Search.{any_of}
 use Rattle.otp.proofs.Search.{any_none, any_more}

@@ -7,7 +7,7 @@ use Rattle.charges.proofs.Wide.{put_wide}
 use Rattle.charges.proofs.line.put_whole.Goals as goal
 
 pub put-requires : goal.put-requires
-put-requires c = let whole = simp length-set (omega arith) in record { narrow = whole.0; room = whole.1 }
+put-requires c = record { narrow = omega arith; room = simp length-set (omega arith) }
 
 pub shape_of-out : goal.shape_of-out
 shape_of-out c = c.put.auto.out ∙ simp length-set

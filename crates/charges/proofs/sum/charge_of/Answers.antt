@@ -1,7 +1,7 @@
 -- `charges::sum::charge_of` meets its contract: the charge of one group after the other, no sum of which leaves 64 bits.
 use mathlib.Core.Path.{◌≡◌, ap, ◌∙◌}
 use mathlib.Core.List.{List}
-use Prim.Native.Nat.{ℕ, ◌+◌, ◌-◌, ◌≤◌}
+use Prim.Native.Nat.{ℕ, ◌+◌, ◌≤◌}
 use native.Mathlib.Omega.{arith}
 use lib.IntN.{◌+ℤ◌, nat_abs}
 use mir.Syntax.{w64}
@@ -14,7 +14,6 @@ use Rattle.charges.specs.Charge.{drive_sum}
 use Rattle.charges.proofs.Sums.{sum_none, sum_more}
 use Rattle.charges.proofs.Bounds.{fits_as, read_back, groups_of, groups_within}
 use borrow.Author.Rules.{rules}
-use Rattle.charges.proofs.sum.charge_of.Goals.{After-group_charge-sum}
 use Rattle.charges.proofs.sum.charge_of.Goals as goal
 
 pub loop-k-init : goal.loop-k-init
@@ -26,21 +25,18 @@ group_charge-sum-requires c =
 
 -- ---- after a turn
 abbrev Turn : Type 0
-Turn = After-group_charge-sum
+Turn = goal.After-group_charge-sum
 
 abbrev groups_in : Turn → ℕ → List Phase
-groups_in c = groups_of c.before.before.before.before.before.args.waveform (Lut c.before.before.before.before.before.args.lut)
+groups_in c = groups_of c.args.waveform (Lut c.args.lut)
 
-sum_is : (c : Turn) → to_z w64 c.before.before.before.loop.sum +ℤ rd c.group-charge.result ≡ drive_sum (joined (c.before.before.before.loop.k + 1) (groups_in c))
+sum_is : (c : Turn) → to_z w64 c.loop-k.sum-bits +ℤ rd c.group_charge-sum.result ≡ drive_sum (joined (c.loop-k.k + 1) (groups_in c))
 sum_is c =
-    let l = c.before.before.before.loop in
-    (λ i. l.invariant.1 i +ℤ got c.group-charge.type_inv c.group-charge.ensures i) ∙ sum_more (groups_in c) l.k
+    let l = c.loop-k in
+    (λ i. l.invariant.1 i +ℤ got c.group_charge-sum.type_inv c.group_charge-sum.ensures i) ∙ sum_more (groups_in c) l.k
 
-small : (c : Turn) → nat_abs (drive_sum (joined (c.before.before.before.loop.k + 1) (groups_in c))) ≤ 9223372036854775807
-small c =
-    let l = c.before.before.before.loop in
-    let s = c.before.before.before.before.before in
-    omega (arith, groups_within s.args.waveform (Lut s.args.lut) s.requires.1 (l.k + 1) (omega arith))
+small : (c : Turn) → nat_abs (drive_sum (joined (c.loop-k.k + 1) (groups_in c))) ≤ 9223372036854775807
+small c = omega (arith, groups_within c.args.waveform (Lut c.args.lut) c.requires.bounded (c.loop-k.k + 1) (omega arith))
 
 pub overflow_add-sum : goal.overflow_add-sum
 overflow_add-sum c = fits_as (sum_is c) (small c)

@@ -1,7 +1,7 @@
 -- `charges::sum::pass_charge` meets its contract: the drive of one phase after the other, no sum of which leaves 64 bits.
 use mathlib.Core.Path.{◌≡◌, ap, ◌∙◌}
 use mathlib.Core.List.{List}
-use Prim.Native.Nat.{ℕ, ◌+◌, ◌-◌, ◌≤◌}
+use Prim.Native.Nat.{ℕ, ◌+◌, ◌≤◌}
 use native.Mathlib.Omega.{arith}
 use lib.IntN.{◌+ℤ◌, nat_abs}
 use mir.Syntax.{w64}
@@ -14,7 +14,6 @@ use Rattle.charges.proofs.Sums.{sum_none, sum_more}
 use Rattle.charges.proofs.Bounds.{fits_as, read_back, phases_within}
 use borrow.Author.Rules.{rules}
 use Rattle.charges.proofs.sum.pass_charge.Invariants.{phases_in}
-use Rattle.charges.proofs.sum.pass_charge.Goals.{After-drive_at-sum}
 use Rattle.charges.proofs.sum.pass_charge.Goals as goal
 
 pub loop-phase-init : goal.loop-phase-init
@@ -22,23 +21,20 @@ loop-phase-init c = (search rules, sum_none _)
 
 -- ---- after a turn
 abbrev Turn : Type 0
-Turn = After-drive_at-sum
+Turn = goal.After-drive_at-sum
 
 abbrev sum_of : Turn → ℕ → List Phase
-sum_of c = phases_in c.before.before.before.args.driving c.before.before.before.args.group
+sum_of c = phases_in c.args.driving c.args.group
 
-sum_is : (c : Turn) → to_z w64 c.before.before.loop.sum +ℤ rd c.drive-at.result ≡ drive_sum (joined (c.before.before.loop.phase + 1) (sum_of c))
+sum_is : (c : Turn) → to_z w64 c.loop-phase.sum-bits +ℤ rd c.drive_at-sum.result ≡ drive_sum (joined (c.loop-phase.phase + 1) (sum_of c))
 sum_is c =
-    let l = c.before.before.loop in
-    (λ i. l.invariant.1 i +ℤ got c.drive-at.type_inv c.drive-at.ensures i) ∙ sum_more (sum_of c) l.phase
+    let l = c.loop-phase in
+    (λ i. l.invariant.1 i +ℤ got c.drive_at-sum.type_inv c.drive_at-sum.ensures i) ∙ sum_more (sum_of c) l.phase
 
-small : (c : Turn) → nat_abs (drive_sum (joined (c.before.before.loop.phase + 1) (sum_of c))) ≤ 9223372036854775807
+small : (c : Turn) → nat_abs (drive_sum (joined (c.loop-phase.phase + 1) (sum_of c))) ≤ 9223372036854775807
 small c =
-    let l = c.before.before.loop in
-    let s = c.before.before.before in
-    let d = s.args.driving in
-    let p = l.invariant.0 in
-    omega (arith, c.before.loop-test.true, phases_within d.levels d.drive s.args.group s.requires.0.listable s.requires.1 (l.phase + 1))
+    let d = c.args.driving in
+    omega (arith, phases_within d.levels d.drive c.args.group c.requires.drivable.listable c.requires.bounded (c.loop-phase.phase + 1))
 
 pub overflow_add-sum : goal.overflow_add-sum
 overflow_add-sum c = fits_as (sum_is c) (small c)
