@@ -1,6 +1,6 @@
 -- `write_all` meets its contract: after i turns the first i bytes have run.
 use mathlib.Core.Path.{◌≡◌, ap, ◌∙◌}
-use Prim.Native.Nat.{ℕ, ◌-◌}
+use Prim.Native.Nat.{ℕ}
 use native.Mathlib.Omega.{arith}
 use lib.ListN.{length}
 use Rattle.bench.specs.Runs.{run, ran_over}
