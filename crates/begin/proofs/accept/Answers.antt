@@ -1,17 +1,8 @@
 -- `begin::accept` meets its contract.
 use Rattle.counts.specs.Counts.{picture}
-use Rattle.world.specs.World.{WithBuffers, with_buffers, Lent, lent}
+use Rattle.world.specs.World.{with_buffers, lent}
 use Rattle.begin.proofs.Cases.{still_activatable, accepts}
-use Rattle.begin.proofs.accept.Goals.{Start}
 use Rattle.begin.proofs.accept.Goals as goal
-
--- what is lent and stays as it is
-abbrev kept : Start → Lent
-kept s = lent s.args.black_white.now s.args.red.now s.args.gates.now s.args.otp.now
-
--- the state and the buffers as lent
-abbrev given : Start → WithBuffers
-given s = with_buffers s.args.state s.args.states.now s.args.luts.now (picture s.args.pixels.now s.args.counts.now) s.args.log.now
 
 pub start_command-requires : goal.start_command-requires
 start_command-requires c =
@@ -20,5 +11,7 @@ start_command-requires c =
 
 pub returns : goal.returns
 returns c =
-    let s = c in
-    accepts (kept c.before.before.before.before.before.before.before.before.before.before.before.before.before.before.before.before.before.before.before.before.before.before.before.before.before) s.args.command (given c.before.before.before.before.before.before.before.before.before.before.before.before.before.before.before.before.before.before.before.before.before.before.before.before.before) _ _ _ c.make_current-current.ensures c.start_command.ensures
+    let a = c.args in
+    let kept = lent a.black_white.now a.red.now a.gates.now a.otp.now in
+    let given = with_buffers a.state a.states.now a.luts.now (picture a.pixels.now a.counts.now) a.log.now in
+    accepts kept a.command given _ _ _ c.make_current-current.ensures c.start_command.ensures
