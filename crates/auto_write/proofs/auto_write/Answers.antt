@@ -1,6 +1,6 @@
 -- `auto_write`: after some rows and columns, all bytes before that place are written.
 use mathlib.Core.Path.{ap}
-use Prim.Native.Nat.{ℕ, ◌-◌, ◌/◌}
+use Prim.Native.Nat.{ℕ, ◌/◌}
 use native.Mathlib.Omega.{arith}
 use native.Mathlib.Nat.{div-le_self, add_assoc}
 use Rattle.numbers.specs.Choice.{bit_of}

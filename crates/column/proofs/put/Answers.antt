@@ -1,6 +1,5 @@
 -- `column::put` meets its contract: after i turns the column's first i bytes are written over.
 use mathlib.Core.Path.{sym, ◌∙◌}
-use Prim.Native.Nat.{◌-◌}
 use native.Mathlib.Omega.{arith}
 use Rattle.column.proofs.Appended.{pasted_none, pasted_more, pasted_all}
 use Rattle.column.proofs.Columns.{column_length, column_at_is}

@@ -1,7 +1,6 @@
 -- `config::periods_error` meets its contract: the loop has passed no period of 0.
 use mathlib.Core.Path.{◌≡◌, refl, sym, ap}
 use mathlib.Core.List.{[]}
-use Prim.Native.Nat.{◌-◌}
 use native.Mathlib.Omega.{arith}
 use borrow.Author.Count.{below_more, below_none}
 use borrow.Author.Tests.{eq-eqb, ne_eqb, lt-ltb, le-ltb}

@@ -1,6 +1,6 @@
 -- `counts::clear` meets its contract: after `at` turns the first `at` counts are 0. Assumes nothing.
 use mathlib.Core.Path.{refl, ap, ◌∙◌}
-use Prim.Native.Nat.{ℕ, ◌-◌}
+use Prim.Native.Nat.{ℕ}
 use native.Mathlib.Omega.{arith}
 use Rattle.numbers.specs.Lists.{tab}
 use Rattle.numbers.proofs.Painted.{painted_none, painted_more, painted_all}

@@ -1,6 +1,5 @@
 -- `counts::count` meets its contract: before either loop's turn, the four tables together count the pixels passed. Assumes nothing.
 use mathlib.Core.Path.{◌∙◌}
-use Prim.Native.Nat.{◌-◌}
 use native.Mathlib.Omega.{arith}
 use Rattle.numbers.specs.Lists.{tab}
 use Rattle.counts.specs.Counts.{occurs, counts_of}

@@ -2,7 +2,7 @@
 use mathlib.Core.Path.{◌≡◌, refl, sym, ap, ◌∙◌}
 use native.Mathlib.Omega.{arith}
 use native.Mathlib.Numerals.{add-one}
-use Prim.Native.Nat.{ℕ, ◌+◌, ◌-◌, min}
+use Prim.Native.Nat.{ℕ, ◌+◌, min}
 use lib.ListN.{get_or}
 use Rattle.numbers.specs.Saturation.{largest}
 use Rattle.waveform.specs.Phases.{no_group}

@@ -1,7 +1,7 @@
 -- `hash::of_bytes` meets its contract: after i turns the hash is that of the first i.
 use mathlib.Core.Path.{refl}
 use mathlib.Core.List.{List}
-use Prim.Native.Nat.{ℕ, ◌-◌}
+use Prim.Native.Nat.{ℕ}
 use native.Mathlib.Omega.{arith}
 use Rattle.hash.specs.Hash.{hash_from}
 use Rattle.hash.proofs.Laws.{turn, all, below, bytes_more}

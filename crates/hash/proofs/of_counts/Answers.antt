@@ -1,6 +1,5 @@
 -- `hash::of_counts` meets its contract: after i turns the hash is that of the first i.
 use mathlib.Core.Path.{refl}
-use Prim.Native.Nat.{◌-◌}
 use native.Mathlib.Omega.{arith}
 use Rattle.hash.specs.Hash.{hash_from, count_bytes}
 use Rattle.hash.proofs.Laws.{turn, all, below, counts_more}

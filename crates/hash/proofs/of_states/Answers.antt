@@ -1,7 +1,6 @@
 -- `hash::of_states` meets its contract: after i turns the hash is that of the first i.
 use mathlib.Core.Path.{refl, ◌∙◌, ap}
 use mathlib.Core.List.{[], ◌∷◌}
-use Prim.Native.Nat.{◌-◌}
 use native.Mathlib.Omega.{arith}
 use lib.IntN.{ℤ, pos}
 use lib.ListN.{get_or}

@@ -1,6 +1,5 @@
 -- `panel_start::fill_states` meets its contract: after i turns the first i states are filled. Assumes nothing.
 use mathlib.Core.Path.{refl, ap, ◌∙◌}
-use Prim.Native.Nat.{◌-◌}
 use native.Mathlib.Omega.{arith}
 use lib.IntN.{ℤ}
 use lib.ListN.{length}

@@ -1,6 +1,5 @@
 -- `fill`: after i turns the first i bytes are filled.
 use mathlib.Core.Path.{refl}
-use Prim.Native.Nat.{◌-◌}
 use native.Mathlib.Omega.{arith}
 use Rattle.numbers.proofs.Painted.{painted_none, painted_more, painted_all}
 use Rattle.ram.proofs.fill.Goals as goal

@@ -1,5 +1,4 @@
 -- `records::report_all` is safe and ends: the log keeps its length, and the turns are counted. Assumes nothing.
-use Prim.Native.Nat.{◌-◌}
 use native.Mathlib.Omega.{arith}
 use Rattle.records.proofs.report_all.Goals as goal
 

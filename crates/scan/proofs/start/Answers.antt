@@ -1,6 +1,6 @@
 -- `scan::start` meets its contract: after y rows and x columns the first y * width + x LUTs are the definition's.
 use mathlib.Core.Path.{◌≡◌, sym, subst}
-use Prim.Native.Nat.{ℕ, ◌<◌, ◌-◌, ◌*◌, ◌+◌}
+use Prim.Native.Nat.{ℕ, ◌<◌, ◌*◌, ◌+◌}
 use native.Mathlib.Nat.{add-mul, add-zero, zero-mul, add_assoc, mul-le-mul_right}
 use native.Mathlib.Omega.{arith}
 use lib.Arith.{digits_lt}

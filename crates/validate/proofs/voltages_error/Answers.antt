@@ -1,7 +1,6 @@
 -- `validate::voltages_error` meets its contract: the loop has passed no unlisted voltage.
 use mathlib.Core.Path.{◌≡◌, refl, sym, ap, ◌∙◌}
 use mathlib.Core.List.{[]}
-use Prim.Native.Nat.{◌-◌}
 use native.Mathlib.Omega.{arith}
 use borrow.Author.Count.{below_more, below_none}
 use borrow.Author.Tests.{lt-ltb, le-ltb}
