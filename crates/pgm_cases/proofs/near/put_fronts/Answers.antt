@@ -1,5 +1,4 @@
 -- `pgm_cases::near::put_fronts` is safe and ends: a front ends within the file.
-use Prim.Native.Nat.{◌-◌}
 use mathlib.Core.Path.{sym}
 use native.Mathlib.Omega.{arith}
 use lib.Seq.{length-take-le}

@@ -1,6 +1,5 @@
 -- `pgm_cases::sizes::put_width` is safe and ends: 1,001 headers have 15 bytes each at most.
 use mathlib.Core.Path.{sym}
-use Prim.Native.Nat.{◌-◌}
 use native.Mathlib.Omega.{arith}
 use lib.Seq.{length-take-le}
 use Rattle.pgm_cases.proofs.sizes.put_width.Goals as goal
