@@ -1,4 +1,4 @@
-//! The functions of crates/bench, from the archive that `rt staticlib bench` writes.
+//! The functions of crates/bench, from the archive that bench/build makes of crates/bench_c.
 
 use crate::ssd1677::{GateScan, PanelGeometry};
 
