@@ -55,17 +55,25 @@ module _ (sign : ℕ → ℤ) (code : ℕ) (z : ℤ) where
 source_once : (a b n : ℕ) → Stands (source_high ∷ source_low ∷ []) a n → Stands (source_high ∷ source_low ∷ []) b n → a ≡ b
 source_once a b n (inl s) (inl t) = omega arith
 source_once a b n (inl s) (inr (inl t)) = omega arith
+source_once a b n (inl s) (inr (inr none)) = absurd none
 source_once a b n (inr (inl s)) (inl t) = omega arith
 source_once a b n (inr (inl s)) (inr (inl t)) = omega arith
+source_once a b n (inr (inl s)) (inr (inr none)) = absurd none
+source_once a b n (inr (inr none)) t = absurd none
 
 vsl_once : (a b n : ℕ) → Stands (vsl_line ∷ []) a n → Stands (vsl_line ∷ []) b n → a ≡ b
 vsl_once a b n (inl s) (inl t) = omega arith
+vsl_once a b n (inl s) (inr none) = absurd none
+vsl_once a b n (inr none) t = absurd none
 
 vcom_once : (a b n : ℕ) → Stands (vcom_zero ∷ vcom_line ∷ []) a n → Stands (vcom_zero ∷ vcom_line ∷ []) b n → a ≡ b
 vcom_once a b n (inl s) (inl t) = omega arith
 vcom_once a b n (inl s) (inr (inl t)) = omega arith
+vcom_once a b n (inl s) (inr (inr none)) = absurd none
 vcom_once a b n (inr (inl s)) (inl t) = omega arith
 vcom_once a b n (inr (inl s)) (inr (inl t)) = omega arith
+vcom_once a b n (inr (inl s)) (inr (inr none)) = absurd none
+vcom_once a b n (inr (inr none)) t = absurd none
 
 -- so it does with a sign that loses nothing
 module _ (sign : ℕ → ℤ) (one : (m n : ℕ) → sign m ≡ sign n → m ≡ n) (ls : List Line)
