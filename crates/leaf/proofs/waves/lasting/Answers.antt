@@ -1,5 +1,5 @@
 -- `leaf::waves::lasting` meets its contract: no period that the loop passed is 0.
-use Rattle.std.proofs.Common.{◌≡◌, ◌-◌, T, get_or, sym, subst, arith, below_none, below_more, eq-eqb, ne_eqb}
+use Rattle.std.proofs.Common.{◌≡◌, T, get_or, sym, subst, arith, below_none, below_more, eq-eqb, ne_eqb}
 use borrow.Author.Tests.{eqb-false}
 use Rattle.config.specs.Tests.{zero_period}
 use Rattle.config.proofs.Lowest.{lowest_at, lowest_none}
