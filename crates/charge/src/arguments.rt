@@ -1,43 +1,47 @@
 // The sixteen frame periods among the arguments.
 use column::read::Column;
+use std::env::{Env, FillError};
+use std::io;
 
 // No number of 64 bits has more digits.
 const DIGITS: usize = 20;
 
 // Blanks in front are taken, up to 20 bytes in all. Argument 0 is the program's own name.
-fn period(argument: usize) -> Column {
+fn period(rt: &impl Env, argument: usize) -> Column {
     let mut text = [0u8; DIGITS];
-    let length = os::arg(argument, &mut text);
-    if os::errno() != 0 {
+    let Ok(length) = rt.arg(argument, &mut text) else {
         return Column::Other;
-    }
+    };
     column::read::number(&text[..length])
 }
 
-fn take_all(frame_period: &mut [u64; 16]) -> bool {
-    let mut code: usize = 0;
-    while code < 16 {
-        let Column::Number(ns) = period(code + 1) else {
-            crate::say::bad_period(code);
-            return false;
+fn take_all(rt: &(impl Env + Print + Eprint), frame_period: &mut [u64; 16]) -> io::Result<bool> {
+    for code in 0..16 {
+        let Column::Number(ns) = period(rt, code + 1) else {
+            crate::say::bad_period(rt, code)?;
+            return Ok(false);
         };
         frame_period[code] = ns;
-        code += 1;
     }
-    true
+    Ok(true)
+}
+
+fn is_given(rt: &impl Env, argument: usize) -> bool {
+    let mut byte = [0u8; 1];
+    !matches!(rt.arg(argument, &mut byte), Err(FillError::NotPresent))
 }
 
 // Leaves the periods as they are where there is no argument; answers whether to go on.
-pub fn take(frame_period: &mut [u64; 16]) -> bool {
-    let words = os::arg_count();
-    if words <= 1 {
-        return true;
+pub fn take(rt: &(impl Env + Print + Eprint), frame_period: &mut [u64; 16]) -> io::Result<bool> {
+    if !is_given(rt, 1) {
+        return Ok(true);
     }
-    if words != 17 {
+    if !is_given(rt, 16) || is_given(rt, 17) {
         crate::say::failure(
-            b"charge: give the frame periods of all sixteen codes in nanoseconds, or none\n",
-        );
-        return false;
+            rt,
+            "charge: give the frame periods of all sixteen codes in nanoseconds, or none\n",
+        )?;
+        return Ok(false);
     }
-    take_all(frame_period)
+    take_all(rt, frame_period)
 }

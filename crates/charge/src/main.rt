@@ -9,8 +9,10 @@ ghost use Rattle.std.specs.Prelude.{◌≤◌, length};
 
 use charges::{LINE_BYTES, Reported};
 use config::Ssd1677Timing;
-use libc::{STDIN_FILENO, STDOUT_FILENO};
+use full_read::read_full;
 use otp::{ENTRY_BYTES, MOST_ENTRIES};
+use std::io;
+use std::io::{Input, Read};
 
 // One byte more than the longest table has, so that longer input is seen to be longer.
 const INPUT_BYTES: usize = ENTRY_BYTES * MOST_ENTRIES + 1;
@@ -22,52 +24,58 @@ fn default_periods() -> [u64; 16] {
     timing.frame_period
 }
 
-// `io::read_full` stops where the input ends and where a read fails or is interrupted. Past the end another read gets nothing and does
-// not fail: one that fails or gets a byte tells that what was read is not the whole.
-fn is_cut_short() -> bool {
+// Reading stops at the first read that gets nothing. Past the end another read gets nothing either and does not fail: one that fails or
+// gets a byte tells that what was read is not the whole.
+fn is_cut_short(input: &mut impl Read) -> bool {
     let mut byte = [0u8; 1];
-    libc::read(STDIN_FILENO, &mut byte) != 0
+    !matches!(input.read(&mut byte), Ok(0))
 }
 
-fn write_lines(lines: &[u8]) {
-    if !io::write_all(STDOUT_FILENO, lines) {
-        say::words(b"charge: the lines could not all be written\n");
+fn write_lines(rt: &(impl Print + Eprint), lines: &[u8]) -> io::Result<()> {
+    if rt.write_all(lines).is_err() {
+        say::words(rt, "charge: the lines could not all be written\n")?;
     }
+    Ok(())
 }
 
 // The lines of a table, as long as those of its entries, or its refusal.
-fn answer(table: &[u8], frame_period: [u64; 16], lines: &mut [u8]) {
+fn answer(
+    rt: &(impl Print + Eprint),
+    table: &[u8],
+    frame_period: [u64; 16],
+    lines: &mut [u8],
+) -> io::Result<()> {
     match charges::report(frame_period, table, lines) {
-        Reported::Written => write_lines(lines),
-        Reported::Refused(error) => say::refused(error, table),
-        Reported::LongPeriod => say::long_period(frame_period),
-        Reported::OtherLength => say::refusal(11),
+        Reported::Written => write_lines(rt, lines),
+        Reported::Refused(error) => say::refused(rt, error, table),
+        Reported::LongPeriod => say::long_period(rt, frame_period),
+        Reported::OtherLength => say::refusal(rt, 11),
     }
 }
 
-fn answer_table(table: &[u8], frame_period: [u64; 16])
+fn answer_table(rt: &(impl Print + Eprint), table: &[u8], frame_period: [u64; 16]) -> io::Result<()>
     requires { length table.now ≤ 7553 }
 {
     let mut text = [0u8; TEXT_BYTES];
     let end = LINE_BYTES * (table.len() / ENTRY_BYTES);
-    answer(table, frame_period, &mut text[..end]);
+    answer(rt, table, frame_period, &mut text[..end])
 }
 
-fn answer_input(frame_period: [u64; 16]) {
-    let mut input = [0u8; INPUT_BYTES];
-    let read = io::read_full(STDIN_FILENO, &mut input);
-    if read < INPUT_BYTES {
-        if is_cut_short() {
-            say::failure(b"charge: standard input could not be read to its end\n");
-            return;
+fn answer_input(rt: &(impl Input + Print + Eprint), frame_period: [u64; 16]) -> io::Result<()> {
+    let mut table = [0u8; INPUT_BYTES];
+    let mut input = rt.reader();
+    match read_full(&mut input, &mut table) {
+        Ok(read) if read == INPUT_BYTES || !is_cut_short(&mut input) => {
+            answer_table(rt, &table[..read], frame_period)
         }
+        _ => say::failure(rt, "charge: standard input could not be read to its end\n"),
     }
-    answer_table(&input[..read], frame_period);
 }
 
-fn main() {
+fn main(rt: HostRuntime) -> io::Result<()> {
     let mut frame_period = default_periods();
-    if arguments::take(&mut frame_period) {
-        answer_input(frame_period);
+    if arguments::take(&rt, &mut frame_period)? {
+        answer_input(&rt, frame_period)?;
     }
+    Ok(())
 }

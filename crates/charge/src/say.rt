@@ -1,43 +1,42 @@
 // What is said where there are no lines: a refusal's number in three columns on standard output, or `  -` where there is no number, and
 // on standard error what is wrong in words.
 use config::ConfigError;
-use libc::{STDERR_FILENO, STDOUT_FILENO};
 use otp::ENTRY_BYTES;
+use std::io;
 
-pub fn words(text: &[u8]) {
-    io::write_all(STDERR_FILENO, text);
+pub fn words(rt: &impl Eprint, text: &str) -> io::Result<()> {
+    rt.eprint(text)
 }
 
-pub fn refusal(number: u64) {
+pub fn refusal(rt: &impl Print, number: u64) -> io::Result<()> {
     let mut line = [0u8; 4];
     let line_end = column::put(&mut line, 0, 3, false, number);
     column::put_line_end(&mut line, line_end);
-    io::write_all(STDOUT_FILENO, &line);
+    rt.write_all(&line)
 }
 
-fn no_number() {
-    io::write_all(STDOUT_FILENO, b"  -\n");
+fn no_number(rt: &impl Print) -> io::Result<()> {
+    println!(rt; "  -")
 }
 
-pub fn failure(text: &[u8]) {
-    no_number();
-    words(text);
+pub fn failure(rt: &(impl Print + Eprint), text: &str) -> io::Result<()> {
+    no_number(rt)?;
+    words(rt, text)
 }
 
-fn number_words(before: &[u8], number: usize, after: &[u8]) {
-    words(before);
-    io::print_decimal(STDERR_FILENO, number as u64);
-    words(after);
+fn number_words(rt: &impl Eprint, before: &str, number: usize, after: &str) -> io::Result<()> {
+    eprint!(rt; "{before}{number}{after}")
 }
 
 // The argument for a frame-rate code.
-pub fn bad_period(code: usize) {
-    no_number();
+pub fn bad_period(rt: &(impl Print + Eprint), code: usize) -> io::Result<()> {
+    no_number(rt)?;
     number_words(
-        b"charge: the argument for frame-rate code ",
+        rt,
+        "charge: the argument for frame-rate code ",
         code,
-        b" is no number: up to 20 bytes, blanks or none, then a decimal below 2^64, no leading 0\n",
-    );
+        " is no number: up to 20 bytes, blanks or none, then a decimal below 2^64, no leading 0\n",
+    )
 }
 
 // The first entry that 12 refuses; each is a table by itself.
@@ -55,28 +54,36 @@ fn first_bad(table: &[u8]) -> usize {
     entry
 }
 
-fn bad_table(table: &[u8]) {
-    refusal(12);
+fn bad_table(rt: &(impl Print + Eprint), table: &[u8]) -> io::Result<()> {
+    refusal(rt, 12)?;
     if table.len() % ENTRY_BYTES != 0 {
-        words(b"charge: standard input is not up to 64 whole entries of 118 bytes\n");
-        return;
+        return words(
+            rt,
+            "charge: standard input is not up to 64 whole entries of 118 bytes\n",
+        );
     }
     let entry = first_bad(table);
     number_words(
-        b"charge: in entry ",
+        rt,
+        "charge: in entry ",
         entry,
-        b" of the table the mode or the provenance is above 1, or a bound above 4,095\n",
-    );
+        " of the table the mode or the provenance is above 1, or a bound above 4,095\n",
+    )
 }
 
 // 5 or 12.
-pub fn refused(error: ConfigError, table: &[u8]) {
+pub fn refused(rt: &(impl Print + Eprint), error: ConfigError, table: &[u8]) -> io::Result<()> {
     match error {
         ConfigError::ZeroFramePeriod(code) => {
-            refusal(5);
-            number_words(b"charge: the period of frame-rate code ", code, b" is 0\n");
+            refusal(rt, 5)?;
+            number_words(
+                rt,
+                "charge: the period of frame-rate code ",
+                code,
+                " is 0\n",
+            )
         }
-        _ => bad_table(table),
+        _ => bad_table(rt, table),
     }
 }
 
@@ -91,12 +98,13 @@ fn first_long(frame_period: [u64; 16]) -> usize {
     code
 }
 
-pub fn long_period(frame_period: [u64; 16]) {
-    refusal(81);
+pub fn long_period(rt: &(impl Print + Eprint), frame_period: [u64; 16]) -> io::Result<()> {
+    refusal(rt, 81)?;
     let code = first_long(frame_period);
     number_words(
-        b"charge: the period of frame-rate code ",
+        rt,
+        "charge: the period of frame-rate code ",
         code,
-        b" is above 100,000,000 ns\n",
-    );
+        " is above 100,000,000 ns\n",
+    )
 }

@@ -2,8 +2,6 @@
 // standard output. It knows a bad question by its name and the count of its numbers, and takes their sizes more freely than the oracle.
 #![tactic(auto)]
 
-use libc::STDIN_FILENO;
-
 mod answer;
 mod commands;
 mod configuration;
@@ -19,7 +17,12 @@ mod transfers;
 mod waves;
 mod wiring;
 
+use full_read::read_full;
 use question::Line;
+use std::io::Read;
+
+// What is read at once.
+const CHUNK: usize = 65536;
 
 // What is read of the input.
 #[derive(Clone, Copy)]
@@ -29,58 +32,61 @@ pub struct Input {
 }
 
 fn lines(
+    rt: &impl Print,
     line: Line,
     bytes: &[u8],
     name: &mut [u8; question::NAME],
     numbers: &mut [u64; question::NUMBERS],
     text: &mut [u8; text::ROOM],
-) -> Line {
+) -> std::io::Result<Line> {
     let mut read = line;
-    let mut i: usize = 0;
-    while i < bytes.len() {
-        read = question::read(read, bytes[i], name, numbers, text);
-        i += 1;
+    for byte in bytes {
+        read = question::read(rt, read, *byte, name, numbers, text)?;
     }
-    read
+    Ok(read)
 }
 
 fn chunk(
+    rt: &impl Print,
+    input: &mut impl Read,
     line: Line,
     name: &mut [u8; question::NAME],
     numbers: &mut [u64; question::NUMBERS],
     text: &mut [u8; text::ROOM],
-) -> Input {
-    let mut bytes = io::large_buffer();
-    let count = io::read_full(STDIN_FILENO, &mut bytes);
-    let read = lines(line, &bytes[..count], name, numbers, text);
-    Input {
+) -> std::io::Result<Input> {
+    let mut bytes = [0u8; CHUNK];
+    let count = read_full(input, &mut bytes)?;
+    let read = lines(rt, line, &bytes[..count], name, numbers, text)?;
+    Ok(Input {
         line: read,
         ended: count == 0,
-    }
+    })
 }
 
-// A proved loop has to end, and nothing says that the input does: the loop counts down from a number that no run uses up.
+// A proved loop has to end, and nothing says that the input does: the turns have a bound that no run reaches.
 fn all(
+    rt: &impl Print,
+    input: &mut impl Read,
     name: &mut [u8; question::NAME],
     numbers: &mut [u64; question::NUMBERS],
     text: &mut [u8; text::ROOM],
-) -> usize {
+) -> std::io::Result<usize> {
     let mut line = question::fresh(0);
-    let mut turns = u64::MAX;
-    let mut more = true;
-    while 0 < turns && more {
-        let input = chunk(line, name, numbers, text);
-        line = input.line;
-        more = !input.ended;
-        turns -= 1;
+    for _ in 0..u64::MAX {
+        let read = chunk(rt, input, line, name, numbers, text)?;
+        line = read.line;
+        if read.ended {
+            break;
+        }
     }
-    line.at
+    Ok(line.at)
 }
 
-fn main() {
+fn main(rt: HostRuntime) -> std::io::Result<()> {
     let mut name = [0u8; question::NAME];
     let mut numbers = [0u64; question::NUMBERS];
     let mut text = [0u8; text::ROOM];
-    let at = all(&mut name, &mut numbers, &mut text);
-    text::write(&text, at);
+    let at = all(&rt, &mut rt.stdin(), &mut name, &mut numbers, &mut text)?;
+    text::write(&rt, &text, at)?;
+    Ok(())
 }

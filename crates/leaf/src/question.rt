@@ -87,31 +87,34 @@ fn next(line: Line, numbers: &mut [u64; NUMBERS]) -> Line {
 
 // The end of a line: its answer, and the next line.
 fn end(
+    rt: &impl Print,
     line: Line,
     name: &[u8; NAME],
     numbers: &mut [u64; NUMBERS],
     text: &mut [u8; text::ROOM],
-) -> Line {
+) -> std::io::Result<Line> {
     let whole = next(line, numbers);
     let at = answer::answer(text, whole.at, name, whole.name, numbers, whole.count);
-    fresh(text::written(text, at))
+    let next_at = text::written(rt, text, at)?;
+    Ok(fresh(next_at))
 }
 
 pub fn read(
+    rt: &impl Print,
     line: Line,
     byte: u8,
     name: &mut [u8; NAME],
     numbers: &mut [u64; NUMBERS],
     text: &mut [u8; text::ROOM],
-) -> Line {
+) -> std::io::Result<Line> {
     if byte == b'\n' {
-        return end(line, name, numbers, text);
+        return end(rt, line, name, numbers, text);
     }
     if byte == b' ' {
-        return next(line, numbers);
+        return Ok(next(line, numbers));
     }
     if line.named {
-        return count(line, byte);
+        return Ok(count(line, byte));
     }
-    spell(line, byte, name)
+    Ok(spell(line, byte, name))
 }

@@ -1,6 +1,4 @@
 // The text of the answers, gathered and written when there is enough of it.
-use libc::STDOUT_FILENO;
-
 // Bytes that are gathered at most.
 pub const ROOM: usize = 65536;
 
@@ -93,22 +91,22 @@ pub fn end(text: &mut [u8; ROOM], at: usize) {
     }
 }
 
-fn put_out(text: &[u8], at: usize) -> usize {
+fn put_out(rt: &impl Print, text: &[u8], at: usize) -> std::io::Result<usize> {
     if at <= text.len() {
-        io::write_all(STDOUT_FILENO, &text[0..at]);
+        rt.write_all(&text[0..at])?;
     }
-    0
+    Ok(0)
 }
 
 // Writes what is gathered, and answers the place to go on at.
-pub fn write(text: &[u8; ROOM], at: usize) -> usize {
-    put_out(text, at)
+pub fn write(rt: &impl Print, text: &[u8; ROOM], at: usize) -> std::io::Result<usize> {
+    put_out(rt, text, at)
 }
 
 // The same once there is enough.
-pub fn written(text: &[u8; ROOM], at: usize) -> usize {
+pub fn written(rt: &impl Print, text: &[u8; ROOM], at: usize) -> std::io::Result<usize> {
     if at < ENOUGH {
-        return at;
+        return Ok(at);
     }
-    write(text, at)
+    write(rt, text, at)
 }

@@ -1,8 +1,8 @@
 // For each width a line: in how many heights a header is written, in how many a header of these numbers is read, and the hash of those written.
 ghost use Rattle.std.specs.Prelude.{◌+◌, ◌≤◌, length};
 
-use libc::STDOUT_FILENO;
 use pgm::PgmError;
+use std::io;
 
 // Width and height go from 0 to this.
 const MOST: u16 = 1000;
@@ -86,31 +86,24 @@ fn try_height(headers: &mut [u8], at: usize, width: u16, height: u16) -> Tried
     }
 }
 
-fn put_width(width: u16) {
+fn put_width(rt: &impl Print, width: u16) -> io::Result<()> {
     let mut headers = [0u8; 15015];
     let mut end: usize = 0;
     let mut written: u64 = 0;
     let mut read: u64 = 0;
-    let mut height: u16 = 0;
-    while height <= MOST {
+    for height in 0..=MOST {
         let tried = try_height(&mut headers, end, width, height);
         end = tried.end;
         written += tried.written;
         read += tried.read;
-        height += 1;
     }
-    io::print_decimal(STDOUT_FILENO, written);
-    io::write_all(STDOUT_FILENO, b" ");
-    io::print_decimal(STDOUT_FILENO, read);
-    io::write_all(STDOUT_FILENO, b" ");
-    io::print_decimal(STDOUT_FILENO, hash::of_bytes(&headers[..end]));
-    io::write_all(STDOUT_FILENO, b"\n");
+    let hash = hash::of_bytes(&headers[..end]);
+    println!(rt; "{written} {read} {hash}")
 }
 
-pub fn put_sizes() {
-    let mut width: u16 = 0;
-    while width <= MOST {
-        put_width(width);
-        width += 1;
+pub fn put_sizes(rt: &impl Print) -> io::Result<()> {
+    for width in 0..=MOST {
+        put_width(rt, width)?;
     }
+    Ok(())
 }

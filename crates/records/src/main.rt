@@ -5,7 +5,7 @@ ghost use Rattle.std.specs.Prelude.{◌<◌, ◌≡◌, length};
 
 use config::DisplayMode;
 use diagnostic::{DiagnosticKind, Journal, Stage};
-use libc::STDOUT_FILENO;
+use std::io;
 
 fn stage_of(turn: u64) -> Stage {
     match turn % 7 {
@@ -88,12 +88,10 @@ fn report_all(log: &mut [u8]) -> Journal
     journal
 }
 
-fn main() {
+fn main(rt: HostRuntime) -> io::Result<()> {
     let mut log = [0u8; 16384];
     let journal = report_all(&mut log);
-    io::write_all(STDOUT_FILENO, &log);
-    io::print_decimal(STDOUT_FILENO, journal.count as u64);
-    io::write_all(STDOUT_FILENO, b"\n");
-    io::print_decimal(STDOUT_FILENO, journal.dropped);
-    io::write_all(STDOUT_FILENO, b"\n");
+    rt.write_all(&log)?;
+    rt.println(journal.count)?;
+    rt.println(journal.dropped)
 }

@@ -4,6 +4,7 @@ use crate::{others, say};
 use event::Event;
 use line::Line;
 use ram::Byte;
+use std::io;
 
 pub fn refused(progress: Progress, text: &mut [u8; text::ROOM], number: u8) -> Progress {
     if number == 0 {
@@ -54,24 +55,26 @@ fn byte_said(progress: Progress, text: &mut [u8; text::ROOM], byte: Byte) -> Pro
 }
 
 fn answered(
+    rt: &(impl Print + Eprint),
     before: Progress,
     text: &mut [u8; text::ROOM],
     event: Event,
     number: u8,
     byte: Byte,
-) -> Progress {
-    let progress = say::flushed(before, text);
+) -> io::Result<Progress> {
+    let progress = say::flushed(rt, before, text)?;
     if number == 0 {
         if let Event::Read(_) = event {
-            return byte_said(progress, text, byte);
+            return Ok(byte_said(progress, text, byte));
         }
-        return progress;
+        return Ok(progress);
     }
-    refused(progress, text, number)
+    Ok(refused(progress, text, number))
 }
 
 // The event is handed to the device, as often as its count asks.
 fn told(
+    rt: &(impl Print + Eprint),
     now: Run,
     event: Event,
     states: &mut [i64],
@@ -84,13 +87,12 @@ fn told(
     log: &mut [u8],
     otp: &[u8],
     text: &mut [u8; text::ROOM],
-) -> Run {
+) -> io::Result<Run> {
     let before = now.progress;
     let counted = is_counted(event);
-    let mut left = times(before, counted);
     let mut progress = used_up(before, counted);
     let mut state = now.state;
-    while 0 < left {
+    for _ in 0..times(before, counted) {
         let answer = dispatch::dispatch(
             state,
             &mut states[..],
@@ -107,13 +109,13 @@ fn told(
         let refusal = answer.refusal;
         let byte = answer.byte;
         state = answer.state;
-        progress = answered(progress, text, event, guard::number(refusal), byte);
-        left -= 1;
+        progress = answered(rt, progress, text, event, guard::number(refusal), byte)?;
     }
-    Run { progress, state }
+    Ok(Run { progress, state })
 }
 
 pub fn asked(
+    rt: &(impl Print + Eprint),
     now: Run,
     line: Line,
     states: &mut [i64],
@@ -127,9 +129,10 @@ pub fn asked(
     otp: &[u8],
     fields: &[u64],
     text: &mut [u8; text::ROOM],
-) -> Run {
+) -> io::Result<Run> {
     let Line::Event(event) = line else {
         return others::other(
+            rt,
             now,
             line,
             states,
@@ -146,6 +149,7 @@ pub fn asked(
         );
     };
     told(
+        rt,
         now,
         event,
         states,

@@ -5,6 +5,7 @@ use crate::run::Run;
 use crate::{calls, fields, prepare, run, say};
 use config::PanelGeometry;
 use line::Line;
+use std::io;
 
 fn is_start(line: Line) -> bool {
     if let Line::Start = line { true } else { false }
@@ -36,6 +37,7 @@ fn length(lent: usize, right: usize, most: usize) -> usize
 
 // The front of the chip's buffers, over those of the glass.
 fn chip_sized(
+    rt: &(impl Print + Eprint),
     now: Run,
     line: Line,
     height: u16,
@@ -50,7 +52,7 @@ fn chip_sized(
     otp: &[u8],
     fields: &[u64],
     text: &mut [u8; text::ROOM],
-) -> Run {
+) -> io::Result<Run> {
     let progress = now.progress;
     let lent = progress.lent;
     let black_white_bytes = length(lent[3], ram::PLANE_BYTES, black_white.len());
@@ -59,6 +61,7 @@ fn chip_sized(
     let log_bytes = length(lent[6], run::LOG - 1, log.len());
     let bytes = length(lent[7], progress.table, otp.len());
     calls::asked(
+        rt,
         now,
         line,
         states,
@@ -77,6 +80,7 @@ fn chip_sized(
 
 // The front of each buffer.
 fn sized(
+    rt: &(impl Print + Eprint),
     now: Run,
     line: Line,
     geometry: PanelGeometry,
@@ -91,7 +95,7 @@ fn sized(
     otp: &[u8],
     fields: &[u64],
     text: &mut [u8; text::ROOM],
-) -> Run {
+) -> io::Result<Run> {
     let progress = now.progress;
     let lent = progress.lent;
     let area = area(geometry.height, geometry.width);
@@ -100,6 +104,7 @@ fn sized(
     let pixel_count = length(lent[2], area, pixels.len());
     let grey_count = length(lent[8], run::COUNTS - 1, counts.len());
     chip_sized(
+        rt,
         now,
         line,
         geometry.height,
@@ -119,6 +124,7 @@ fn sized(
 
 // Takes a line, and writes the text when there is enough of it.
 pub fn take(
+    rt: &(impl Print + Eprint),
     now: Run,
     bytes: &[u8],
     states: &mut [i64; run::PIXELS],
@@ -133,18 +139,19 @@ pub fn take(
     table: &mut [u8; run::OTP],
     fields: &mut [u64; run::FIELDS],
     text: &mut [u8; text::ROOM],
-) -> Run {
+) -> io::Result<Run> {
     let read = now.progress;
     if read.ended {
-        return now;
+        return Ok(now);
     }
     let line = line::parse(bytes);
     let state = now.state;
     let config = state.config;
     let prepared = prepare::prepare(prepare::counted(read), line, otp, table, fields, text);
-    let progress = say::flushed(prepared, text);
+    let progress = say::flushed(rt, prepared, text)?;
     let geometry = panel(line, config.panel, fields);
     sized(
+        rt,
         Run { progress, state },
         line,
         geometry,

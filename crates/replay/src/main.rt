@@ -1,8 +1,6 @@
 // Replays runs of the whole device: lines of docs/replay-format.md on standard input, its answers on standard output.
 #![tactic(auto)]
 
-use libc::STDIN_FILENO;
-
 mod calls;
 mod current;
 mod dump;
@@ -18,7 +16,10 @@ mod say;
 mod start;
 
 use device::Ssd1677;
+use full_read::read_full;
 use run::Run;
+use std::io;
+use std::io::Read;
 
 // What is read at once: whole lines.
 const CHUNK: usize = 65529;
@@ -32,6 +33,7 @@ pub struct Input {
 
 // A line a turn; the last may be shorter, and is then a bad one.
 fn each(
+    rt: &(impl Print + Eprint),
     run: Run,
     bytes: &[u8],
     states: &mut [i64; run::PIXELS],
@@ -46,12 +48,13 @@ fn each(
     table: &mut [u8; run::OTP],
     fields: &mut [u64; run::FIELDS],
     text: &mut [u8; text::ROOM],
-) -> Run {
+) -> io::Result<Run> {
     let mut next = run;
     let mut i: usize = 0;
     while i < bytes.len() {
         let end = run::part_end(i, line::LINE_BYTES, bytes.len());
         next = lines::take(
+            rt,
             next,
             &bytes[i..end],
             states,
@@ -66,13 +69,15 @@ fn each(
             table,
             fields,
             text,
-        );
+        )?;
         i = end;
     }
-    next
+    Ok(next)
 }
 
 fn chunk(
+    rt: &(impl Print + Eprint),
+    input: &mut impl Read,
     run: Run,
     states: &mut [i64; run::PIXELS],
     luts: &mut [u8; run::PIXELS],
@@ -86,10 +91,11 @@ fn chunk(
     table: &mut [u8; run::OTP],
     fields: &mut [u64; run::FIELDS],
     text: &mut [u8; text::ROOM],
-) -> Input {
+) -> io::Result<Input> {
     let mut bytes = [0u8; CHUNK];
-    let count = io::read_full(STDIN_FILENO, &mut bytes);
+    let count = read_full(input, &mut bytes)?;
     let run = each(
+        rt,
         run,
         &bytes[..count],
         states,
@@ -104,11 +110,11 @@ fn chunk(
         table,
         fields,
         text,
-    );
-    Input {
+    )?;
+    Ok(Input {
         run,
         ended: count < CHUNK,
-    }
+    })
 }
 
 // The state that a start of an empty panel hands back, which stands for nothing started.
@@ -138,8 +144,10 @@ fn nothing() -> Ssd1677 {
     .state
 }
 
-// A proved loop has to end, and nothing says that the input does: the loop counts down from a number that no run uses up.
+// A proved loop has to end, and nothing says that the input does: the turns have a bound that no run reaches.
 fn all(
+    rt: &(impl Print + Eprint),
+    input: &mut impl Read,
     states: &mut [i64; run::PIXELS],
     luts: &mut [u8; run::PIXELS],
     pixels: &mut [u8; run::PIXELS],
@@ -152,14 +160,14 @@ fn all(
     table: &mut [u8; run::OTP],
     fields: &mut [u64; run::FIELDS],
     text: &mut [u8; text::ROOM],
-) {
+) -> io::Result<()> {
     let progress = run::fresh();
     let state = nothing();
     let mut now = Run { progress, state };
-    let mut turns = u64::MAX;
-    let mut more = true;
-    while 0 < turns && more {
-        let input = chunk(
+    for _ in 0..u64::MAX {
+        let read = chunk(
+            rt,
+            input,
             now,
             states,
             luts,
@@ -173,15 +181,17 @@ fn all(
             table,
             fields,
             text,
-        );
-        now = input.run;
-        more = !input.ended;
-        turns -= 1;
+        )?;
+        now = read.run;
+        if read.ended {
+            break;
+        }
     }
-    say::flush(now.progress, text);
+    say::flush(rt, now.progress, text)?;
+    Ok(())
 }
 
-fn main() {
+fn main(rt: HostRuntime) -> io::Result<()> {
     let mut states = [0i64; run::PIXELS];
     let mut luts = [0u8; run::PIXELS];
     let mut pixels = [0u8; run::PIXELS];
@@ -195,6 +205,8 @@ fn main() {
     let mut fields = fields::new();
     let mut text = [0u8; text::ROOM];
     all(
+        &rt,
+        &mut rt.stdin(),
         &mut states,
         &mut luts,
         &mut pixels,
@@ -207,5 +219,5 @@ fn main() {
         &mut table,
         &mut fields,
         &mut text,
-    );
+    )
 }

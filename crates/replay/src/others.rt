@@ -3,6 +3,7 @@ use crate::run::{Progress, Run};
 use crate::{calls, dump, handed, picture, say, start};
 use line::Line;
 use query::CallAnswer;
+use std::io;
 
 // The state that a call leaves; a refused one is said.
 fn settled(before: Progress, text: &mut [u8; text::ROOM], answer: CallAnswer) -> Run {
@@ -58,13 +59,18 @@ fn taken(now: Run, text: &mut [u8; text::ROOM]) -> Run {
     Run { progress, state }
 }
 
-fn pictured(now: Run, pixels: &[u8], text: &mut [u8; text::ROOM]) -> Run {
+fn pictured(
+    rt: &(impl Print + Eprint),
+    now: Run,
+    pixels: &[u8],
+    text: &mut [u8; text::ROOM],
+) -> io::Result<Run> {
     let state = now.state;
     let shown = query_state::panel_image(state);
     let refusal = shown.refusal;
     let number = guard::number(refusal);
-    let progress = picture::put(now.progress, text, number, shown.image, pixels);
-    Run { progress, state }
+    let progress = picture::put(rt, now.progress, text, number, shown.image, pixels)?;
+    Ok(Run { progress, state })
 }
 
 fn counts_said(
@@ -93,9 +99,16 @@ fn counted(now: Run, counts: &[u32], text: &mut [u8; text::ROOM]) -> Run {
 }
 
 // A line that takes no buffer to change.
-fn small(now: Run, line: Line, pixels: &[u8], counts: &[u32], text: &mut [u8; text::ROOM]) -> Run {
+fn small(
+    rt: &(impl Print + Eprint),
+    now: Run,
+    line: Line,
+    pixels: &[u8],
+    counts: &[u32],
+    text: &mut [u8; text::ROOM],
+) -> io::Result<Run> {
     let progress = now.progress;
-    match line {
+    let next = match line {
         Line::Query(time) => queried(now, text, time),
         Line::Ambient(register) => {
             settled(progress, text, query::set_ambient(now.state, register))
@@ -105,14 +118,16 @@ fn small(now: Run, line: Line, pixels: &[u8], counts: &[u32], text: &mut [u8; te
             let state = handed::with(now.state, field, n);
             Run { progress, state }
         }
-        Line::Picture => pictured(now, pixels, text),
+        Line::Picture => return pictured(rt, now, pixels, text),
         Line::Counts => counted(now, counts, text),
         _ => now,
-    }
+    };
+    Ok(next)
 }
 
 // Before a start nothing but a start is done.
 pub fn other(
+    rt: &(impl Print + Eprint),
     now: Run,
     line: Line,
     states: &mut [i64],
@@ -126,10 +141,10 @@ pub fn other(
     otp: &[u8],
     fields: &[u64],
     text: &mut [u8; text::ROOM],
-) -> Run {
+) -> io::Result<Run> {
     let progress = now.progress;
     if let Line::Start = line {
-        return start::start(
+        return Ok(start::start(
             progress,
             states,
             luts,
@@ -142,15 +157,15 @@ pub fn other(
             otp,
             fields,
             text,
-        );
+        ));
     }
     if !progress.started {
-        return now;
+        return Ok(now);
     }
     let Line::Dump = line else {
-        return small(now, line, pixels, counts, text);
+        return small(rt, now, line, pixels, counts, text);
     };
-    dump::dump(
+    Ok(dump::dump(
         now,
         states,
         luts,
@@ -160,5 +175,5 @@ pub fn other(
         gates,
         log,
         text,
-    )
+    ))
 }

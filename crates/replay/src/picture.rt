@@ -2,6 +2,7 @@
 use crate::run::Progress;
 use crate::{calls, run, say};
 use glass::PanelImage;
+use std::io;
 
 // From black to white.
 const SHADES: [u8; 10] = [64, 37, 35, 42, 43, 61, 45, 58, 46, 32];
@@ -28,28 +29,35 @@ fn head(progress: Progress, text: &mut [u8; text::ROOM], width: u16, height: u16
 }
 
 // A row of the panel a line; the text is written on the way.
-fn rows(progress: Progress, text: &mut [u8; text::ROOM], width: usize, pixels: &[u8]) -> Progress {
+fn rows(
+    rt: &(impl Print + Eprint),
+    progress: Progress,
+    text: &mut [u8; text::ROOM],
+    width: usize,
+    pixels: &[u8],
+) -> io::Result<Progress> {
     let mut next = progress;
     let mut i: usize = 0;
     while i < pixels.len() {
         let end = run::part_end(i, width, pixels.len());
-        next = say::flushed(next, text);
+        next = say::flushed(rt, next, text)?;
         next = say::said(next, row(text, next.at, &pixels[i..end]));
         i = end;
     }
-    next
+    Ok(next)
 }
 
 pub fn put(
+    rt: &(impl Print + Eprint),
     progress: Progress,
     text: &mut [u8; text::ROOM],
     number: u8,
     image: PanelImage,
     pixels: &[u8],
-) -> Progress {
+) -> io::Result<Progress> {
     if number == 0 {
         let begun = head(progress, text, image.width, image.height);
-        return rows(begun, text, image.width as usize, pixels);
+        return rows(rt, begun, text, image.width as usize, pixels);
     }
-    calls::refused(progress, text, number)
+    Ok(calls::refused(progress, text, number))
 }

@@ -1,5 +1,6 @@
 // Lines of the answers.
 use crate::run::Progress;
+use std::io;
 
 // Above so many bytes the text is written; no answer to a line is longer than the rest.
 const ENOUGH: usize = 57344;
@@ -54,14 +55,24 @@ pub fn line(progress: Progress, text: &mut [u8; text::ROOM], word: &[u8], n: u64
     said(progress, end(text, end_at))
 }
 
-pub fn flush(progress: Progress, text: &[u8; text::ROOM]) -> Progress {
-    said(progress, text::flush(text, progress.at))
+pub fn flush(
+    rt: &(impl Print + Eprint),
+    progress: Progress,
+    text: &[u8; text::ROOM],
+) -> io::Result<Progress> {
+    let (at, written) = text::flush(rt, text, progress.at);
+    written?;
+    Ok(said(progress, at))
 }
 
 // The same once there is enough.
-pub fn flushed(progress: Progress, text: &[u8; text::ROOM]) -> Progress {
+pub fn flushed(
+    rt: &(impl Print + Eprint),
+    progress: Progress,
+    text: &[u8; text::ROOM],
+) -> io::Result<Progress> {
     if progress.at < ENOUGH {
-        return progress;
+        return Ok(progress);
     }
-    flush(progress, text)
+    flush(rt, progress, text)
 }

@@ -3,6 +3,7 @@ use column::read::Column;
 use config::Ssd1677Timing;
 use glass::Optics;
 use shift_report::words::{CodeWord, VoltageWord};
+use std::env::{Env, FillError};
 
 // Bytes of the longest argument, a number of 64 bits. A longer one is read as an empty one, which is none that is asked for.
 const LONGEST: usize = 20;
@@ -15,45 +16,51 @@ pub struct GivenPeriods {
     pub bad: usize,
 }
 
+fn is_given(rt: &impl Env, place: usize) -> bool {
+    let mut byte = [0u8; 1];
+    !matches!(rt.arg(place, &mut byte), Err(FillError::NotPresent))
+}
+
 // How many there are, without the program's name.
-pub fn given() -> usize {
-    let count = os::arg_count();
-    if count == 0 {
-        return 0;
+pub fn given(rt: &impl Env) -> usize {
+    for count in 0..usize::MAX {
+        if !is_given(rt, count + 1) {
+            return count;
+        }
     }
-    count - 1
+    usize::MAX
 }
 
 pub fn is_asked(given: usize) -> bool {
     (given == 3) | (given == 4) | (given == 5) | (given == 20)
 }
 
-pub fn voltage(place: usize) -> VoltageWord {
+pub fn voltage(rt: &impl Env, place: usize) -> VoltageWord {
     let mut word = [0u8; LONGEST];
-    let length = os::arg(place, &mut word);
+    let length = rt.arg(place, &mut word).unwrap_or(0);
     shift_report::words::voltage(&word[..length])
 }
 
-pub fn code(place: usize) -> CodeWord {
+pub fn code(rt: &impl Env, place: usize) -> CodeWord {
     let mut word = [0u8; LONGEST];
-    let length = os::arg(place, &mut word);
+    let length = rt.arg(place, &mut word).unwrap_or(0);
     shift_report::words::code(&word[..length])
 }
 
 // A decimal below 2^64 without leading zeros, as in a column: blanks in front are taken.
-fn number(place: usize) -> Column {
+fn number(rt: &impl Env, place: usize) -> Column {
     let mut word = [0u8; LONGEST];
-    let length = os::arg(place, &mut word);
+    let length = rt.arg(place, &mut word).unwrap_or(0);
     column::read::number(&word[..length])
 }
 
 // The default where it is not given.
-pub fn swing(given: usize) -> Column {
+pub fn swing(rt: &impl Env, given: usize) -> Column {
     if given < 4 {
         let optics = Optics::default();
         return Column::Number(optics.full_swing);
     }
-    number(4)
+    number(rt, 4)
 }
 
 pub fn default_periods() -> [u64; 16] {
@@ -62,8 +69,8 @@ pub fn default_periods() -> [u64; 16] {
 }
 
 // One for all codes.
-fn same_period() -> GivenPeriods {
-    let Column::Number(period) = number(5) else {
+fn same_period(rt: &impl Env) -> GivenPeriods {
+    let Column::Number(period) = number(rt, 5) else {
         return GivenPeriods {
             frame_period: [0; 16],
             bad: 5,
@@ -76,18 +83,16 @@ fn same_period() -> GivenPeriods {
 }
 
 // One for each code.
-fn own_periods() -> GivenPeriods {
+fn own_periods(rt: &impl Env) -> GivenPeriods {
     let mut frame_period = [0u64; 16];
-    let mut code: usize = 0;
-    while code < 16 {
-        let Column::Number(period) = number(5 + code) else {
+    for code in 0..16 {
+        let Column::Number(period) = number(rt, 5 + code) else {
             return GivenPeriods {
                 frame_period,
                 bad: 5 + code,
             };
         };
         frame_period[code] = period;
-        code += 1;
     }
     GivenPeriods {
         frame_period,
@@ -95,7 +100,7 @@ fn own_periods() -> GivenPeriods {
     }
 }
 
-pub fn periods(given: usize) -> GivenPeriods {
+pub fn periods(rt: &impl Env, given: usize) -> GivenPeriods {
     if given < 5 {
         let frame_period = default_periods();
         return GivenPeriods {
@@ -104,7 +109,7 @@ pub fn periods(given: usize) -> GivenPeriods {
         };
     }
     if given == 5 {
-        return same_period();
+        return same_period(rt);
     }
-    own_periods()
+    own_periods(rt)
 }

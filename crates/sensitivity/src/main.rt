@@ -7,82 +7,102 @@ mod say;
 
 use arguments::GivenPeriods;
 use column::read::Column;
+use full_read::read_full;
 use glass::Optics;
-use libc::{STDIN_FILENO, STDOUT_FILENO};
 use shift_report::words::{CodeWord, VoltageWord};
+use std::io;
+use std::io::{Input, Read};
 use voltage_shift::DrivingVoltage;
 
 // One byte more than a setting has, so that longer input is seen to be longer.
 const INPUT_BYTES: usize = voltage_shift::SETTING_BYTES + 1;
 
-// Reading stops at the input's end or where it fails. One read more tells which: at the end it gives no byte. Says why if not.
-fn is_at_end() -> bool {
+// Reading stops at the first read that gives nothing. One read more tells whether that is the input's end: there it gives no byte. Says
+// why if not.
+fn is_at_end(rt: &impl Eprint, input: &mut impl Read) -> io::Result<bool> {
     let mut more = [0u8; 1];
-    let count = libc::read(STDIN_FILENO, &mut more);
-    if count < 0 {
-        os::fail(b"sensitivity: standard input");
+    match input.read(&mut more) {
+        Ok(0) => Ok(true),
+        Ok(_) => {
+            say::not_whole(rt)?;
+            Ok(false)
+        }
+        Err(error) => {
+            say::failed(rt, "standard input", error)?;
+            Ok(false)
+        }
     }
-    if 0 < count {
-        say::not_whole();
-    }
-    count == 0
 }
 
-fn report(optics: Optics, frame_period: [u64; 16], driving: DrivingVoltage, before: u8, after: u8) {
-    let mut input = [0u8; INPUT_BYTES];
-    let read = io::read_full(STDIN_FILENO, &mut input);
+fn report(
+    rt: &(impl Input + Print + Eprint),
+    optics: Optics,
+    frame_period: [u64; 16],
+    driving: DrivingVoltage,
+    before: u8,
+    after: u8,
+) -> io::Result<()> {
+    let mut setting = [0u8; INPUT_BYTES];
+    let mut input = rt.reader();
+    let read = match read_full(&mut input, &mut setting) {
+        Ok(read) => read,
+        Err(error) => return say::failed(rt, "standard input", error),
+    };
     if read < INPUT_BYTES {
-        if !is_at_end() {
-            return;
+        if !is_at_end(rt, &mut input)? {
+            return Ok(());
         }
     }
     let mut text = [0u8; shift_report::ROOM];
     let length = shift_report::report(
         optics,
         frame_period,
-        &input[..read],
+        &setting[..read],
         driving,
         before,
         after,
         &mut text,
     );
-    if !io::write_all(STDOUT_FILENO, &text[..length]) {
-        os::fail(b"sensitivity: standard output");
+    match rt.write_all(&text[..length]) {
+        Ok(()) => Ok(()),
+        Err(error) => say::failed(rt, "standard output", error),
     }
 }
 
-fn with_periods(periods: GivenPeriods, swing: u64, driving: DrivingVoltage, before: u8, after: u8) {
+fn with_periods(
+    rt: &(impl Input + Print + Eprint),
+    periods: GivenPeriods,
+    swing: u64,
+    driving: DrivingVoltage,
+    before: u8,
+    after: u8,
+) -> io::Result<()> {
     if periods.bad != 0 {
-        say::decimal(periods.bad);
-        return;
+        return say::decimal(rt, periods.bad);
     }
     let frame_period = periods.frame_period;
     let mut optics = Optics::default();
     optics.full_swing = swing;
-    report(optics, frame_period, driving, before, after);
+    report(rt, optics, frame_period, driving, before, after)
 }
 
-fn main() {
-    let given = arguments::given();
+fn main(rt: HostRuntime) -> io::Result<()> {
+    let given = arguments::given(&rt);
     if !arguments::is_asked(given) {
-        say::usage();
-        return;
+        return say::usage(&rt);
     }
-    let VoltageWord::Names(driving) = arguments::voltage(1) else {
-        say::voltage(1);
-        return;
+    let VoltageWord::Names(driving) = arguments::voltage(&rt, 1) else {
+        return say::voltage(&rt, 1);
     };
-    let CodeWord::Writes(before) = arguments::code(2) else {
-        say::code(2);
-        return;
+    let CodeWord::Writes(before) = arguments::code(&rt, 2) else {
+        return say::code(&rt, 2);
     };
-    let CodeWord::Writes(after) = arguments::code(3) else {
-        say::code(3);
-        return;
+    let CodeWord::Writes(after) = arguments::code(&rt, 3) else {
+        return say::code(&rt, 3);
     };
-    let Column::Number(swing) = arguments::swing(given) else {
-        say::decimal(4);
-        return;
+    let Column::Number(swing) = arguments::swing(&rt, given) else {
+        return say::decimal(&rt, 4);
     };
-    with_periods(arguments::periods(given), swing, driving, before, after);
+    let periods = arguments::periods(&rt, given);
+    with_periods(&rt, periods, swing, driving, before, after)
 }

@@ -1,52 +1,59 @@
 // The setting of the drive sheet on standard input (docs/drive-sheet.md).
 #![tactic(auto)]
 
-use libc::{STDERR_FILENO, STDIN_FILENO, STDOUT_FILENO};
+use full_read::read_full;
+use std::io;
+use std::io::Read;
 
 // One byte more than a sheet has, so that longer input is seen to be longer.
 const INPUT_BYTES: usize = sheet_text::TEXT_BYTES + 1;
 
-fn say(words: &[u8]) {
-    io::write_all(STDERR_FILENO, words);
+fn say(rt: &impl Eprint, words: &str) -> io::Result<()> {
+    rt.eprint(words)
 }
 
 // What the numbers mean, for a person at a terminal; standard output has the number or the line alone.
-fn say_why(length: usize) {
+fn say_why(rt: &impl Eprint, length: usize) -> io::Result<()> {
     if length < sheet_text::SETTING_BYTES {
         say(
-            b"sheet: no setting: 61 a voltage has no code, 62 repeats outside 1 to 256, 63 a code too large, or the line that is bad\n",
-        );
+            rt,
+            "sheet: no setting: 61 a voltage has no code, 62 repeats outside 1 to 256, 63 a code too large, or the line that is bad\n",
+        )?;
     }
+    Ok(())
 }
 
-// `io::read_full` stops where the input ends and where a read fails or is interrupted. Past the end another read gets nothing and does
-// not fail: one that fails or gets a byte tells that what was read is not the whole.
-fn is_cut_short() -> bool {
+// Reading stops at the first read that gets nothing. Past the end another read gets nothing either and does not fail: one that fails or
+// gets a byte tells that what was read is not the whole.
+fn is_cut_short(input: &mut impl Read) -> bool {
     let mut byte = [0u8; 1];
-    libc::read(STDIN_FILENO, &mut byte) != 0
+    !matches!(input.read(&mut byte), Ok(0))
 }
 
-fn write_answer(answer: &[u8]) {
-    if !io::write_all(STDOUT_FILENO, answer) {
-        say(b"sheet: the answer could not all be written\n");
+fn write_answer(rt: &(impl Print + Eprint), answer: &[u8]) -> io::Result<()> {
+    if rt.write_all(answer).is_err() {
+        say(rt, "sheet: the answer could not all be written\n")?;
     }
+    Ok(())
 }
 
-fn answer_text(text: &[u8]) {
+fn answer_text(rt: &(impl Print + Eprint), text: &[u8]) -> io::Result<()> {
     let mut out = [0u8; sheet_text::SETTING_BYTES];
     let length = sheet_text::answer(text, &mut out);
-    write_answer(&out[..length]);
-    say_why(length);
+    write_answer(rt, &out[..length])?;
+    say_why(rt, length)
 }
 
-fn main() {
-    let mut input = [0u8; INPUT_BYTES];
-    let read = io::read_full(STDIN_FILENO, &mut input);
-    if read < INPUT_BYTES {
-        if is_cut_short() {
-            say(b"sheet: standard input could not be read to its end, so there is no setting\n");
-            return;
+fn main(rt: HostRuntime) -> io::Result<()> {
+    let mut text = [0u8; INPUT_BYTES];
+    let mut input = rt.stdin();
+    match read_full(&mut input, &mut text) {
+        Ok(read) if read == INPUT_BYTES || !is_cut_short(&mut input) => {
+            answer_text(&rt, &text[..read])
         }
+        _ => say(
+            &rt,
+            "sheet: standard input could not be read to its end, so there is no setting\n",
+        ),
     }
-    answer_text(&input[..read]);
 }

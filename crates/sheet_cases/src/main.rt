@@ -3,38 +3,41 @@
 // setting is answered by the text of its sheet and by what `sheet` answers to that.
 #![tactic(auto)]
 
-use libc::{STDIN_FILENO, STDOUT_FILENO};
+use full_read::read_full;
+use std::io;
+use std::io::Read;
 
 // One byte more than a sheet has.
 const MOST: usize = sheet_text::TEXT_BYTES + 1;
 
-fn answer_text(text: &[u8]) {
+fn answer_text(rt: &impl Print, text: &[u8]) -> io::Result<()> {
     let mut out = [0u8; sheet_text::SETTING_BYTES];
     let length = sheet_text::answer(text, &mut out);
-    io::write_all(STDOUT_FILENO, &out[..length]);
+    rt.write_all(&out[..length])
 }
 
-fn text_case(body: &[u8], length: usize) {
+fn text_case(rt: &impl Print, body: &[u8], length: usize) -> io::Result<()> {
     if length <= body.len() {
-        answer_text(&body[0..length]);
+        answer_text(rt, &body[0..length])?;
     }
+    Ok(())
 }
 
-fn answer_setting(setting: &[u8; 112]) {
+fn answer_setting(rt: &impl Print, setting: &[u8; 112]) -> io::Result<()> {
     let sheet = drive_sheet::read(setting);
     let mut text = [0u8; sheet_text::TEXT_BYTES];
     let length = sheet_text::put(sheet, &mut text);
     let written: &[u8] = &text[..length];
-    io::write_all(STDOUT_FILENO, written);
-    answer_text(written);
+    rt.write_all(written)?;
+    answer_text(rt, written)
 }
 
-fn setting_case(body: &[u8]) {
+fn setting_case(rt: &impl Print, body: &[u8]) -> io::Result<()> {
     let mut setting = [0u8; 112];
     if 112 <= body.len() {
         byte_copy::copy(&body[0..112], &mut setting);
     }
-    answer_setting(&setting);
+    answer_setting(rt, &setting)
 }
 
 fn count(low: u8, high: u8) -> usize {
@@ -42,25 +45,28 @@ fn count(low: u8, high: u8) -> usize {
 }
 
 // Answers whether to go on.
-fn next_case() -> bool {
+fn next_case(rt: &impl Print, cases: &mut impl Read) -> io::Result<bool> {
     let mut head = [0u8; 3];
-    if io::read_full(STDIN_FILENO, &mut head) < 3 {
-        return false;
+    if read_full(cases, &mut head)? < 3 {
+        return Ok(false);
     }
     let mut body = [0u8; MOST];
-    io::read_full(STDIN_FILENO, &mut body);
+    read_full(cases, &mut body)?;
     if head[0] == b's' {
-        setting_case(&body);
-        return true;
+        setting_case(rt, &body)?;
+        return Ok(true);
     }
-    text_case(&body, count(head[1], head[2]));
-    true
+    text_case(rt, &body, count(head[1], head[2]))?;
+    Ok(true)
 }
 
-// Nothing says that the input ends, so the turns are counted down from a number that no run uses up.
-fn main() {
-    let mut turns = u64::MAX;
-    while turns > 0 && next_case() {
-        turns -= 1;
+// Nothing says that the input ends, so the turns have a bound that no run reaches.
+fn main(rt: HostRuntime) -> io::Result<()> {
+    let mut cases = rt.stdin();
+    for _ in 0..u64::MAX {
+        if !next_case(&rt, &mut cases)? {
+            break;
+        }
     }
+    Ok(())
 }

@@ -5,8 +5,6 @@
 ghost use Rattle.std.specs.Prelude.{◌≡◌, ◌<◌, [], ◌∷◌};
 ghost use Rattle.text.specs.Text.{gathered, put_of, written, decimal_of, digit_of, hex_of, truth_of};
 
-use libc::{STDERR_FILENO, STDOUT_FILENO};
-
 // Bytes that are gathered at most.
 pub const ROOM: usize = 65536;
 
@@ -80,26 +78,35 @@ pub fn hex(text: &mut [u8; ROOM], at: usize, bytes: &[u8]) -> usize
     to
 }
 
-fn write_front(text: &[u8], at: usize) -> usize
-    ensures { result ≡ 0 }
+// The place to go on at, and whether all was written.
+fn write_front(rt: &impl Print, text: &[u8], at: usize) -> (usize, std::io::Result<()>)
+    ensures { result.0 ≡ 0 }
 {
     if at <= text.len() {
-        io::write_all(STDOUT_FILENO, &text[0..at]);
+        return (0, rt.write_all(&text[0..at]));
     }
-    0
+    (0, Ok(()))
 }
 
 // Only a text that has used up all its room can lack something.
-fn say_if_full(at: usize) {
+fn say_if_full(rt: &impl Eprint, at: usize) -> std::io::Result<()> {
     if at == ROOM {
-        io::write_all(STDERR_FILENO, b"no room left for the text: it may be cut\n");
+        eprintln!(rt; "no room left for the text: it may be cut")?;
     }
+    Ok(())
 }
 
-// Writes what is gathered to standard output, and answers the place to go on at. Where no room was left, standard error says so.
-pub fn flush(text: &[u8; ROOM], at: usize) -> usize
-    ensures { result ≡ 0 }
+// Writes what is gathered to standard output, and answers the place to go on at and whether all was written. Where no room was left,
+// standard error says so.
+pub fn flush(
+    rt: &(impl Print + Eprint),
+    text: &[u8; ROOM],
+    at: usize,
+) -> (usize, std::io::Result<()>)
+    ensures { result.0 ≡ 0 }
 {
-    say_if_full(at);
-    write_front(text, at)
+    if let Err(error) = say_if_full(rt, at) {
+        return (0, Err(error));
+    }
+    write_front(rt, text, at)
 }

@@ -1,8 +1,0 @@
--- `leaf::all` is safe and ends: the turns that are left fall.
-use Rattle.leaf.proofs.all.Given as goal
-
-abbrev pub invariant-loop-turns : goal.invariant-loop-turns
-invariant-loop-turns l = Unit {0}
-
-abbrev pub decreases-loop-turns : goal.decreases-loop-turns
-decreases-loop-turns l = l.turns

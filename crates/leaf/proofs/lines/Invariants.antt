@@ -1,9 +1,0 @@
--- `leaf::lines` is safe and ends.
-use Rattle.std.proofs.Common.{◌-◌, length}
-use Rattle.leaf.proofs.lines.Given as goal
-
-abbrev pub invariant-loop-i : goal.invariant-loop-i
-invariant-loop-i l = Unit {0}
-
-abbrev pub decreases-loop-i : goal.decreases-loop-i
-decreases-loop-i l = length l.bytes - l.i

@@ -1,7 +1,0 @@
--- `sheet::answer_text` is safe and ends: the answer's length lies within the buffer.
-use mathlib.Core.Path.{sym}
-use lib.Seq.{length-take-le}
-use Rattle.sheet.proofs.answer_text.Goals as goal
-
-pub slice_bounds-write_answer-end : goal.slice_bounds-write_answer-end
-slice_bounds-write_answer-end c = sym (length-take-le c.answer-length.result c.answer-length.new.out c.answer-length.ensures.within)
