@@ -15,12 +15,12 @@ returns-then-count-at c =
 pub offset_bounds-times-at : goal.offset_bounds-times-at
 offset_bounds-times-at c =
     let s = c in
-    omega (arith, c.if-count-at.false, s.requires.2, s.well-formed.1.1.1.1.1.1.1.1.1.1.1.0.1)
+    omega (arith, c.if-count-at.false, s.requires.2, s.well_formed.1.1.1.1.1.1.1.1.1.1.1.0.1)
 
 pub counted-made-requires : goal.counted-made-requires
 counted-made-requires c =
     let s = c in
-    omega (arith, c.if-count-at.false, s.requires.1, s.well-formed.1.1.1.1.1.1.1.1.1.1.0.1)
+    omega (arith, c.if-count-at.false, s.requires.1, s.well_formed.1.1.1.1.1.1.1.1.1.1.0.1)
 
 pub returns : goal.returns
 returns c =
