@@ -105,8 +105,10 @@ pub fn flush(
 ) -> (usize, std::io::Result<()>)
     ensures { result.0 ≡ 0 }
 {
-    if let Err(error) = say_if_full(rt, at) {
-        return (0, Err(error));
+    let said = say_if_full(rt, at);
+    let (to, written) = write_front(rt, text, at);
+    match said {
+        Ok(()) => (to, written),
+        Err(error) => (to, Err(error)),
     }
-    write_front(rt, text, at)
 }
