@@ -1,6 +1,6 @@
 -- `listing::lines` meets its contract: the lines of one group after the other.
 use mathlib.Core.Path.{◌≡◌, refl, ap, ◌∙◌}
-use Prim.Native.Nat.{ℕ, ◌-◌}
+use Prim.Native.Nat.{ℕ}
 use native.Mathlib.Omega.{arith}
 use Rattle.waveform.specs.Phases.{joined}
 use Rattle.column.specs.Columns.{buffer, appended}

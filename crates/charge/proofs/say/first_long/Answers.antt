@@ -1,5 +1,4 @@
 -- `charge::say::first_long` is safe and ends.
-use Prim.Native.Nat.{◌-◌}
 use native.Mathlib.Omega.{arith}
 use Rattle.charge.proofs.say.first_long.Goals as goal
 

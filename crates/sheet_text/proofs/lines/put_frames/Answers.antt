@@ -1,6 +1,6 @@
 -- `sheet_text::lines::put_frames` meets its contract.
 use mathlib.Core.Path.{◌≡◌, refl, ap, ◌∙◌}
-use Prim.Native.Nat.{ℕ, ◌-◌}
+use Prim.Native.Nat.{ℕ}
 use native.Mathlib.Omega.{arith}
 use Rattle.waveform.specs.Phases.{joined}
 use Rattle.column.specs.Columns.{natural, buffer, appended}

@@ -1,6 +1,5 @@
 -- `sheet_text::lines::put_text` meets its contract: after i turns the text's first i bytes are written over.
 use mathlib.Core.Path.{refl}
-use Prim.Native.Nat.{◌-◌}
 use native.Mathlib.Omega.{arith}
 use Rattle.column.proofs.Appended.{pasted_none, pasted_more, pasted_all}
 use borrow.Author.Rules.{rules}

@@ -1,5 +1,4 @@
 -- `sheet_text::places::codes_at` meets its contract: the loop paints the codes from the front.
-use Prim.Native.Nat.{◌-◌}
 use native.Mathlib.Omega.{arith}
 use Rattle.numbers.proofs.Painted.{painted_none, painted_more, painted_all}
 use Rattle.sheet_text.proofs.places.codes_at.Goals as goal

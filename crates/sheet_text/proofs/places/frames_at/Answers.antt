@@ -1,5 +1,4 @@
 -- `sheet_text::places::frames_at` meets its contract: the loop paints the frames from the front.
-use Prim.Native.Nat.{◌-◌}
 use native.Mathlib.Omega.{arith}
 use Rattle.numbers.proofs.Painted.{painted_none, painted_more, painted_all}
 use Rattle.sheet_text.proofs.places.frames_at.Goals as goal

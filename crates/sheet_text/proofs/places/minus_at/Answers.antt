@@ -1,6 +1,6 @@
 -- `sheet_text::places::minus_at` meets its contract.
 use mathlib.Core.Path.{◌≡◌, ap, ◌∙◌}
-use Prim.Native.Nat.{ℕ, ◌-◌}
+use Prim.Native.Nat.{ℕ}
 use native.Mathlib.Omega.{arith}
 use lib.Dec.{eqb}
 use Rattle.otp.specs.Search.{any_of}

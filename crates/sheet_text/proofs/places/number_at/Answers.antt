@@ -1,6 +1,6 @@
 -- `sheet_text::places::number_at` meets its contract: the loop has read the number of the first i digits.
 use mathlib.Core.Path.{◌≡◌, ap, ◌∙◌}
-use Prim.Native.Nat.{ℕ, ◌-◌}
+use Prim.Native.Nat.{ℕ}
 use native.Mathlib.Omega.{arith}
 use Rattle.numbers.specs.Lists.{tab}
 use Rattle.column.specs.Reading.{value_of}
