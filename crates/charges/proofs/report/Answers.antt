@@ -1,6 +1,7 @@
 -- `charges::report` meets its contract: 5, 12, 81 and 11 in their order, then the text.
-use mathlib.Core.Path.{sym, ap, ◌∙◌}
-use mathlib.Core.Bool.{not}
+use mathlib.Core.Path.{◌≡◌, sym, ap, ◌∙◌}
+use mathlib.Core.Bool.{false, not}
+use borrow.Author.Rules.{rules}
 use mathlib.Core.List.{List, [], ◌∷◌}
 use Prim.Native.Nat.{ℕ, ◌*◌}
 use lib.ListN.{length}
@@ -37,8 +38,9 @@ pub returns-then-other_length : goal.returns-then-other_length
 unfolding reported_of
 returns-then-other_length c =
     let a = c in
+    let short : a.has_long_period-long_period.result ≡ false = search rules in
     at_lent (first a.args.frame_period a.args.otp.now) (long_period_test a.args.frame_period) (lent a.args.out.now a.args.otp.now) a.args.out.now (charge_text a.args.frame_period a.args.otp.now) a.parameters_error-error.ensures (ap not (sym a.is_accepted-accepted.ensures ∙ c.if-not-accepted.false))
-    (sym a.has_long_period-long_period.ensures ∙ c.if-long_period.false) (ap not (ne_eqb _ _ c.if-other_length.true))
+    (sym a.has_long_period-long_period.ensures ∙ short) (ap not (ne_eqb _ _ c.if-other_length.true))
 
 pub put_text-requires : goal.put_text-requires
 put_text-requires c =

@@ -1,5 +1,6 @@
 -- `drive_sheet::write` meets its contract: the tests in their order, then the bytes.
 use native.Mathlib.Omega.{arith}
+use borrow.Author.Rules.{rules}
 use mathlib.Core.Path.{◌≡◌, refl, sym, ap, ◌∙◌}
 use mathlib.Core.Bool.{Bool, false}
 use Rattle.drive_sheet.specs.declared.Sheet.{Sheet}
@@ -32,8 +33,9 @@ returns-then-no_code c =
 pub returns-then-bad_repeats : goal.returns-then-bad_repeats
 unfolding told_of
 returns-then-bad_repeats c =
-    let none = no_code c.args.sheet _ _ c.find_codes-codes.ensures.codes c.lacks_code-no_code.ensures in record {
-      bytes = repeats_refused c.args.sheet c.args.out.now c.if-out-ne-SETTING_BYTES.false (sym none ∙ c.if-no_code.false)
+    let none = no_code c.args.sheet _ _ c.find_codes-codes.ensures.codes c.lacks_code-no_code.ensures in
+    let coded : c.lacks_code-no_code.result ≡ false = search rules in record {
+      bytes = repeats_refused c.args.sheet c.args.out.now c.if-out-ne-SETTING_BYTES.false (sym none ∙ coded)
           (sym c.any_bad_repeats-bad_repeats.ensures ∙ c.if-bad_repeats.true);
       back = not_whole Repeats refl;
     }
