@@ -185,6 +185,15 @@ module _ (byte : ℕ) (d : Ssd1677) (b r : List ℕ) (c : Current) where
     pub streams : (wrote : Bool) → t ≡ true → wrote ≡ wrote_at (plane_of b r (plane_for a.command)) d.regs.counter → wrote ≡ is_streamed d b r c
     streams wrote h found = rw (is, ← tells, h) found
 
+    pub streams_not : t ≡ false → false ≡ is_streamed d b r c
+    streams_not h = rw (is, ← tells, h)
+
+  pub streams_idle : c ≡ current.Idle → false ≡ is_streamed d b r c
+  streams_idle is = rw is
+
+  pub streams_ignoring : c ≡ current.Ignoring → false ≡ is_streamed d b r c
+  streams_ignoring is = rw is
+
   pub streamed_as : (z w : WithRam) → true ≡ is_streamed d b r c → w ≡ with_ram d b r w.log → z ≡ data_taken byte w c → z ≡ streamed byte w c
   streamed_as z w y e f = took _ _ _ _ (ap (λ (x : WithRam). is_streamed x.device x.black_white x.red c) e ∙ sym y) f
 
