@@ -1,6 +1,6 @@
 // The dump of a device.
 use crate::run::Run;
-use crate::{current, registers, say};
+use crate::{current, register_lines, say};
 use device::{Deadline, Power, Ssd1677};
 use diagnostic::Journal;
 use glass::{PanelImage, RefreshKind};
@@ -138,7 +138,7 @@ fn chip(text: &mut [u8; text::ROOM], at: usize, state: Ssd1677) -> usize {
     let power_at = clock(text, at, state.now);
     let busy_at = power(text, power_at, supply, state.clock, state.analog);
     let registers_at = busy(text, busy_at, state);
-    registers::put(text, registers_at, state.regs)
+    register_lines::put(text, registers_at, state.regs)
 }
 
 // Those of what runs: the status, the command and the display.
@@ -146,7 +146,7 @@ fn running(text: &mut [u8; text::ROOM], at: usize, state: Ssd1677) -> usize {
     let bus = state.bus;
     let command = bus.current;
     let journal = state.journal;
-    let current_at = registers::status(text, at, state.status, journal.reserved_reported);
+    let current_at = register_lines::status(text, at, state.status, journal.reserved_reported);
     let display_at = current::put(text, current_at, command);
     display(text, display_at, state.display)
 }

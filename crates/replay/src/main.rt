@@ -10,10 +10,10 @@ mod lines;
 mod others;
 mod picture;
 mod prepare;
-mod registers;
+mod register_lines;
 mod run;
 mod say;
-mod start;
+mod start_lines;
 
 use device::Ssd1677;
 use full_read::read_full;

@@ -1,6 +1,6 @@
 // The lines that are no events: a start, what is asked of the device, and what the host changes in it.
 use crate::run::{Progress, Run};
-use crate::{calls, dump, handed, picture, say, start};
+use crate::{calls, dump, handed, picture, say, start_lines};
 use line::Line;
 use query::CallAnswer;
 use std::io;
@@ -144,7 +144,7 @@ pub fn other(
 ) -> io::Result<Run> {
     let progress = now.progress;
     if let Line::Start = line {
-        return Ok(start::start(
+        return Ok(start_lines::start(
             progress,
             states,
             luts,
