@@ -6,7 +6,7 @@ ghost use Rattle.std.specs.Prelude.{◌≡◌, ◌-◌, ◌≤◌, length};
 ghost use Rattle.burst.specs.Running.{byte_step, taking, ran, running};
 ghost use Rattle.burst.specs.Burst.{course_of, reached_by, into, ran_into, bursted, burstOf};
 
-use device::{Active, Current, Deadline, Ssd1677, part};
+use device::{Active, Current, Ssd1677, part};
 use ram::{Counter, Entry, Window};
 
 // The kind of a data event (docs/replay-format.md).
@@ -29,7 +29,7 @@ pub struct Course {
     // A display and its end.
     pub running: bool,
     pub ends: u64,
-    pub busy_until: Deadline,
+    pub busy_until: Option<u64>,
 }
 
 // What one event did.

@@ -1,12 +1,12 @@
 -- From an accepted start on, whatever calls came, each with what the call before it left: no further call is refused, and BUSY is high to
 -- the end of a running display. Assumes nothing.
+use Rattle.std.specs.Prelude.{Some}
 use Prim.Native.Nat.{ℕ, ◌<◌}
 use mathlib.Core.Path.{◌≡◌, sym, ap, subst, ◌∙◌}
 use mathlib.Core.Bool.{true, false}
 use mathlib.Core.List.{List, [], ◌∷◌}
 use Rattle.config.specs.declared.Ssd1677Config.{Ssd1677Config}
 use Rattle.config.specs.Answer.{is_accepted}
-use Rattle.device.specs.declared.Deadline.TheVariants.{At}
 use Rattle.world.specs.World.{World}
 use Rattle.busy.specs.Busy.{busy_at, deadline_of}
 use Rattle.guard.specs.declared.Refusal.TheVariants.{Accepted}
@@ -65,5 +65,5 @@ module _ (c : Ssd1677Config) (otp : List ℕ) (b : Buffers) (accepts : is_accept
     busy_while_running t h = busy_to_end present.device (run_kept.held run) t h
 
     -- and the next deadline is that end
-    pub deadline_while_running : deadline_of present.device ≡ At present.device.display.ends
+    pub deadline_while_running : deadline_of present.device ≡ Some present.device.display.ends
     deadline_while_running = deadline_at_end present.device (run_kept.held run) run

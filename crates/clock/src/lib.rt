@@ -9,7 +9,6 @@ ghost use Rattle.clock.specs.Advance.{Ready, stopped, ended, is_quiet, advanced}
 
 use device::{Ssd1677, part};
 use panel::Display;
-use waveform::Until;
 
 // A display that has ended, been cut or been dropped.
 pub fn stop(display: Display) -> Display
@@ -44,7 +43,7 @@ fn end_display(
             optics.positive_drives_black,
             periods,
             display.ends,
-            Until::Whole,
+            None,
             &mut states[..],
             luts,
             &mut pixels[..],

@@ -15,7 +15,7 @@ ghost use Rattle.combine.specs.Groups.{timed_group};
 ghost use Rattle.combine.specs.Settled.{Alike, settled, combined_of};
 
 use glass::Transfer;
-use waveform::{Drive, Driving, Levels, Until};
+use waveform::{Drive, Driving, Levels};
 
 // `from`, then `pass` so many times. `power` is `pass` once, twice, four times and so on, while the count is halved.
 fn repeated(from: Transfer, pass: Transfer, times: u16) -> Transfer
@@ -158,17 +158,17 @@ pub fn transfer(
     drive: Drive,
     swing: i64,
     positive_drives_black: bool,
-    until: Until,
+    until: Option<u64>,
 ) -> Transfer
     requires { Walkable (waveform_of setting.now frame_period.now) drive × (pos 1 ≤ℤ swing) }
     ensures value { result ≡ combined_of (waveform_of setting.now frame_period.now) drive swing positive_drives_black until }
     ensures alike { Alike result (transfer_of (waveform_of setting.now frame_period.now) drive swing positive_drives_black until) }
 {
     match until {
-        Until::Whole => {
+        None => {
             transfer_whole(setting, frame_period, drive, swing, positive_drives_black)
         }
-        Until::Cut(cut) => {
+        Some(cut) => {
             let decoded = setting::from_setting(setting, frame_period);
             walk::transfer_cut(decoded, drive, swing, positive_drives_black, cut)
         }

@@ -112,13 +112,6 @@ impl Ssd1677Timing {
 #[derive(Clone, Copy)]
 pub struct Temperature(i16);
 
-// A temperature, where the format holds it.
-#[derive(Clone, Copy)]
-pub enum FromSixteenths {
-    Within(Temperature),
-    Outside,
-}
-
 impl Temperature {
     // The lowest value of the format, 800h, −128 °C.
     pub const MIN: Temperature = Temperature(-2048);
@@ -126,18 +119,18 @@ impl Temperature {
     // The highest value of the format, 7FFh, 127.9375 °C; the temperature register's reset value.
     pub const MAX: Temperature = Temperature(2047);
 
-    pub fn from_sixteenths(sixteenths: i16) -> FromSixteenths
+    pub fn from_sixteenths(sixteenths: i16) -> Option<Temperature>
         ensures { result ≡ from_sixteenths sixteenths }
     {
         let coldest = Temperature::MIN;
         let warmest = Temperature::MAX;
         if sixteenths < coldest.0 {
-            return FromSixteenths::Outside;
+            return None;
         }
         if warmest.0 < sixteenths {
-            return FromSixteenths::Outside;
+            return None;
         }
-        FromSixteenths::Within(Temperature(sixteenths))
+        Some(Temperature(sixteenths))
     }
 
     // A whole number of degrees Celsius. An i8 times 16 never leaves the format, so nothing saturates.
@@ -195,13 +188,6 @@ pub fn mode_number(mode: DisplayMode) -> u8
     }
 }
 
-// A sensor on the controller's own I2C, with the register it reads, of which the low twelve bits count.
-#[derive(Clone, Copy)]
-pub enum ExternalSensor {
-    Absent,
-    Reads(u16),
-}
-
 // Everything an SSD1677 model is built from but the table of waveforms.
 #[derive(Clone, Copy)]
 pub struct Ssd1677Config {
@@ -212,7 +198,7 @@ pub struct Ssd1677Config {
     pub busy_active_high: bool,
     // The register that the internal sensor reads, of which the low twelve bits count.
     pub ambient: u16,
-    pub external_sensor: ExternalSensor,
+    pub external_sensor: Option<u16>,
     // The supply VCI, for the VCI detection (0x15).
     pub vci_millivolts: u32,
     // The user ID of the OTP, read by 0x2E and loaded into its register at reset.

@@ -11,7 +11,6 @@ ghost use Rattle.dispatch.specs.Dispatch.{told, silent, dispatched};
 use device::Ssd1677;
 use event::Event;
 use query::CallAnswer;
-use ram::Byte;
 use ssd1677::ReadAnswer;
 
 // An event that is no read gives no byte.
@@ -23,7 +22,7 @@ fn silent(answer: CallAnswer) -> ReadAnswer
     ReadAnswer {
         refusal,
         state,
-        byte: Byte::Nothing,
+        byte: None,
     }
 }
 

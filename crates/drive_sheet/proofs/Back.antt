@@ -1,4 +1,5 @@
 -- A sheet that passes is read back from its bytes. Assumes nothing.
+use Rattle.std.specs.Prelude.{ℤ, Option, Some, None}
 use mathlib.Core.Path.{◌≡◌, refl, sym, ap, subst, ◌∙◌}
 use mathlib.Core.Bool.{Bool, true, false, false≢true}
 use mathlib.Core.List.{List, [], ◌∷◌}
@@ -12,8 +13,6 @@ use borrow.Author.Tests.{lt-ltb, le-ltb, eqb-true, eqb-false}
 use Rattle.numbers.specs.Choice.{pick}
 use Rattle.numbers.specs.Lists.{tab}
 use Rattle.numbers.proofs.Painted.{length_tab, get_d_tab}
-use Rattle.voltage.specs.declared.Millivolts.{Millivolts}
-use Rattle.voltage.specs.declared.Millivolts.TheVariants.{Listed, Unlisted}
 use Rattle.voltage.specs.Codes.{voltage}
 use Rattle.waveform.specs.declared.GroupCodes.{GroupCodes}
 use Rattle.waveform.specs.Voltages.{or_zero, levels_of}
@@ -91,10 +90,10 @@ codes_back g e lut phase l m =
     ∙ four_at g.codes (4 * lut) phase m
 
 -- ---- a voltage
-listed_back : (m : Millivolts) (z : ℤ) → is_listed_as m z ≡ true → or_zero m ≡ z
+listed_back : (m : (Option ℤ)) (z : ℤ) → is_listed_as m z ≡ true → or_zero m ≡ z
 unfolding is_listed_as
-listed_back (Listed v) z e = same_true v z e
-listed_back Unlisted z e = absurd (false≢true e)
+listed_back (Some v) z e = same_true v z e
+listed_back None z e = absurd (false≢true e)
 
 -- 00h reads 0 mV for every supply: VCOM's list has it, and of the others it is unlisted
 zero_back : (supply : Supply) → or_zero (voltage_of supply 0) ≡ pos 0

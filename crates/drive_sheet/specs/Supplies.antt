@@ -1,9 +1,7 @@
 -- The codes of the four voltages of a sheet (#104): the voltage lists of waveform.rs, read from the millivolts to the code.
-use Rattle.std.specs.Prelude.{Bool, false, ◌&&◌, ◌||◌, ℕ, ◌<◌, eqb, ℤ, pos}
+use Rattle.std.specs.Prelude.{Bool, false, ◌&&◌, ◌||◌, ℕ, ◌<◌, eqb, ℤ, pos, Option, Some, None}
 use Rattle.std.specs.Int.Signed.{le_z}
 use Rattle.numbers.specs.Choice.{pick}
-use Rattle.voltage.specs.declared.Millivolts.{Millivolts}
-use Rattle.voltage.specs.declared.Millivolts.TheVariants.{Listed, Unlisted}
 use Rattle.voltage.specs.Codes.{source_voltage, vsl_voltage, vcom_voltage}
 use Rattle.config.specs.Lowest.{lowest}
 use Rattle.drive_sheet.specs.declared.Supply.{Supply}
@@ -12,7 +10,7 @@ use Rattle.drive_sheet.specs.declared.SupplyCodes.{SupplyCodes}
 use Rattle.drive_sheet.specs.declared.Sheet.{Sheet}
 
 -- what a code of a supply stands for
-abbrev pub voltage_of : Supply → ℕ → Millivolts
+abbrev pub voltage_of : Supply → ℕ → Option ℤ
 voltage_of Vsh1 code = source_voltage code
 voltage_of Vsh2 code = source_voltage code
 voltage_of Vsl code = vsl_voltage code
@@ -23,9 +21,9 @@ abbrev pub same_z : ℤ → ℤ → Bool
 same_z a b = le_z a b && le_z b a
 
 -- the code is listed, with these millivolts
-unfoldable pub is_listed_as : Millivolts → ℤ → Bool
-is_listed_as (Listed listed) millivolts = same_z listed millivolts
-is_listed_as Unlisted millivolts = false
+unfoldable pub is_listed_as : Option ℤ → ℤ → Bool
+is_listed_as (Some listed) millivolts = same_z listed millivolts
+is_listed_as None millivolts = false
 
 -- in place of a code, where none of 00h to FFh is found
 abbrev pub absent_code : ℕ

@@ -14,7 +14,6 @@ ghost use Rattle.drive_sheet.specs.Supplies.{Coded};
 ghost use Rattle.drive_sheet.specs.Bytes.{setting_of, sheet_byte, last_byte, sheet_of};
 ghost use Rattle.drive_sheet.specs.Tests.{Prepared, told_of, number_in, reply, written_of};
 
-use voltage::Millivolts;
 use waveform::{GroupCodes, Levels, Waveform};
 
 const SETTING_BYTES: usize = 112;
@@ -154,8 +153,8 @@ fn vcom_of(code: u8) -> i64
     ensures { result ≡ or_zero (vcom_voltage code) }
 {
     match voltage::vcom_millivolts(code) {
-        Millivolts::Listed(listed) => listed,
-        Millivolts::Unlisted => 0,
+        Some(listed) => listed,
+        None => 0,
     }
 }
 

@@ -4,12 +4,11 @@ ghost use Rattle.drive_sheet.specs.Bytes.{Formed};
 ghost use Rattle.drive_sheet.specs.Supplies.{voltage_of, is_listed_as, supply_code, supply_codes_of, lacks_code};
 
 use crate::{Sheet, Supply, SupplyCodes};
-use voltage::Millivolts;
 
 // Where a search through all codes has found none.
 const NO_CODE: usize = 256;
 
-fn millivolts_of(supply: Supply, code: u8) -> Millivolts
+fn millivolts_of(supply: Supply, code: u8) -> Option<i64>
     ensures { result ≡ voltage_of supply code }
 {
     match supply {
@@ -20,12 +19,12 @@ fn millivolts_of(supply: Supply, code: u8) -> Millivolts
     }
 }
 
-fn is_listed_as(listed: Millivolts, millivolts: i64) -> bool
+fn is_listed_as(listed: Option<i64>, millivolts: i64) -> bool
     ensures { result ≡ is_listed_as listed millivolts }
 {
     match listed {
-        Millivolts::Listed(value) => value == millivolts,
-        Millivolts::Unlisted => false,
+        Some(value) => value == millivolts,
+        None => false,
     }
 }
 

@@ -1,4 +1,5 @@
 -- No millivolts have two codes, so the search for one finds it. Assumes nothing.
+use Rattle.std.specs.Prelude.{ℤ, Option, Some, None}
 use mathlib.Core.Path.{◌≡◌, refl, sym, ap, subst, ◌∙◌}
 use mathlib.Core.Bool.{Bool, true, false, ◌&&◌, false≢true}
 use mathlib.Core.List.{List, [], ◌∷◌}
@@ -10,8 +11,6 @@ use lib.IntN.{ℤ, pos, neg_ℤ, nat_abs, neg_ℤ-neg_ℤ}
 use borrow.Author.Tests.{leb-true, eqb-true, ltb-true, ltb-false}
 use Rattle.numbers.specs.Choice.{pick}
 use Rattle.numbers.proofs.Cases.{left, right}
-use Rattle.voltage.specs.declared.Millivolts.{Millivolts}
-use Rattle.voltage.specs.declared.Millivolts.TheVariants.{Listed, Unlisted}
 use Rattle.voltage.specs.Codes.{Line, has, at, voltage, below, source_high, source_low, vsl_line, vcom_zero, vcom_line}
 use Rattle.voltage.proofs.Lines.{In}
 use Rattle.waveform.specs.Voltages.{or_zero}
@@ -41,13 +40,13 @@ is_in l code e =
     }
 
 module _ (sign : ℕ → ℤ) (code : ℕ) (z : ℤ) where
-  stands : (ls : List Line) → voltage sign ls code ≡ Listed z → (n : ℕ) × ((sign n ≡ z) × Stands ls code n)
+  stands : (ls : List Line) → voltage sign ls code ≡ Some z → (n : ℕ) × ((sign n ≡ z) × Stands ls code n)
   unfolding voltage
   stands [] e = absurd (let x : ◌≡◌ {A = ℕ} 0 1 = cc in omega arith)
   stands (l ∷ ls) e = by (has l code) refl e (λ f. stands ls f)
     where
-      by : (b : Bool) → has l code ≡ b → pick b (Listed (sign (at l code))) (voltage sign ls code) ≡ Listed z
-          → (voltage sign ls code ≡ Listed z → (n : ℕ) × ((sign n ≡ z) × Stands ls code n)) → (n : ℕ) × ((sign n ≡ z) × Stands (l ∷ ls) code n)
+      by : (b : Bool) → has l code ≡ b → pick b (Some (sign (at l code))) (voltage sign ls code) ≡ Some z
+          → (voltage sign ls code ≡ Some z → (n : ℕ) × ((sign n ≡ z) × Stands ls code n)) → (n : ℕ) × ((sign n ≡ z) × Stands (l ∷ ls) code n)
       by true r f more = (at l code, (ap or_zero f, inl (is_in l code r, refl)))
       by false r f more = let m = more f in (m.0, (m.1.0, inr m.1.1))
 
@@ -78,7 +77,7 @@ vcom_once a b n (inr (inr none)) t = absurd none
 -- so it does with a sign that loses nothing
 module _ (sign : ℕ → ℤ) (one : (m n : ℕ) → sign m ≡ sign n → m ≡ n) (ls : List Line)
     (once : (a b n : ℕ) → Stands ls a n → Stands ls b n → a ≡ b) where
-  signed_once : (a b : ℕ) (z : ℤ) → voltage sign ls a ≡ Listed z → voltage sign ls b ≡ Listed z → a ≡ b
+  signed_once : (a b : ℕ) (z : ℤ) → voltage sign ls a ≡ Some z → voltage sign ls b ≡ Some z → a ≡ b
   signed_once a b z e f =
       let s = stands sign a z ls e in
       let t = stands sign b z ls f in
@@ -91,21 +90,21 @@ below_one : (m n : ℕ) → below m ≡ below n → m ≡ n
 below_one m n e = pos_one m n (sym (neg_ℤ-neg_ℤ (pos m)) ∙ ap neg_ℤ e ∙ neg_ℤ-neg_ℤ (pos n))
 
 -- no millivolts have two codes, 0 mV among them
-pub one_code : (supply : Supply) (a b : ℕ) (z : ℤ) → voltage_of supply a ≡ Listed z → voltage_of supply b ≡ Listed z → a ≡ b
+pub one_code : (supply : Supply) (a b : ℕ) (z : ℤ) → voltage_of supply a ≡ Some z → voltage_of supply b ≡ Some z → a ≡ b
 one_code Vsh1 = signed_once pos pos_one (source_high ∷ source_low ∷ []) source_once
 one_code Vsh2 = signed_once pos pos_one (source_high ∷ source_low ∷ []) source_once
 one_code Vsl = signed_once below below_one (vsl_line ∷ []) vsl_once
 one_code Vcom = signed_once below below_one (vcom_zero ∷ vcom_line ∷ []) vcom_once
 
 -- ---- the test of the search
-listed_yes : (m : Millivolts) (z : ℤ) → m ≡ Listed z → is_listed_as m z ≡ true
+listed_yes : (m : (Option ℤ)) (z : ℤ) → m ≡ Some z → is_listed_as m z ≡ true
 unfolding is_listed_as
-listed_yes m z e = ap (λ (v : Millivolts). is_listed_as v z) e ∙ same_self z
+listed_yes m z e = ap (λ (v : (Option ℤ)). is_listed_as v z) e ∙ same_self z
 
-listed_is : (m : Millivolts) (z : ℤ) → is_listed_as m z ≡ true → m ≡ Listed z
+listed_is : (m : (Option ℤ)) (z : ℤ) → is_listed_as m z ≡ true → m ≡ Some z
 unfolding is_listed_as
-listed_is (Listed v) z e = ap Listed (same_true v z e)
-listed_is Unlisted z e = absurd (false≢true e)
+listed_is (Some v) z e = ap Some (same_true v z e)
+listed_is None z e = absurd (false≢true e)
 
 module _ (supply : Supply) (z : ℤ) where
   abbrev stood : ℕ → Bool
@@ -122,7 +121,7 @@ module _ (supply : Supply) (z : ℤ) where
       by true r = ltb-true (lowest stood absent_code) absent_code r
       by false r = absurd (false≢true (sym (before stood absent_code code (omega (arith, ltb-false (lowest stood absent_code) absent_code r))) ∙ e))
 
-  none : ((code : ℕ) → code < absent_code → voltage_of supply code ≡ Listed z → ⊥) → Passed stood absent_code
+  none : ((code : ℕ) → code < absent_code → voltage_of supply code ≡ Some z → ⊥) → Passed stood absent_code
   none h k l = by (stood k) refl
     where
       by : (b : Bool) → stood k ≡ b → b ≡ false

@@ -10,14 +10,13 @@ ghost use Rattle.driven.specs.Read.{with_read, data_read};
 
 use device::Ssd1677;
 use guard::Refusal;
-use ram::Byte;
 
 // The state that a read leaves, or the one that it was handed and refuses, and the byte: none when the chip drives nothing.
 #[derive(Clone, Copy)]
 pub struct ReadAnswer {
     pub refusal: Refusal,
     pub state: Ssd1677,
-    pub byte: Byte,
+    pub byte: Option<u8>,
 }
 
 // A byte read by the MCU. None when the chip drives nothing: the line floats, the board decides its level.
@@ -55,7 +54,7 @@ pub fn read_data(
             byte,
         };
     }
-    let byte = Byte::Nothing;
+    let byte = None;
     ReadAnswer {
         refusal,
         state,

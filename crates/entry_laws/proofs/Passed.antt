@@ -1,4 +1,5 @@
 -- What a call that is accepted has: what its callees ask. Assumes nothing.
+use Rattle.std.specs.Prelude.{ℕ, Option, Some}
 use Prim.Native.Nat.{ℕ, ◌≤◌, ◌<◌, ◌^◌}
 use mathlib.Core.Path.{◌≡◌, refl, sym, ◌∙◌}
 use mathlib.Core.Bool.{Bool, true, false}
@@ -10,8 +11,6 @@ use lib.ListN.{length}
 use Rattle.clock.specs.Advance.{Ready}
 use Rattle.device.specs.declared.Ssd1677.{Ssd1677}
 use Rattle.guard_lengths.specs.declared.Lengths.{Lengths}
-use Rattle.guard_lengths.specs.declared.LentLength.{LentLength}
-use Rattle.guard_lengths.specs.declared.LentLength.TheVariants.{Of}
 use Rattle.guard.specs.declared.Refusal.{Refusal}
 use Rattle.guard.specs.declared.Refusal.TheVariants.{Accepted, Buffer, Table, State, Counts}
 use Rattle.guard_lengths.specs.Lengths.{lengths_fit, lengths_of}
@@ -29,7 +28,7 @@ only_accepted Table e = absurd (never e)
 only_accepted State e = absurd (never e)
 only_accepted Counts e = absurd (never e)
 
-module _ (d : Ssd1677) (states : List ℤ) (luts pixels counts : List ℕ) (log black red gates : LentLength)
+module _ (d : Ssd1677) (states : List ℤ) (luts pixels counts : List ℕ) (log black red gates : Option ℕ)
     (fine : state_fine d ≡ true)
     (fit : lengths_fit d.config.panel (lengths_of (length states) (length luts) (length pixels) (length counts) log black red gates) ≡ true) where
   abbrev lengths : Lengths
@@ -58,7 +57,7 @@ module _ (d : Ssd1677) (states : List ℤ) (luts pixels counts : List ℕ) (log 
       }
 
   -- the log has its length
-  pub log_fine : (n : ℕ) → log ≡ Of n → n ≡ 16384
+  pub log_fine : (n : ℕ) → log ≡ Some n → n ≡ 16384
   log_fine n e = (fine_lengths d.config.panel lengths fit).log n e
 
 module _ (d : Ssd1677) (l : Lengths) (r : Refusal) (b : Bool) (is : r ≡ guarded d l) (t : b ≡ accepts r) (h : b ≡ true) where

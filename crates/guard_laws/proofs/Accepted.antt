@@ -1,4 +1,5 @@
 -- What a call that is not refused knows of what it was handed. Assumes nothing.
+use Rattle.std.specs.Prelude.{ℕ, Option, Some}
 use Prim.Native.Nat.{ℕ, zero, suc, ◌+◌, ◌%◌, ◌≤◌, ◌<◌}
 use mathlib.Core.Path.{◌≡◌, refl, sym, ap, ◌∙◌, subst}
 use mathlib.Core.Bool.{Bool, true, false, ◌&&◌, not}
@@ -19,8 +20,6 @@ use Rattle.otp.specs.Table.{bad_table}
 use Rattle.device.specs.declared.Registers.{Registers}
 use Rattle.device.specs.declared.Ssd1677.{Ssd1677}
 use Rattle.registers.proofs.Bounds.{Bounded}
-use Rattle.guard_lengths.specs.declared.LentLength.{LentLength}
-use Rattle.guard_lengths.specs.declared.LentLength.TheVariants.{Of}
 use Rattle.guard_lengths.specs.declared.Lengths.{Lengths}
 use Rattle.guard.specs.declared.Refusal.{Refusal}
 use Rattle.guard.specs.declared.Refusal.TheVariants.{Accepted, Buffer, Table, State, Counts}
@@ -189,14 +188,14 @@ pub record FineLengths (p : PanelGeometry) (l : Lengths) : Type 0 where
   pub states : l.states ≡ pixels_of p
   pub luts : l.luts ≡ pixels_of p
   pub pixels : l.pixels ≡ pixels_of p
-  pub log : (n : ℕ) → l.log ≡ Of n → n ≡ 16384
-  pub black_white : (n : ℕ) → l.black_white ≡ Of n → n ≡ 81600
-  pub red : (n : ℕ) → l.red ≡ Of n → n ≡ 81600
-  pub gates : (n : ℕ) → l.gates ≡ Of n → n ≡ p.height
+  pub log : (n : ℕ) → l.log ≡ Some n → n ≡ 16384
+  pub black_white : (n : ℕ) → l.black_white ≡ Some n → n ≡ 81600
+  pub red : (n : ℕ) → l.red ≡ Some n → n ≡ 81600
+  pub gates : (n : ℕ) → l.gates ≡ Some n → n ≡ p.height
 
-right_length : (b : LentLength) (size : ℕ) → fits b size ≡ true → (n : ℕ) → b ≡ Of n → n ≡ size
+right_length : (b : (Option ℕ)) (size : ℕ) → fits b size ≡ true → (n : ℕ) → b ≡ Some n → n ≡ size
 unfolding fits
-right_length b size e n f = eqb-true n size (ap (λ (x : LentLength). fits x size) (sym f) ∙ e)
+right_length b size e n f = eqb-true n size (ap (λ (x : (Option ℕ)). fits x size) (sym f) ∙ e)
 
 pub fine_lengths : (p : PanelGeometry) (l : Lengths) → lengths_fit p l ≡ true → FineLengths p l
 unfolding lengths_fit

@@ -1,4 +1,5 @@
 -- A data byte: what each return of the code hands over, over plain variables. Assumes nothing.
+use Rattle.std.specs.Prelude.{Some, None}
 use Prim.Native.Nat.{ℕ, max}
 use mathlib.Core.Path.{◌≡◌, refl, ap, ◌∙◌}
 use mathlib.Core.Bool.{Bool, true, false}
@@ -11,7 +12,6 @@ use Rattle.clock.specs.Advance.{Ready, is_quiet, advanced}
 use Rattle.clock.proofs.Cases.{rests}
 use Rattle.data.specs.Data.{data_taken}
 use Rattle.guard_lengths.specs.declared.Lengths.{Lengths}
-use Rattle.guard_lengths.specs.declared.LentLength.TheVariants.{Nothing, Of}
 use Rattle.guard.specs.declared.Refusal.{Refusal}
 use Rattle.guard_lengths.specs.Lengths.{planes_log_lent}
 use Rattle.guard.specs.Refusals.{refusal_number, accepts, guarded}
@@ -30,13 +30,13 @@ module _ (luts : List ℕ) (time byte : ℕ) (w : WithPlanes) (l : Lengths) (r :
 
   pub data_ready : b ≡ true → Ready w.device w.states luts w.picture.pixels w.picture.counts
   data_ready h =
-      ready_fine w.device w.states luts w.picture.pixels w.picture.counts (Of (length w.log)) (Of (length w.black_white)) (Of (length w.red)) Nothing
+      ready_fine w.device w.states luts w.picture.pixels w.picture.counts (Some (length w.log)) (Some (length w.black_white)) (Some (length w.red)) None
       (state_passed w.device _ r b same t h) (lengths_passed w.device _ r b same t h)
       (counts_passed w.device _ r b same t h)
 
   pub data_log : b ≡ true → length w.log ≡ 16384
   data_log h =
-      log_fine w.device w.states luts w.picture.pixels w.picture.counts (Of (length w.log)) (Of (length w.black_white)) (Of (length w.red)) Nothing
+      log_fine w.device w.states luts w.picture.pixels w.picture.counts (Some (length w.log)) (Some (length w.black_white)) (Some (length w.red)) None
       (state_passed w.device _ r b same t h) (lengths_passed w.device _ r b same t h) (length w.log) refl
 
   pub data_moves : (a : WithGlass) (m : WithRam) → b ≡ true → a ≡ advanced luts time (with_glass w.device w.states w.picture)

@@ -1,8 +1,6 @@
 // What the command table and the border register say.
 use crate::{take, text};
-use command::Known;
 use device::{Kind, Params};
-use panel::Border;
 use waveform::Drive;
 
 fn three(text: &mut [u8; text::ROOM], at: usize, tag: u64, least: u16, most: u16) -> usize {
@@ -20,7 +18,7 @@ fn params(text: &mut [u8; text::ROOM], at: usize, params: Params) -> usize {
 }
 
 fn kind(text: &mut [u8; text::ROOM], at: usize, command: u8) -> usize {
-    let Known::Of(kind) = command::kind(command) else {
+    let Some(kind) = command::kind(command) else {
         return three(text, at, 0, 0, 0);
     };
     match kind {
@@ -37,7 +35,7 @@ fn two(text: &mut [u8; text::ROOM], at: usize, tag: u64, n: u64) -> usize {
 }
 
 fn border_drive(text: &mut [u8; text::ROOM], at: usize, border: u8) -> usize {
-    let Border::Driven(drive) = panel::border_drive(border) else {
+    let Some(drive) = panel::border_drive(border) else {
         return text::none(text, at);
     };
     match drive {

@@ -1,10 +1,7 @@
 // The choice of a waveform, and the conditions of a start.
 use crate::{question, take, text};
-use config::{
-    ConfigError, DisplayMode, ExternalSensor, GateScan, PanelGeometry, Ssd1677Config, Ssd1677Timing,
-};
+use config::{ConfigError, DisplayMode, GateScan, PanelGeometry, Ssd1677Config, Ssd1677Timing};
 use glass::{Optics, Provenance};
-use otp::FoundEntry;
 
 // Bytes of a table at most: what a question holds after the fields and the length.
 const TABLE: usize = question::NUMBERS - 55;
@@ -48,18 +45,18 @@ fn mode(numbers: &[u64]) -> DisplayMode {
 }
 
 // The place that is told beside a part that holds an entry.
-fn found_in(table: &[u8], length: usize, mode: DisplayMode, register: u16) -> FoundEntry {
+fn found_in(table: &[u8], length: usize, mode: DisplayMode, register: u16) -> Option<usize> {
     if length <= table.len() {
         let mut place: u8 = 255;
         let part = otp::find_waveform(&table[0..length], mode, register, &mut place);
         if 0 < part.len() {
-            return FoundEntry::At(place as usize);
+            return Some(place as usize);
         }
     }
-    FoundEntry::Nothing
+    None
 }
 
-fn found(table: &[u8; TABLE], length: usize, mode: DisplayMode, register: u16) -> FoundEntry {
+fn found(table: &[u8; TABLE], length: usize, mode: DisplayMode, register: u16) -> Option<usize> {
     found_in(table, length, mode, register)
 }
 
@@ -72,11 +69,11 @@ fn find_waveform(text: &mut [u8; text::ROOM], at: usize, numbers: &[u64]) -> usi
     entries(&mut table, count, numbers);
     let mode = mode(numbers);
     match found(&table, 118 * count, mode, take::word(numbers, 1)) {
-        FoundEntry::At(entry) => {
+        Some(entry) => {
             let next = text::there(text, at);
             text::number(text, next, entry as u64)
         }
-        FoundEntry::Nothing => text::none(text, at),
+        None => text::none(text, at),
     }
 }
 
@@ -132,11 +129,11 @@ fn timing(numbers: &[u64]) -> Ssd1677Timing {
     }
 }
 
-fn sensor(numbers: &[u64]) -> ExternalSensor {
+fn sensor(numbers: &[u64]) -> Option<u16> {
     if take::truth(numbers, 40) {
-        return ExternalSensor::Reads(take::word(numbers, 41));
+        return Some(take::word(numbers, 41));
     }
-    ExternalSensor::Absent
+    None
 }
 
 fn user_id(numbers: &[u64]) -> [u8; 10] {

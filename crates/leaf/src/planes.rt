@@ -1,6 +1,6 @@
 // The counter and the planes.
 use crate::{take, text};
-use ram::{Counter, Entry, Pixel, Place, Window};
+use ram::{Counter, Entry, Window};
 
 fn counter(numbers: &[u64]) -> Counter {
     Counter {
@@ -27,11 +27,11 @@ fn advance(text: &mut [u8; text::ROOM], at: usize, numbers: &[u64]) -> usize {
 
 fn index(text: &mut [u8; text::ROOM], at: usize, numbers: &[u64]) -> usize {
     match ram::index(counter(numbers)) {
-        Place::At(place) => {
+        Some(place) => {
             let next = text::there(text, at);
             text::number(text, next, place as u64)
         }
-        Place::Outside => text::none(text, at),
+        None => text::none(text, at),
     }
 }
 
@@ -59,7 +59,7 @@ pub fn seed(numbers: &[u64], i: usize) -> u32 {
     (take::number(numbers, i) % 4294967296) as u32
 }
 
-fn pixel(plane: &[u8; ram::PLANE_BYTES], x: u16, row: u16) -> Pixel {
+fn pixel(plane: &[u8; ram::PLANE_BYTES], x: u16, row: u16) -> Option<bool> {
     ram::bit(plane, x, row)
 }
 
@@ -67,11 +67,11 @@ fn bit(text: &mut [u8; text::ROOM], at: usize, numbers: &[u64]) -> usize {
     let mut plane = [0u8; ram::PLANE_BYTES];
     fill(&mut plane, seed(numbers, 0));
     match pixel(&plane, take::word(numbers, 1), take::word(numbers, 2)) {
-        Pixel::Is(bit) => {
+        Some(bit) => {
             let next = text::there(text, at);
             text::truth(text, next, bit)
         }
-        Pixel::Nothing => text::none(text, at),
+        None => text::none(text, at),
     }
 }
 

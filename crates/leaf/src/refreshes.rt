@@ -6,7 +6,6 @@ use config::{GateScan, PanelGeometry};
 use glass::{Optics, Provenance, RefreshKind};
 use panel::{Display, Panel};
 use scan::{PlaneOption, Scan};
-use waveform::Until;
 
 // Pixels of a panel at most.
 const PIXELS: usize = 1024;
@@ -59,11 +58,11 @@ fn display(numbers: &[u64]) -> Display {
     }
 }
 
-fn until(numbers: &[u64]) -> Until {
+fn until(numbers: &[u64]) -> Option<u64> {
     if take::truth(numbers, 7) {
-        return Until::Cut(take::number(numbers, 8));
+        return Some(take::number(numbers, 8));
     }
-    Until::Whole
+    None
 }
 
 fn scan() -> Scan {

@@ -1,12 +1,11 @@
 // Voltages and the registers' own arithmetic.
 use crate::{take, text};
-use voltage::Millivolts;
 use waveform::Levels;
 
-fn millivolts(text: &mut [u8; text::ROOM], at: usize, millivolts: Millivolts) -> usize {
+fn millivolts(text: &mut [u8; text::ROOM], at: usize, millivolts: Option<i64>) -> usize {
     match millivolts {
-        Millivolts::Listed(listed) => text::some(text, at, listed),
-        Millivolts::Unlisted => text::none(text, at),
+        Some(listed) => text::some(text, at, listed),
+        None => text::none(text, at),
     }
 }
 

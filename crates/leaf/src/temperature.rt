@@ -1,22 +1,22 @@
 // Temperatures and their registers.
 use crate::{take, text};
-use config::{FromSixteenths, Temperature};
+use config::Temperature;
 
 fn from_sixteenths(text: &mut [u8; text::ROOM], at: usize, sixteenths: i16) -> usize {
     match Temperature::from_sixteenths(sixteenths) {
-        FromSixteenths::Within(temperature) => {
+        Some(temperature) => {
             let next = text::there(text, at);
             text::small(text, next, temperature.sixteenths())
         }
-        FromSixteenths::Outside => text::none(text, at),
+        None => text::none(text, at),
     }
 }
 
 // No number where the format does not hold the temperature.
 fn register(text: &mut [u8; text::ROOM], at: usize, sixteenths: i16) -> usize {
     match Temperature::from_sixteenths(sixteenths) {
-        FromSixteenths::Within(temperature) => text::word(text, at, temperature.register()),
-        FromSixteenths::Outside => at,
+        Some(temperature) => text::word(text, at, temperature.register()),
+        None => at,
     }
 }
 

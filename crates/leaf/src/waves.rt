@@ -4,7 +4,7 @@ ghost use Rattle.config.specs.Tests.{zero_period};
 ghost use Rattle.waveform.specs.Phases.{Takes};
 
 use crate::{take, text, transfers};
-use waveform::{Drive, Group, Levels, Until, Waveform};
+use waveform::{Drive, Group, Levels, Waveform};
 
 fn bytes(text: &mut [u8; text::ROOM], at: usize, bytes: [u8; 20]) -> usize {
     let mut to = at;
@@ -93,11 +93,11 @@ pub fn lasting(periods: [u64; 16]) -> bool
     true
 }
 
-fn until(numbers: &[u64]) -> Until {
+fn until(numbers: &[u64]) -> Option<u64> {
     if take::truth(numbers, 4) {
-        return Until::Cut(take::number(numbers, 5));
+        return Some(take::number(numbers, 5));
     }
-    Until::Whole
+    None
 }
 
 // What a drive does under the question's waveform, walked or combined; no number where a period is 0, or, combined, the swing is below 1.

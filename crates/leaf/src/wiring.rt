@@ -3,7 +3,7 @@ ghost use Rattle.std.specs.Prelude.{◌≡◌, ◌*◌};
 
 use crate::{configuration, planes, take, text};
 use config::{GateScan, PanelGeometry};
-use scan::{PlaneOption, Row, Scan};
+use scan::{PlaneOption, Scan};
 
 fn ram_row_of_gate(text: &mut [u8; text::ROOM], at: usize, numbers: &[u64]) -> usize {
     let order = GateScan {
@@ -11,11 +11,11 @@ fn ram_row_of_gate(text: &mut [u8; text::ROOM], at: usize, numbers: &[u64]) -> u
         gd: take::truth(numbers, 2),
     };
     match scan::ram_row_of_gate(take::word(numbers, 0), order, take::word(numbers, 3)) {
-        Row::Is(row) => {
+        Some(row) => {
             let next = text::there(text, at);
             text::word(text, next, row)
         }
-        Row::Nothing => text::none(text, at),
+        None => text::none(text, at),
     }
 }
 

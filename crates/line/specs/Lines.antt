@@ -1,10 +1,8 @@
 -- The lines of docs/replay-format.md.
-use Rattle.std.specs.Prelude.{◌&&◌, List, [], ◌∷◌, ℕ, ◌+◌, ◌^◌, eqb, ltb, length, take, drop, get_or}
+use Rattle.std.specs.Prelude.{◌&&◌, List, [], ◌∷◌, ℕ, ◌+◌, ◌^◌, eqb, ltb, length, take, drop, get_or, Option, Some, None}
 use Rattle.numbers.specs.Choice.{pick}
 use Rattle.numbers.specs.Rows.{TableRow, lookup}
 use Rattle.column.specs.Reading.{read_of}
-use Rattle.column.specs.declared.read.Column.{Column}
-use Rattle.column.specs.declared.read.Column.TheVariants.{Number, Other}
 use Rattle.event.specs.declared.Event.TheVariants.{Command, Data, Read, Reset, Advance}
 use Rattle.line.specs.Fields.{bits_of, state_bits_of, longest_of}
 use Rattle.line.specs.declared.columns.Columns.{Columns}
@@ -13,11 +11,11 @@ use Rattle.line.specs.declared.Line.{Line}
 use Rattle.line.specs.declared.Line.TheVariants.{Event, Query, Dump, Repeat, Ambient, Case, Field, Otp, Start, TakeDiagnostics, Lent, State, Picture, Counts, Bad}
 
 -- three columns that each hold a number
-unfoldable pub three_of : Column → Column → Column → Columns
-three_of (Number number) (Number kind) (Number value) = Of number kind value
-three_of (Number number) (Number kind) Other = NotANumber
-three_of (Number number) Other value = NotANumber
-three_of Other kind value = NotANumber
+unfoldable pub three_of : Option ℕ → Option ℕ → Option ℕ → Columns
+three_of (Some number) (Some kind) (Some value) = Of number kind value
+three_of (Some number) (Some kind) None = NotANumber
+three_of (Some number) None value = NotANumber
+three_of None kind value = NotANumber
 
 -- 26 bytes and LF: NUMBER in 20 columns, KIND in 2, VALUE in 4
 unfoldable pub columns_of : List ℕ → Columns

@@ -2,7 +2,6 @@
 ghost use Rattle.std.specs.Prelude.{◌≡◌};
 ghost use Rattle.line.specs.Lines.{columns_of, three_of};
 
-use column::read::Column;
 
 #[derive(Clone, Copy)]
 pub enum Columns {
@@ -14,16 +13,16 @@ pub enum Columns {
     NotANumber,
 }
 
-fn three(number: Column, kind: Column, value: Column) -> Columns
+fn three(number: Option<u64>, kind: Option<u64>, value: Option<u64>) -> Columns
     ensures { result ≡ three_of number kind value }
 {
-    let Column::Number(n) = number else {
+    let Some(n) = number else {
         return Columns::NotANumber;
     };
-    let Column::Number(k) = kind else {
+    let Some(k) = kind else {
         return Columns::NotANumber;
     };
-    let Column::Number(v) = value else {
+    let Some(v) = value else {
         return Columns::NotANumber;
     };
     Columns::Of(n, k, v)

@@ -1,4 +1,5 @@
 -- A command byte: what each return of the code hands over, over plain variables. Assumes nothing.
+use Rattle.std.specs.Prelude.{Some}
 use Prim.Native.Nat.{ℕ, ◌+◌, ◌*◌, ◌≤◌, ◌<◌}
 use mathlib.Core.Path.{◌≡◌, refl, sym, ap, subst, ◌∙◌}
 use mathlib.Core.Bool.{Bool, true, false}
@@ -20,7 +21,6 @@ use Rattle.activation.specs.Activation.{Activatable}
 use Rattle.activation.proofs.Kept.{ready_advanced}
 use Rattle.begin.specs.Begin.{begun}
 use Rattle.guard_lengths.specs.declared.Lengths.{Lengths}
-use Rattle.guard_lengths.specs.declared.LentLength.TheVariants.{Of}
 use Rattle.guard.specs.declared.Refusal.{Refusal}
 use Rattle.guard_lengths.specs.Lengths.{all_lent}
 use Rattle.guard.specs.Refusals.{refusal_number, accepts, guarded_with_table}
@@ -109,8 +109,8 @@ module _ (k : Lent) (time command : ℕ) (w : WithBuffers) (l : Lengths) (r : Re
               log_long = g.log (length w.log) refl;
             };
         ready =
-            ready_fine w.device w.states w.luts w.picture.pixels w.picture.counts (Of (length w.log)) (Of (length k.black_white)) (Of (length k.red))
-            (Of (length k.gates)) fine fit (table_counts_passed w.device lengths k.otp r b same_table t h);
+            ready_fine w.device w.states w.luts w.picture.pixels w.picture.counts (Some (length w.log)) (Some (length k.black_white)) (Some (length k.red))
+            (Some (length k.gates)) fine fit (table_counts_passed w.device lengths k.otp r b same_table t h);
       }
 
   pub command_moves : (v : WithBuffers) → b ≡ true → v ≡ command_taken k time command w → outcome (refusal_number r) v ≡ command_written k time command w

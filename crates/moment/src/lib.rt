@@ -5,7 +5,7 @@
 ghost use Rattle.std.specs.Prelude.{◌≡◌};
 ghost use Rattle.moment.specs.Moments.{after_ns, ns_between, has_come, lowered, quiet_at, busy_for};
 
-use device::{Bus, Deadline, part};
+use device::{Bus, part};
 
 // `ns` nanoseconds after a moment.
 pub fn after(frequency: u32, moment: u64, ns: u64) -> u64
@@ -22,12 +22,12 @@ pub fn ns_between(frequency: u32, from: u64, to: u64) -> u64
 }
 
 // Whether the end of BUSY has come; there may be none.
-fn has_come(busy_until: Deadline, moment: u64) -> bool
+fn has_come(busy_until: Option<u64>, moment: u64) -> bool
     ensures { result ≡ has_come busy_until moment }
 {
     match busy_until {
-        Deadline::Never => false,
-        Deadline::At(until) => until <= moment,
+        None => false,
+        Some(until) => until <= moment,
     }
 }
 
@@ -37,13 +37,13 @@ pub fn lower_busy(bus: Bus, moment: u64) -> Bus
 {
     let busy_until = bus.busy_until;
     if has_come(busy_until, moment) {
-        return part::set_until(bus, Deadline::Never);
+        return part::set_until(bus, None);
     }
     bus
 }
 
 // Whether at a moment a display, if one runs, does not end, and BUSY does not fall.
-pub fn is_quiet(running: bool, ends: u64, busy_until: Deadline, moment: u64) -> bool
+pub fn is_quiet(running: bool, ends: u64, busy_until: Option<u64>, moment: u64) -> bool
     ensures { result ≡ quiet_at running ends busy_until moment }
 {
     let over = running & (ends <= moment);
@@ -57,7 +57,7 @@ pub fn busy_for(bus: Bus, frequency: u32, moment: u64, ns: u64) -> Bus
 {
     if 0 < ns {
         let until = after(frequency, moment, ns);
-        return part::set_until(bus, Deadline::At(until));
+        return part::set_until(bus, Some(until));
     }
     bus
 }

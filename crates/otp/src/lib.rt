@@ -68,13 +68,6 @@ pub fn table_error(otp: &[u8]) -> ConfigError
     ConfigError::Accepted
 }
 
-// The number of an entry.
-#[derive(Clone, Copy)]
-pub enum FoundEntry {
-    At(usize),
-    Nothing,
-}
-
 fn sixteenths_of(register: u16) -> i16
     ensures { result ≡ sixteenths_of register }
 {
@@ -111,26 +104,26 @@ fn covers_register(otp: &[u8], mode: DisplayMode, register: u16, entry: usize) -
     (otp[at] == byte) & reached & (temperature <= upper)
 }
 
-fn last_covering(otp: &[u8], mode: DisplayMode, register: u16) -> FoundEntry
+fn last_covering(otp: &[u8], mode: DisplayMode, register: u16) -> Option<usize>
     ensures { result ≡ last_of (covers otp.now mode register) (entry_count otp.now) }
 {
     let mut entry = otp.len() / ENTRY_BYTES;
     while 0 < entry {
         entry -= 1;
         if covers_register(otp, mode, register, entry) {
-            return FoundEntry::At(entry);
+            return Some(entry);
         }
     }
-    FoundEntry::Nothing
+    None
 }
 
 // The waveform the controller loads for the mode at the temperature: the last setting of that mode whose range holds it ("The last match
 // will be selected", datasheet §6.9).
-fn find_entry(otp: &[u8], mode: DisplayMode, register: u16) -> FoundEntry
+fn find_entry(otp: &[u8], mode: DisplayMode, register: u16) -> Option<usize>
     ensures { result ≡ found_entry otp.now mode register }
 {
     if is_bad_table(otp) {
-        return FoundEntry::Nothing;
+        return None;
     }
     last_covering(otp, mode, register)
 }
@@ -147,7 +140,7 @@ pub fn find_waveform<'a>(
 ) -> &'a [u8]
     ensures { (result.now ≡ part_of otp.now (found_entry otp.now mode register)) × (place.new ≡ place_of (found_entry otp.now mode register)) }
 {
-    let FoundEntry::At(entry) = find_entry(otp, mode, register) else {
+    let Some(entry) = find_entry(otp, mode, register) else {
         *place = NO_PLACE;
         return &otp[0..0];
     };

@@ -1,4 +1,5 @@
 -- What each return of the code hands over, over plain variables. Assumes nothing.
+use Rattle.std.specs.Prelude.{None}
 use Prim.Native.Nat.{ℕ}
 use mathlib.Core.Path.{◌≡◌, ap, ◌∙◌}
 use mathlib.Core.Bool.{Bool, true, false}
@@ -21,7 +22,6 @@ use Rattle.panel.specs.Start.{Fresh, power_on}
 use Rattle.device.specs.declared.Registers.{Registers}
 use Rattle.device.specs.declared.Power.TheVariants.{Running}
 use Rattle.device.specs.declared.Current.TheVariants.{Idle}
-use Rattle.device.specs.declared.Deadline.TheVariants.{Never}
 use Rattle.device.specs.declared.Ssd1677.{Ssd1677}
 use Rattle.registers.specs.Reset.{reset_of}
 use Rattle.guard_lengths.specs.declared.Lengths.{Lengths}
@@ -83,7 +83,7 @@ pub chips : (c : Ssd1677Config) (p : Panel) (r : Registers) (d : Display) → r 
       config = c;
       now = 0;
       regs = r;
-      bus = record { power = Running; current = Idle; busy_until = Never };
+      bus = record { power = Running; current = Idle; busy_until = None };
       clock = false;
       analog = false;
       status = record { hv_not_ready = false; vci_low = false };

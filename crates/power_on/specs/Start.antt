@@ -1,5 +1,5 @@
 -- The start (mod.rs, `new`): refused with 1, 2, 3, 4, 5, 14, 12, 6, 11, 15 in this order, or the chip at power-on.
-use Rattle.std.specs.Prelude.{ℕ, false, not, List, [], ◌∷◌, ◌++◌, ℤ, pos, length, replicate}
+use Rattle.std.specs.Prelude.{ℕ, false, not, List, [], ◌∷◌, ◌++◌, ℤ, pos, length, replicate, None}
 use Rattle.numbers.specs.Choice.{pick}
 use Rattle.numbers.specs.Lists.{tab}
 use Rattle.glass.specs.declared.RefreshKind.TheVariants.{PowerOn}
@@ -14,7 +14,6 @@ use Rattle.panel.specs.declared.Panel.{Panel}
 use Rattle.panel.specs.Start.{panel_at_power_on, power_on}
 use Rattle.device.specs.declared.Power.TheVariants.{Running}
 use Rattle.device.specs.declared.Current.TheVariants.{Idle}
-use Rattle.device.specs.declared.Deadline.TheVariants.{Never}
 use Rattle.device.specs.declared.Ssd1677.{Ssd1677}
 use Rattle.world.specs.World.{World, world}
 use Rattle.registers.specs.Reset.{reset_of}
@@ -77,7 +76,7 @@ chip_with c panel =
       config = c;
       now = 0;
       regs = reset_of c.user_id;
-      bus = record { power = Running; current = Idle; busy_until = Never };
+      bus = record { power = Running; current = Idle; busy_until = None };
       clock = false;
       analog = false;
       status = record { hv_not_ready = false; vci_low = false };

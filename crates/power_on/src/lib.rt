@@ -8,7 +8,7 @@ ghost use Rattle.counts.specs.Counts.{picture};
 ghost use Rattle.power_on.specs.Start.{all_tests, start_answer_of, no_display, chip_with, unstarted, clean, cleared, buffers, powered, powered_up, start, started, refusal_of};
 
 use config::{ConfigError, Ssd1677Config};
-use device::{Bus, Current, Deadline, Power, Ssd1677, Status};
+use device::{Bus, Current, Power, Ssd1677, Status};
 use diagnostic::Journal;
 use glass::{PanelImage, RefreshKind};
 use guard_lengths::Lengths;
@@ -152,7 +152,7 @@ fn chip_with(config: Ssd1677Config, panel: Panel) -> Ssd1677
     let bus = Bus {
         power: Power::Running,
         current: Current::Idle,
-        busy_until: Deadline::Never,
+        busy_until: None,
     };
     let status = Status {
         hv_not_ready: false,

@@ -1,11 +1,9 @@
 -- What can be asked of a state, and what a host changes in it beside the events (mod.rs, `is_busy` to `dropped_diagnostics`). A state
 -- that 13 refuses is told nothing: no level, no deadline, a count of 0; its parts are handed back as given.
-use Rattle.std.specs.Prelude.{ℕ, Bool, false}
+use Rattle.std.specs.Prelude.{ℕ, Bool, false, Option, None}
 use Rattle.glass.specs.declared.PanelImage.{PanelImage}
 use Rattle.config.specs.declared.Ssd1677Config.{Ssd1677Config}
 use Rattle.diagnostic.specs.declared.Journal.{Journal}
-use Rattle.device.specs.declared.Deadline.{Deadline}
-use Rattle.device.specs.declared.Deadline.TheVariants.{Never}
 use Rattle.device.specs.declared.Ssd1677.{Ssd1677}
 use Rattle.device.specs.Parts.{with_config, with_journal}
 use Rattle.busy.specs.Busy.{busy_at, pin_at, deadline_of}
@@ -20,8 +18,8 @@ unfoldable pub pin_asked : Ssd1677 → ℕ → Outcome Bool
 pin_asked d time = unless (state_guarded d) false (pin_at d time)
 
 -- next_deadline
-unfoldable pub deadline_asked : Ssd1677 → Outcome Deadline
-deadline_asked d = unless (state_guarded d) Never (deadline_of d)
+unfoldable pub deadline_asked : Ssd1677 → Outcome (Option ℕ)
+deadline_asked d = unless (state_guarded d) None (deadline_of d)
 
 -- config
 unfoldable pub config_asked : Ssd1677 → Outcome Ssd1677Config

@@ -6,7 +6,7 @@ ghost use Rattle.guard.specs.Refusals.{refusal_number};
 ghost use Rattle.query.specs.Outcome.{outcome};
 ghost use Rattle.query.specs.Queries.{busy_asked, pin_asked, deadline_asked};
 
-use device::{Deadline, Ssd1677};
+use device::Ssd1677;
 use guard::Refusal;
 use query::check_state;
 
@@ -21,7 +21,7 @@ pub struct Level {
 #[derive(Clone, Copy)]
 pub struct NextDeadline {
     pub refusal: Refusal,
-    pub deadline: Deadline,
+    pub deadline: Option<u64>,
 }
 
 // Whether the chip is busy: an operation runs, or it sleeps. Not while RES# is low.
@@ -53,6 +53,6 @@ pub fn next_deadline(state: Ssd1677) -> NextDeadline
         let deadline = busy::deadline(state);
         return NextDeadline { refusal, deadline };
     }
-    let deadline = Deadline::Never;
+    let deadline = None;
     NextDeadline { refusal, deadline }
 }

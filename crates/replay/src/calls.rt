@@ -3,7 +3,6 @@ use crate::run::{Progress, Run};
 use crate::{others, say};
 use event::Event;
 use line::Line;
-use ram::Byte;
 use std::io;
 
 pub fn refused(progress: Progress, text: &mut [u8; text::ROOM], number: u8) -> Progress {
@@ -43,14 +42,14 @@ fn used_up(progress: Progress, counted: bool) -> Progress {
 }
 
 // The byte of a read, or that nothing is driven.
-fn byte_said(progress: Progress, text: &mut [u8; text::ROOM], byte: Byte) -> Progress {
+fn byte_said(progress: Progress, text: &mut [u8; text::ROOM], byte: Option<u8>) -> Progress {
     match byte {
-        Byte::Is(value) => {
+        Some(value) => {
             let byte_at = text::word(text, progress.at, b"read");
             let end_at = say::hex_field(text, byte_at, &[value]);
             say::said(progress, say::end(text, end_at))
         }
-        Byte::Nothing => say::said(progress, text::word(text, progress.at, b"read --\n")),
+        None => say::said(progress, text::word(text, progress.at, b"read --\n")),
     }
 }
 
@@ -60,7 +59,7 @@ fn answered(
     text: &mut [u8; text::ROOM],
     event: Event,
     number: u8,
-    byte: Byte,
+    byte: Option<u8>,
 ) -> io::Result<Progress> {
     let progress = say::flushed(rt, before, text)?;
     if number == 0 {

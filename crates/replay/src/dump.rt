@@ -1,7 +1,7 @@
 // The dump of a device.
 use crate::run::Run;
 use crate::{current, register_lines, say};
-use device::{Deadline, Power, Ssd1677};
+use device::{Power, Ssd1677};
 use diagnostic::Journal;
 use glass::{PanelImage, RefreshKind};
 use panel::Display;
@@ -27,10 +27,10 @@ fn power(text: &mut [u8; text::ROOM], at: usize, power: Power, clock: bool, anal
     say::end(text, end_at)
 }
 
-fn deadline(text: &mut [u8; text::ROOM], at: usize, deadline: Deadline) -> usize {
+fn deadline(text: &mut [u8; text::ROOM], at: usize, deadline: Option<u64>) -> usize {
     match deadline {
-        Deadline::Never => text::word(text, at, b" -"),
-        Deadline::At(time) => say::field(text, at, time),
+        None => text::word(text, at, b" -"),
+        Some(time) => say::field(text, at, time),
     }
 }
 
@@ -39,8 +39,8 @@ fn levels(
     at: usize,
     busy: bool,
     pin: bool,
-    next: Deadline,
-    until: Deadline,
+    next: Option<u64>,
+    until: Option<u64>,
 ) -> usize {
     let busy_at = text::word(text, at, b"busy");
     let pin_at = say::truth_field(text, busy_at, busy);

@@ -1,6 +1,6 @@
 // The configuration of docs/replay-format.md's fields.
 use crate::run;
-use config::{ExternalSensor, GateScan, PanelGeometry, Ssd1677Config, Ssd1677Timing};
+use config::{GateScan, PanelGeometry, Ssd1677Config, Ssd1677Timing};
 use glass::{Optics, Provenance};
 
 // The field of the frequency, and what it is before a line sets it: a cycle a nanosecond, as before there was such a field (#101).
@@ -97,11 +97,11 @@ fn timing(fields: &[u64]) -> Ssd1677Timing {
     }
 }
 
-fn sensor(fields: &[u64]) -> ExternalSensor {
+fn sensor(fields: &[u64]) -> Option<u16> {
     if truth(fields, 40) {
-        return ExternalSensor::Reads(word(fields, 41));
+        return Some(word(fields, 41));
     }
-    ExternalSensor::Absent
+    None
 }
 
 fn user_id(fields: &[u64]) -> [u8; 10] {

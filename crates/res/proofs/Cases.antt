@@ -1,4 +1,5 @@
 -- The reset line: what each return of the code hands over, over plain variables. Assumes nothing.
+use Rattle.std.specs.Prelude.{Some, None}
 use Prim.Native.Nat.{ℕ}
 use mathlib.Core.Path.{◌≡◌, refl, sym, ap, subst, ◌∙◌}
 use mathlib.Core.Bool.{Bool, true, false}
@@ -9,7 +10,6 @@ use Rattle.clock.specs.Advance.{Ready, advanced}
 use Rattle.reset.specs.Reset.{by_line}
 use Rattle.activation.proofs.Kept.{ready_advanced}
 use Rattle.guard_lengths.specs.declared.Lengths.{Lengths}
-use Rattle.guard_lengths.specs.declared.LentLength.TheVariants.{Nothing, Of}
 use Rattle.guard.specs.declared.Refusal.{Refusal}
 use Rattle.guard_lengths.specs.Lengths.{glass_log_lent}
 use Rattle.guard.specs.Refusals.{refusal_number, accepts, guarded}
@@ -26,13 +26,13 @@ module _ (luts : List ℕ) (time : ℕ) (low : Bool) (w : WithGlassLog) (l : Len
 
   pub line_ready : b ≡ true → Ready w.device w.states luts w.picture.pixels w.picture.counts
   line_ready h =
-      ready_fine w.device w.states luts w.picture.pixels w.picture.counts (Of (length w.log)) Nothing Nothing Nothing
+      ready_fine w.device w.states luts w.picture.pixels w.picture.counts (Some (length w.log)) None None None
       (state_passed w.device _ r b same_lent t h) (lengths_passed w.device _ r b same_lent t h)
       (counts_passed w.device _ r b same_lent t h)
 
   pub line_log : b ≡ true → length w.log ≡ 16384
   line_log h =
-      log_fine w.device w.states luts w.picture.pixels w.picture.counts (Of (length w.log)) Nothing Nothing Nothing
+      log_fine w.device w.states luts w.picture.pixels w.picture.counts (Some (length w.log)) None None None
       (state_passed w.device _ r b same_lent t h) (lengths_passed w.device _ r b same_lent t h) (length w.log) refl
 
   pub line_ready_then : (a : WithGlass) → b ≡ true → a ≡ advanced luts time (with_glass w.device w.states w.picture)

@@ -6,10 +6,8 @@ mod arguments;
 mod say;
 
 use arguments::GivenPeriods;
-use column::read::Column;
 use full_read::read_full;
 use glass::Optics;
-use shift_report::words::{CodeWord, VoltageWord};
 use std::io;
 use std::io::{Input, Read};
 use voltage_shift::DrivingVoltage;
@@ -91,16 +89,16 @@ fn main(rt: HostRuntime) -> io::Result<()> {
     if !arguments::is_asked(given) {
         return say::usage(&rt);
     }
-    let VoltageWord::Names(driving) = arguments::voltage(&rt, 1) else {
+    let Some(driving) = arguments::voltage(&rt, 1) else {
         return say::voltage(&rt, 1);
     };
-    let CodeWord::Writes(before) = arguments::code(&rt, 2) else {
+    let Some(before) = arguments::code(&rt, 2) else {
         return say::code(&rt, 2);
     };
-    let CodeWord::Writes(after) = arguments::code(&rt, 3) else {
+    let Some(after) = arguments::code(&rt, 3) else {
         return say::code(&rt, 3);
     };
-    let Column::Number(swing) = arguments::swing(&rt, given) else {
+    let Some(swing) = arguments::swing(&rt, given) else {
         return say::decimal(&rt, 4);
     };
     let periods = arguments::periods(&rt, given);

@@ -12,7 +12,6 @@ ghost use Rattle.voltage_shift.specs.Bounds.{optics_swing, setting_tests, change
 
 use config::ConfigError;
 use glass::Optics;
-use voltage::Millivolts;
 use waveform::{Group, Waveform};
 
 // The voltages that drive (0x04).
@@ -56,7 +55,7 @@ pub const SETTING_BYTES: usize = 112;
 // 2^63 − 1.
 const LARGEST_SWING: u64 = 9223372036854775807;
 
-fn driving_millivolts(driving: DrivingVoltage, code: u8) -> Millivolts
+fn driving_millivolts(driving: DrivingVoltage, code: u8) -> Option<i64>
     ensures is { result ≡ driving_millivolts driving code }
     ensures range { Listable (or_zero result) }
 {
@@ -79,8 +78,8 @@ fn driving_level(driving: DrivingVoltage, code: u8) -> i64
     ensures range { Listable result }
 {
     match driving_millivolts(driving, code) {
-        Millivolts::Listed(millivolts) => millivolts,
-        Millivolts::Unlisted => 0,
+        Some(millivolts) => millivolts,
+        None => 0,
     }
 }
 

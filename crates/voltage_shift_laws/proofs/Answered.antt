@@ -5,6 +5,7 @@
 --     bounds-answered   where 4, 5, 11 and 91 find nothing, the answer is the bounds, each the smaller of the exact sum and S
 --     optics-swing-is   its S is the panel's
 -- Assumes nothing.
+use Rattle.std.specs.Prelude.{ℕ, ℤ, Option, Some, None}
 use mathlib.Core.Path.{◌≡◌, refl, sym, ap, subst, ◌∙◌}
 use mathlib.Core.Bool.{Bool, true, false, not, ◌||◌}
 use mathlib.Core.List.{List, [], ◌∷◌}
@@ -21,11 +22,8 @@ use Rattle.numbers.proofs.Hold.{clamp_high, clamp_mid}
 use Rattle.glass.specs.declared.Optics.{Optics}
 use Rattle.glass.specs.Greys.{gray_z}
 use Rattle.glass.specs.Transfers.{apply_t}
-use Rattle.voltage.specs.declared.Millivolts.{Millivolts}
-use Rattle.voltage.specs.declared.Millivolts.TheVariants.{Listed, Unlisted}
 use Rattle.voltage.specs.Codes.{is_voltage}
 use Rattle.waveform.specs.declared.Drive.TheVariants.{Lut}
-use Rattle.waveform.specs.declared.Until.{Until}
 use Rattle.waveform.specs.Voltages.{or_zero}
 use Rattle.waveform.specs.Setting.{waveform_of}
 use Rattle.config.specs.Answer.{Answer, accepted, refused, Test, first_of}
@@ -68,9 +66,9 @@ both true true e = (refl, refl)
 both true false e = absurd (let z : ◌≡◌ {A = ℕ} 0 1 = cc in omega arith)
 both false b e = absurd (let z : ◌≡◌ {A = ℕ} 0 1 = cc in omega arith)
 
-listed : (m : Millivolts) → is_voltage m ≡ true → m ≡ Listed (or_zero m)
-listed (Listed v) e = refl
-listed Unlisted e = absurd (let z : ◌≡◌ {A = ℕ} 0 1 = cc in omega arith)
+listed : (m : Option ℤ) → is_voltage m ≡ true → m ≡ Some (or_zero m)
+listed (Some v) e = refl
+listed None e = absurd (let z : ◌≡◌ {A = ℕ} 0 1 = cc in omega arith)
 
 -- S of the bounds is the panel's swing
 pub optics_swing_is : (o : Optics) → swing_of o ≡ pos (optics_swing o)
@@ -91,8 +89,8 @@ module _ (o : Optics) (p s : List ℕ) (v : DrivingVoltage) (before after : ℕ)
   -- what the tests found, and which bounds these are
   record Found : Type 0 where
     some : 1 ≤ optics_swing o
-    was : driving_millivolts v before ≡ Listed (or_zero (driving_millivolts v before))
-    will : driving_millivolts v after ≡ Listed (or_zero (driving_millivolts v after))
+    was : driving_millivolts v before ≡ Some (or_zero (driving_millivolts v before))
+    will : driving_millivolts v after ≡ Some (or_zero (driving_millivolts v after))
     are : shifts_for o p s v before after ≡ b
 
   found : Found
@@ -117,7 +115,7 @@ module _ (o : Optics) (p s : List ℕ) (v : DrivingVoltage) (before after : ℕ)
 
   -- the results differ by no more than the bound
   pub bounds_hold : (t u : List ℕ) → AgreeBut v s t → AgreeBut v s u → get_or t (voltage_byte v) 0 ≡ before → get_or u (voltage_byte v) 0 ≡ after
-      → (black : Bool) (until : Until) (lut x : ℕ) → lut < 4 → x ≤ optics_swing o
+      → (black : Bool) (until : (Option ℕ)) (lut x : ℕ) → lut < 4 → x ≤ optics_swing o
       → nat_abs (apply_t (setting_transfer t p (Lut lut) (swing_of o) black until) (pos x) -ℤ apply_t (setting_transfer u p (Lut lut) (swing_of o) black until) (pos x)) ≤ (shift_at b lut).bound
   bounds_hold t u agree-t agree-u is-before is-after black until lut x l h =
       let f = found in
@@ -133,7 +131,7 @@ module _ (o : Optics) (p s : List ℕ) (v : DrivingVoltage) (before after : ℕ)
 
   -- and the greys shown by no more than its steps
   pub grays_hold : (t u : List ℕ) → AgreeBut v s t → AgreeBut v s u → get_or t (voltage_byte v) 0 ≡ before → get_or u (voltage_byte v) 0 ≡ after
-      → (black : Bool) (until : Until) (lut x : ℕ) → lut < 4 → x ≤ optics_swing o
+      → (black : Bool) (until : (Option ℕ)) (lut x : ℕ) → lut < 4 → x ≤ optics_swing o
       → nat_abs (pos (gray_z (apply_t (setting_transfer t p (Lut lut) (swing_of o) black until) (pos x)) (swing_of o)) -ℤ pos (gray_z (apply_t (setting_transfer u p (Lut lut) (swing_of o) black until) (pos x)) (swing_of o)))
       ≤ (shift_at b lut).steps
   grays_hold t u agree-t agree-u is-before is-after black until lut x l h =
@@ -159,7 +157,7 @@ is_within UnlistedCode x e = absurd (let z : ◌≡◌ {A = ℕ} 0 1 = cc in ome
 
 pub bounds_answered : (o : Optics) (p s : List ℕ) (v : DrivingVoltage) (before after : ℕ) (r : Bounded) → BoundsAnswers o p s v before after r
     → (was will : ℤ) → 1 ≤ o.full_swing → ((code : ℕ) → code < 16 → 1 ≤ get_or p code 0) → length s ≡ 112
-    → driving_millivolts v before ≡ Listed was → driving_millivolts v after ≡ Listed will
+    → driving_millivolts v before ≡ Some was → driving_millivolts v after ≡ Some will
     → r ≡ Within (lut_shifts (min o.full_swing 9223372036854775807) (nat_abs (was -ℤ will)) v (waveform_of s p).groups)
 unfolding bounds_of
 bounds_answered o p s v before after r answers was will some periods long is-was is-will =

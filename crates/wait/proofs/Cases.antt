@@ -1,4 +1,5 @@
 -- The clock: what each return of the code hands over, over plain variables. Assumes nothing.
+use Rattle.std.specs.Prelude.{None}
 use Prim.Native.Nat.{ℕ}
 use mathlib.Core.Path.{◌≡◌, ap, ◌∙◌}
 use mathlib.Core.Bool.{Bool, true, false}
@@ -7,7 +8,6 @@ use lib.ListN.{length}
 use Rattle.world.specs.World.{WithGlass}
 use Rattle.clock.specs.Advance.{Ready, advanced}
 use Rattle.guard_lengths.specs.declared.Lengths.{Lengths}
-use Rattle.guard_lengths.specs.declared.LentLength.TheVariants.{Nothing}
 use Rattle.guard.specs.declared.Refusal.{Refusal}
 use Rattle.guard_lengths.specs.Lengths.{glass_lent}
 use Rattle.guard.specs.Refusals.{refusal_number, accepts, guarded}
@@ -23,7 +23,7 @@ module _ (luts : List ℕ) (time : ℕ) (g : WithGlass) (l : Lengths) (r : Refus
 
   pub clock_ready : b ≡ true → Ready g.device g.states luts g.picture.pixels g.picture.counts
   clock_ready h =
-      ready_fine g.device g.states luts g.picture.pixels g.picture.counts Nothing Nothing Nothing Nothing
+      ready_fine g.device g.states luts g.picture.pixels g.picture.counts None None None None
       (state_passed g.device _ r b same t h) (lengths_passed g.device _ r b same t h)
       (counts_passed g.device _ r b same t h)
 

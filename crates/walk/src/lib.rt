@@ -11,7 +11,7 @@ ghost use Rattle.walk.specs.Ready.{LastingOf};
 
 use glass::Transfer;
 use phases::Lasting;
-use waveform::{Drive, DrivenPhase, Driving, Group, Phase, Progress, Until, Waveform};
+use waveform::{Drive, DrivenPhase, Driving, Group, Phase, Progress, Waveform};
 
 // ---- the whole display
 
@@ -269,13 +269,13 @@ pub fn transfer(
     drive: Drive,
     swing: i64,
     positive_drives_black: bool,
-    until: Until,
+    until: Option<u64>,
 ) -> Transfer
     requires { Walkable waveform drive }
     ensures { result ≡ transfer_of waveform drive swing positive_drives_black until }
 {
     match until {
-        Until::Whole => transfer_whole(waveform, drive, swing, positive_drives_black),
-        Until::Cut(cut) => transfer_cut(waveform, drive, swing, positive_drives_black, cut),
+        None => transfer_whole(waveform, drive, swing, positive_drives_black),
+        Some(cut) => transfer_cut(waveform, drive, swing, positive_drives_black, cut),
     }
 }

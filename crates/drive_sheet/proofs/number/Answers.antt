@@ -12,9 +12,9 @@ pub returns-in-Length : goal.returns-in-Length
 unfolding told_of
 returns-in-Length c = sym (ap (λ (w : Written). number_in (told_of w)) c.in-Length.is)
 
-pub returns-in-NoCode : goal.returns-in-NoCode
+pub returns-in-None : goal.returns-in-None
 unfolding told_of
-returns-in-NoCode c = sym (ap (λ (w : Written). number_in (told_of w)) c.in-NoCode.is)
+returns-in-None c = sym (ap (λ (w : Written). number_in (told_of w)) c.in-None.is)
 
 pub returns-in-Repeats : goal.returns-in-Repeats
 unfolding told_of

@@ -16,5 +16,5 @@ returns-in-Of c =
     of_kind _ _ _ c.in-Active.is c.kind-known.ensures _ _
     c.in-Of.is c.same_kind.ensures
 
-pub returns-in-Unknown : goal.returns-in-Unknown
-returns-in-Unknown c = of_none _ _ _ c.in-Active.is c.kind-known.ensures c.in-Unknown.is
+pub returns-in-None : goal.returns-in-None
+returns-in-None c = of_none _ _ _ c.in-Active.is c.kind-known.ensures c.in-None.is

@@ -2,9 +2,9 @@
 use Rattle.guard_lengths.specs.Lengths.{fits}
 use Rattle.guard_lengths.proofs.fits.Goals as goal
 
-pub returns-in-Nothing : goal.returns-in-Nothing
+pub returns-in-None : goal.returns-in-None
 unfolding fits
-returns-in-Nothing c = rw c.in-Nothing.is
+returns-in-None c = rw c.in-None.is
 
 pub returns-in-Of : goal.returns-in-Of
 unfolding fits

@@ -5,10 +5,10 @@ use Rattle.numbers.specs.Choice.{bit_of}
 use Rattle.ram.specs.Plane.{bit_at}
 use Rattle.ram.proofs.bit.Goals as goal
 
-pub returns-in-Is : goal.returns-in-Is
+pub returns-in-Some : goal.returns-in-Some
 unfolding bit_at bit_of
-returns-in-Is c = rw (← (sym c.in-Is.is ∙ c.read.ensures), and_mask _ 1)
+returns-in-Some c = rw (← (sym c.in-Some.is ∙ c.read.ensures), and_mask _ 1)
 
-pub returns-in-Nothing : goal.returns-in-Nothing
+pub returns-in-None : goal.returns-in-None
 unfolding bit_at
-returns-in-Nothing c = rw (← (sym c.in-Nothing.is ∙ c.read.ensures))
+returns-in-None c = rw (← (sym c.in-None.is ∙ c.read.ensures))

@@ -12,12 +12,12 @@ use Rattle.shift_report.proofs.put.Goals as goal
 said : (o : Bounded) (d text : List ℕ) {b : Buffer} → b ≡ appended (buffer 0 d) text → text ≡ shift_text (shift_answer o) → b ≡ appended (buffer 0 d) (shift_text (shift_answer o))
 said o d text e f = e ∙ ap (appended (buffer 0 d)) f
 
-pub returns-in-Within : goal.returns-in-Within
+pub returns-in-Some : goal.returns-in-Some
 unfolding shift_text shift_answer
-returns-in-Within c =
+returns-in-Some c =
     let l = c in
     let b = l in
-    let s = b in record { text = said s.args.bounded s.args.out.now _ l.put_lines.ensures.text (rw b.in-Within.is); end = l.put_lines.ensures.end }
+    let s = b in record { text = said s.args.bounded s.args.out.now _ l.put_lines.ensures.text (rw b.in-Some.is); end = l.put_lines.ensures.end }
 
 pub returns-in-Refused : goal.returns-in-Refused
 unfolding shift_text shift_answer

@@ -13,16 +13,16 @@ pub returns-in_default-kind : goal.returns-in_default-kind
 unfolding three_of
 returns-in_default-kind c =
     let s = c.args in
-    λ i. three_of (sym c.in-Number.is i) (sym c.in_default-kind.is i) s.value
+    λ i. three_of (sym c.in-Some.is i) (sym c.in_default-kind.is i) s.value
 
 pub returns-in_default-value : goal.returns-in_default-value
 unfolding three_of
 returns-in_default-value c =
-    λ i. three_of (sym c.in-Number.is i) (sym c.in-Number-kind.is i)
+    λ i. three_of (sym c.in-Some.is i) (sym c.in-Some-kind.is i)
     (sym c.in_default-value.is i)
 
 pub returns : goal.returns
 unfolding three_of
 returns c =
-    λ i. three_of (sym c.in-Number.is i) (sym c.in-Number-kind.is i)
-    (sym c.in-Number-value.is i)
+    λ i. three_of (sym c.in-Some.is i) (sym c.in-Some-kind.is i)
+    (sym c.in-Some-value.is i)
