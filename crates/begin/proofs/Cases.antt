@@ -69,7 +69,7 @@ module _ (k : Lent) (command : ℕ) (w : WithBuffers) where
       → z ≡ run k command (on device_in_buffers (command_made command kind) w)
   accepts kind d z e f = f ∙ ap (λ (x : Ssd1677). run k command (put x)) e
 
-  module _ (known : (Option Kind)) (told : known ≡ kind_of command) where
+  module _ (known : Option Kind) (told : known ≡ kind_of command) where
     -- what the table has, by what the decoder answered
     by : (x : Option Kind) → known ≡ x → command_by_kind k command w x ≡ command_by_kind k command w (kind_of command)
     by x e = ap (command_by_kind k command w) (sym e ∙ told)

@@ -1,5 +1,5 @@
 -- The clock's move keeps BUSY high to the end of a running display: it ends a display before it lowers BUSY. Assumes nothing.
-use Rattle.std.specs.Prelude.{ℕ, Option, Some, None}
+use Rattle.std.specs.Prelude.{Option, Some, None}
 use Prim.Native.Nat.{ℕ, ◌<◌, max}
 use mathlib.Core.Path.{◌≡◌, refl, sym, subst, ◌∙◌}
 use mathlib.Core.Bool.{Bool, true, false, ◌&&◌}
@@ -42,7 +42,7 @@ under_way_kept d e display clock power until current u =
     }
 
 -- BUSY stays high before its time
-stays_high : (until : (Option ℕ)) (bus : Bus) (moment n : ℕ) → until ≡ Some n → moment < n → lowered until bus moment ≡ bus
+stays_high : (until : Option ℕ) (bus : Bus) (moment n : ℕ) → until ≡ Some n → moment < n → lowered until bus moment ≡ bus
 stays_high until bus moment n e h = rw (e, lt-leb n moment h)
 
 -- a running display that is not over

@@ -1,5 +1,5 @@
 -- What 13, 11 and 15 ask of a device and its buffers, part by part, and all of it again from the parts. Assumes nothing.
-use Rattle.std.specs.Prelude.{ℕ, Option, Some}
+use Rattle.std.specs.Prelude.{Option, Some}
 use Prim.Native.Nat.{ℕ, ◌≤◌}
 use mathlib.Core.Path.{◌≡◌, refl, sym, ap, ◌∙◌}
 use mathlib.Core.Bool.{true, false}

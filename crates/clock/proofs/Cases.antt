@@ -1,5 +1,5 @@
 -- What each return of the code hands over, over plain variables. Assumes nothing.
-use Rattle.std.specs.Prelude.{ℕ, Option, None}
+use Rattle.std.specs.Prelude.{Option, None}
 use Prim.Native.Nat.{ℕ, max}
 use mathlib.Core.Path.{◌≡◌, refl, sym, ap, subst, ◌∙◌}
 use mathlib.Core.Bool.{Bool, true, false, ◌&&◌, not}
@@ -34,7 +34,7 @@ neither false true e = absurd (let z : ◌≡◌ {A = ℕ} 0 1 = cc in omega ari
 neither false false e = (refl, refl)
 
 -- before its time BUSY does not fall
-still : (until : (Option ℕ)) (bus : Bus) (moment : ℕ) → has_come until moment ≡ false → lowered until bus moment ≡ bus
+still : (until : Option ℕ) (bus : Bus) (moment : ℕ) → has_come until moment ≡ false → lowered until bus moment ≡ bus
 still until bus moment h = rw h
 
 settled : (g : WithGlass) → has_come g.device.bus.busy_until g.device.now ≡ false → quieted g ≡ g

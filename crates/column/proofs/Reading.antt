@@ -1,5 +1,5 @@
 -- Reading a column byte by byte, from the left, gives what the definition says; and a number that was written is read back. Assumes nothing.
-use Rattle.std.specs.Prelude.{ℕ, Option, Some, None}
+use Rattle.std.specs.Prelude.{Option, Some, None}
 use mathlib.Core.Path.{◌≡◌, refl, sym, ap, ◌∙◌}
 use mathlib.Core.Bool.{Bool, true, false, ◌&&◌}
 use mathlib.Core.List.{List, [], ◌∷◌, ◌++◌}
@@ -185,7 +185,7 @@ module _ (xs : List ℕ) (c : ℕ) where
   unit h k = omega arith
 
   pub read_more : read_of (xs ++ (c ∷ [])) ≡ last_of (front_of xs) c
-  read_more = closed ∙ go (leb 48 c) (leb c 57) refl refl ∙ ap (λ (f : (Option ℕ)). last_of f c) (sym fronts)
+  read_more = closed ∙ go (leb 48 c) (leb c 57) refl refl ∙ ap (λ (f : Option ℕ). last_of f c) (sym fronts)
     where
       other : (48 ≤ c → c ≤ 57 → ⊥) → found (lefts (whole / 10)) c (48 + whole % 10) whole ≡ last_of (fronted (lefts (value_of xs)) (value_of xs)) c
       other h =
@@ -203,7 +203,7 @@ module _ (xs : List ℕ) (c : ℕ) where
   Goal = found (lefts (whole / 10)) c placed whole ≡ step_of (fronted (lefts (value_of xs)) (value_of xs)) c
 
   pub front_step : front_of (xs ++ (c ∷ [])) ≡ step_of (front_of xs) c
-  front_step = opened ∙ go (leb 48 c) (leb c 57) refl refl ∙ ap (λ (f : (Option ℕ)). step_of f c) (sym fronts)
+  front_step = opened ∙ go (leb 48 c) (leb c 57) refl refl ∙ ap (λ (f : Option ℕ). step_of f c) (sym fronts)
     where
       -- no digit: a blank after blanks, or nothing
       blank : value_of xs ≡ 0 → c ≡ 32 → Goal

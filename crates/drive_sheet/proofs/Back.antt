@@ -1,5 +1,5 @@
 -- A sheet that passes is read back from its bytes. Assumes nothing.
-use Rattle.std.specs.Prelude.{ℤ, Option, Some, None}
+use Rattle.std.specs.Prelude.{Option, Some, None}
 use mathlib.Core.Path.{◌≡◌, refl, sym, ap, subst, ◌∙◌}
 use mathlib.Core.Bool.{Bool, true, false, false≢true}
 use mathlib.Core.List.{List, [], ◌∷◌}
@@ -90,7 +90,7 @@ codes_back g e lut phase l m =
     ∙ four_at g.codes (4 * lut) phase m
 
 -- ---- a voltage
-listed_back : (m : (Option ℤ)) (z : ℤ) → is_listed_as m z ≡ true → or_zero m ≡ z
+listed_back : (m : Option ℤ) (z : ℤ) → is_listed_as m z ≡ true → or_zero m ≡ z
 unfolding is_listed_as
 listed_back (Some v) z e = same_true v z e
 listed_back None z e = absurd (false≢true e)

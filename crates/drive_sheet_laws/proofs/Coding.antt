@@ -1,5 +1,5 @@
 -- No millivolts have two codes, so the search for one finds it. Assumes nothing.
-use Rattle.std.specs.Prelude.{ℤ, Option, Some, None}
+use Rattle.std.specs.Prelude.{Option, Some, None}
 use mathlib.Core.Path.{◌≡◌, refl, sym, ap, subst, ◌∙◌}
 use mathlib.Core.Bool.{Bool, true, false, ◌&&◌, false≢true}
 use mathlib.Core.List.{List, [], ◌∷◌}
@@ -97,11 +97,11 @@ one_code Vsl = signed_once below below_one (vsl_line ∷ []) vsl_once
 one_code Vcom = signed_once below below_one (vcom_zero ∷ vcom_line ∷ []) vcom_once
 
 -- ---- the test of the search
-listed_yes : (m : (Option ℤ)) (z : ℤ) → m ≡ Some z → is_listed_as m z ≡ true
+listed_yes : (m : Option ℤ) (z : ℤ) → m ≡ Some z → is_listed_as m z ≡ true
 unfolding is_listed_as
-listed_yes m z e = ap (λ (v : (Option ℤ)). is_listed_as v z) e ∙ same_self z
+listed_yes m z e = ap (λ (v : Option ℤ). is_listed_as v z) e ∙ same_self z
 
-listed_is : (m : (Option ℤ)) (z : ℤ) → is_listed_as m z ≡ true → m ≡ Some z
+listed_is : (m : Option ℤ) (z : ℤ) → is_listed_as m z ≡ true → m ≡ Some z
 unfolding is_listed_as
 listed_is (Some v) z e = ap Some (same_true v z e)
 listed_is None z e = absurd (false≢true e)

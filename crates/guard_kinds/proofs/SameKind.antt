@@ -20,14 +20,14 @@ pub same : (a b : Kind) (x y : Code) → x ≡ code_of a → y ≡ code_of b →
 unfolding same_kind
 same a b x y e f = rw (e, f)
 
-module _ (current : Current) (a : the.Active) (known : (Option Kind)) (is : current ≡ Active a) (given : known ≡ kind_of a.command) where
+module _ (current : Current) (a : the.Active) (known : Option Kind) (is : current ≡ Active a) (given : known ≡ kind_of a.command) where
   pub of_kind : (k : Kind) (r : Bool) → known ≡ Some k → r ≡ same_kind k a.kind → r ≡ current_fine current
   unfolding current_fine
-  of_kind k r e f = f ∙ ap (λ (x : (Option Kind)). gives x a.kind) (sym e ∙ given) ∙ ap current_fine (sym is)
+  of_kind k r e f = f ∙ ap (λ (x : Option Kind). gives x a.kind) (sym e ∙ given) ∙ ap current_fine (sym is)
 
   pub of_none : known ≡ None → false ≡ current_fine current
   unfolding current_fine
-  of_none e = ap (λ (x : (Option Kind)). gives x a.kind) (sym e ∙ given) ∙ ap current_fine (sym is)
+  of_none e = ap (λ (x : Option Kind). gives x a.kind) (sym e ∙ given) ∙ ap current_fine (sym is)
 
 -- ---- the numbers of a kind name it
 kind_from : Code → Kind
@@ -69,4 +69,4 @@ same_as_itself k = agrees (code_of k)
 -- an active command that has the kind that `kind` gives it passes 13
 pub active_fine : (a : the.Active) → kind_of a.command ≡ Some a.kind → current_fine (Active a) ≡ true
 unfolding current_fine
-active_fine a e = ap (λ (x : (Option Kind)). gives x a.kind) e ∙ same_as_itself a.kind
+active_fine a e = ap (λ (x : Option Kind). gives x a.kind) e ∙ same_as_itself a.kind

@@ -1,5 +1,5 @@
 -- What a call that is not refused knows of what it was handed. Assumes nothing.
-use Rattle.std.specs.Prelude.{ℕ, Option, Some}
+use Rattle.std.specs.Prelude.{Option, Some}
 use Prim.Native.Nat.{ℕ, zero, suc, ◌+◌, ◌%◌, ◌≤◌, ◌<◌}
 use mathlib.Core.Path.{◌≡◌, refl, sym, ap, ◌∙◌, subst}
 use mathlib.Core.Bool.{Bool, true, false, ◌&&◌, not}
@@ -193,9 +193,9 @@ pub record FineLengths (p : PanelGeometry) (l : Lengths) : Type 0 where
   pub red : (n : ℕ) → l.red ≡ Some n → n ≡ 81600
   pub gates : (n : ℕ) → l.gates ≡ Some n → n ≡ p.height
 
-right_length : (b : (Option ℕ)) (size : ℕ) → fits b size ≡ true → (n : ℕ) → b ≡ Some n → n ≡ size
+right_length : (b : Option ℕ) (size : ℕ) → fits b size ≡ true → (n : ℕ) → b ≡ Some n → n ≡ size
 unfolding fits
-right_length b size e n f = eqb-true n size (ap (λ (x : (Option ℕ)). fits x size) (sym f) ∙ e)
+right_length b size e n f = eqb-true n size (ap (λ (x : Option ℕ). fits x size) (sym f) ∙ e)
 
 pub fine_lengths : (p : PanelGeometry) (l : Lengths) → lengths_fit p l ≡ true → FineLengths p l
 unfolding lengths_fit

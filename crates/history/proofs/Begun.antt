@@ -119,7 +119,7 @@ module _ (k : Lent) (command : ℕ) where
   blind_kind (Some Read) =
       blind_then plain_buffers plain_buffers plain_buffers (on device_in_buffers (command_made command Read)) (run k command) (quiet_made command Read).blind blind_run
 
-  still_kind : eqb command 0x20 ≡ false → (known : (Option Kind)) (w : WithBuffers) → seen_buffers (command_by_kind k command w known) ≡ seen_buffers w
+  still_kind : eqb command 0x20 ≡ false → (known : Option Kind) (w : WithBuffers) → seen_buffers (command_by_kind k command w known) ≡ seen_buffers w
   unfolding command_by_kind
   still_kind e None w = (quiet_told (UnknownCommand command)).still w
   still_kind e (Some Reserved) w = (quiet_told (ReservedCommand command)).still w

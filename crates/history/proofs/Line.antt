@@ -1,6 +1,6 @@
 -- The reset line beside the whole numbers: a fall works in what the cut let the refresh under way finish, and nothing of one whose driving
 -- had not begun. Assumes nothing.
-use Rattle.std.specs.Prelude.{ℕ, Option, Some, None}
+use Rattle.std.specs.Prelude.{Option, Some, None}
 use Prim.Native.Nat.{ℕ, ◌<◌, ◌-◌, max}
 use mathlib.Core.Path.{◌≡◌, refl, sym, ap, subst, ◌∙◌}
 use mathlib.Core.Bool.{Bool, true, false, ◌&&◌}
@@ -69,7 +69,7 @@ config_moved luts time g = by (is_over (clocked time g).device)
     by true = refl
     by false = refl
 
-lowered_power : (until : (Option ℕ)) (bus : Bus) (t : ℕ) → (lowered until bus t).power ≡ bus.power
+lowered_power : (until : Option ℕ) (bus : Bus) (t : ℕ) → (lowered until bus t).power ≡ bus.power
 lowered_power None bus t = refl
 lowered_power (Some until) bus t = by (leb until t)
   where

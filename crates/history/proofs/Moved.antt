@@ -1,5 +1,5 @@
 -- What the reckoning says of a moment, told of the state before the clock moved and of the state after it. Assumes nothing.
-use Rattle.std.specs.Prelude.{ℕ, Option, Some, None}
+use Rattle.std.specs.Prelude.{Option, Some, None}
 use Prim.Native.Nat.{ℕ, ◌-◌, max}
 use mathlib.Core.Path.{◌≡◌, refl, sym, ap, ◌∙◌}
 use mathlib.Core.Bool.{Bool, true, false, ◌&&◌}
@@ -68,15 +68,15 @@ cut_moved luts time g = by (is_over (clocked time g).device) refl
         (λ early. lt-ltb t d.display.ends (leb-false d.display.ends t early)))
 
 -- ---- BUSY, before and after the clock's move
-pending_lowered : (until : (Option ℕ)) (bus : Bus) (t : ℕ) → bus.busy_until ≡ until → pending (lowered until bus t).busy_until t ≡ pending until t
+pending_lowered : (until : Option ℕ) (bus : Bus) (t : ℕ) → bus.busy_until ≡ until → pending (lowered until bus t).busy_until t ≡ pending until t
 unfolding pending
-pending_lowered None bus t e = ap (λ (u : (Option ℕ)). pending u t) e
+pending_lowered None bus t e = ap (λ (u : Option ℕ). pending u t) e
 pending_lowered (Some until) bus t e = by (leb until t) refl
   where
     by : (b : Bool) → leb until t ≡ b
         → pending (pick b (record { power = bus.power; current = bus.current; busy_until = None }) bus).busy_until t ≡ ltb t until
     by true o = sym (le-ltb t until (leb-true until t o))
-    by false o = ap (λ (u : (Option ℕ)). pending u t) e
+    by false o = ap (λ (u : Option ℕ). pending u t) e
 
 pub pending_moved : (luts : List ℕ) (time : ℕ) (g : WithGlass)
     → pending (advanced luts time g).device.bus.busy_until (advanced luts time g).device.now ≡ pending g.device.bus.busy_until (max g.device.now time)

@@ -1,6 +1,6 @@
 -- What a call leaves of the glass: each lent state is its pixel's whole number with the refreshes that ended or were cut worked in, and each
 -- pixel shows the grey of it. Here the end of one refresh, the clock's move and the reset line. Assumes nothing.
-use Rattle.std.specs.Prelude.{ℕ, Option, Some, None}
+use Rattle.std.specs.Prelude.{Option, Some, None}
 use Prim.Native.Nat.{ℕ, ◌≤◌, ◌<◌, ◌+◌, ◌-◌, max, min}
 use mathlib.Core.Path.{◌≡◌, refl, ap, ◌∙◌}
 use mathlib.Core.Bool.{Bool, true, false, ◌&&◌}

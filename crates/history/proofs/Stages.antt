@@ -1,6 +1,6 @@
 -- The stages of 0x20: the display, the chosen LUTs and all else that the core keeps do not look at the glass, the journal or the log, and the
 -- display and the LUTs not at the bus either. Assumes nothing.
-use Rattle.std.specs.Prelude.{ℕ, Option, Some, None}
+use Rattle.std.specs.Prelude.{Option, Some, None}
 use Prim.Native.Nat.{ℕ, ◌%◌}
 use mathlib.Core.Path.{◌≡◌, refl}
 use mathlib.Core.Bool.{Bool, true, false, ◌&&◌, not}

@@ -1,5 +1,5 @@
 -- What `found_entry` finds: the last covering entry of the mode, by the low twelve bits of the register, and at −2048 an entry that begins there. Assumes nothing.
-use Rattle.std.specs.Prelude.{ℕ, Option, Some, None}
+use Rattle.std.specs.Prelude.{Option, Some, None}
 use mathlib.Core.Path.{◌≡◌, refl, sym, ap, ◌∙◌}
 use mathlib.Core.Bool.{Bool, true, false, ◌&&◌, ◌||◌, not}
 use mathlib.Core.List.{List}
@@ -65,7 +65,7 @@ module _ (otp : List ℕ) (mode : DisplayMode) (register : ℕ) where
   pub found_low_bits : found_entry otp mode (register % 4096) ≡ found_entry otp mode register
   unfolding found_entry
   found_low_bits =
-      ap (λ (e : (Option ℕ)). pick (bad_table otp) None e)
+      ap (λ (e : Option ℕ). pick (bad_table otp) None e)
       (last_same (covers otp mode (register % 4096)) (covers otp mode register) covers_low_bits (entry_count otp))
 
   -- the Rust's rule: the entry is of the mode, and lower < T ≤ upper
@@ -131,7 +131,7 @@ module _ (otp : List ℕ) (mode : DisplayMode) (register : ℕ) where
       ≡ pick (bad_table otp) None (last_of coversStrictly (entry_count otp))
   unfolding found_entry
   found_elsewhere h =
-      ap (λ (e : (Option ℕ)). pick (bad_table otp) None e)
+      ap (λ (e : Option ℕ). pick (bad_table otp) None e)
       (last_same (covers otp mode register) coversStrictly (λ entry. elsewhere_same entry h) (entry_count otp))
 
   -- at −2048 it is the last of the mode that begins there; 35 comes where there is none
@@ -141,6 +141,6 @@ module _ (otp : List ℕ) (mode : DisplayMode) (register : ℕ) where
       (last_of (λ entry. eqb (mode_at otp entry) (mode_number mode) && is_coldest (lower_at otp entry)) (entry_count otp))
   unfolding found_entry
   found_coldest h =
-      ap (λ (e : (Option ℕ)). pick (bad_table otp) None e)
+      ap (λ (e : Option ℕ). pick (bad_table otp) None e)
       (last_same (covers otp mode register) (λ entry. eqb (mode_at otp entry) (mode_number mode) && is_coldest (lower_at otp entry))
       (λ entry. coldest_covered entry h) (entry_count otp))

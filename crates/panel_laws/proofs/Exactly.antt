@@ -1,7 +1,7 @@
 -- The theorems of a display's end, by pixel: a driven state from 0 to S moves by the exact drives of its LUT, added in order and each sum
 -- held, so it stays from 0 to S and two states of one LUT keep their order; an undriven state stays; every pixel shows the grey of
 -- its state. A cut is one of at most 2^64 − 2 ns. Assumes nothing.
-use Rattle.std.specs.Prelude.{ℕ, Option, Some, None}
+use Rattle.std.specs.Prelude.{Option, Some, None}
 use mathlib.Core.Path.{◌≡◌, refl, ap, ◌∙◌}
 use mathlib.Core.Bool.{Bool, true, false}
 use mathlib.Core.List.{List}

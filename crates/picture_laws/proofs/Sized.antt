@@ -1,6 +1,6 @@
 -- The image's size stays the panel's, and there are as many states and pixels as the panel has: so an accepted start leaves it, and so does every
 -- call. Assumes nothing.
-use Rattle.std.specs.Prelude.{ℕ, Option, None}
+use Rattle.std.specs.Prelude.{Option, None}
 use Prim.Native.Nat.{ℕ}
 use mathlib.Core.Path.{◌≡◌, refl, sym, ap, subst, ◌∙◌}
 use mathlib.Core.Bool.{Bool, true, false}
@@ -68,7 +68,7 @@ module _ (p : PanelGeometry) where
   SizedWorld w = SizedBy w.device w.states w.picture.pixels
 
   -- ---- the end of a display
-  finish_sized : (luts : List ℕ) (at : ℕ) (until : (Option ℕ)) (g : WithGlass) → SizedGlass g
+  finish_sized : (luts : List ℕ) (at : ℕ) (until : Option ℕ) (g : WithGlass) → SizedGlass g
       → SizedGlass (glass_published g (finished (ending_of g.device at until) luts (glass_of g)))
   unfolding finished published
   finish_sized luts at until g h =

@@ -1,5 +1,5 @@
 -- What each return of the code hands over, over plain variables. Assumes nothing.
-use Rattle.std.specs.Prelude.{ℕ, Option, Some, None}
+use Rattle.std.specs.Prelude.{Option, Some, None}
 use Prim.Native.Nat.{ℕ}
 use mathlib.Core.Path.{◌≡◌, sym, subst}
 use mathlib.Core.Bool.{Bool, true, false}
@@ -46,18 +46,18 @@ module _ (a : Active) (k : WithLog) where
   unfolding nothing_read
   tells n r h e f = rw (h, f, e)
 
-  pub gives : (busy : Bool) (b : (Option ℕ)) (r : Ssd1677) → busy ≡ busy_at k.device.bus k.device.now
+  pub gives : (busy : Bool) (b : Option ℕ) (r : Ssd1677) → busy ≡ busy_at k.device.bus k.device.now
       → b ≡ read_register k.device.regs k.device.status busy a.command a.read
       → r ≡ on a a.range_reported a.nothing_reported k.device → with_byte (with_log r k.log) b ≡ register_read a k
   unfolding register_read
   gives busy b r e f h = rw (f, e, h)
 
-  pub finds : (b : (Option ℕ)) (value : ℕ) (m r : Ssd1677) → b ≡ Some value → m ≡ counter_stepped k.device
+  pub finds : (b : Option ℕ) (value : ℕ) (m r : Ssd1677) → b ≡ Some value → m ≡ counter_stepped k.device
       → r ≡ on a a.range_reported a.nothing_reported m → with_byte (with_log r k.log) (Some value) ≡ ram_found a k b
   unfolding ram_found
   finds b value m r h e f = rw (h, f, e)
 
-  pub finds_none : (b : (Option ℕ)) (n : WithLog) (m r : Ssd1677) → b ≡ None → n ≡ out_of_range a k → m ≡ counter_stepped n.device
+  pub finds_none : (b : Option ℕ) (n : WithLog) (m r : Ssd1677) → b ≡ None → n ≡ out_of_range a k → m ≡ counter_stepped n.device
       → r ≡ on a true a.nothing_reported m → with_byte (with_log r n.log) None ≡ ram_found a k b
   unfolding ram_found
   finds_none b n m r h e f g = rw (h, g, f, e)
@@ -68,7 +68,7 @@ module _ (a : Active) (k : WithLog) where
     unfolding ram_read
     dummy r h e = rw (eq-eqb a.read 0 h, e)
 
-    pub reads_ram : (b : (Option ℕ)) (z : WithByte) → (a.read ≡ 0 → ⊥)
+    pub reads_ram : (b : Option ℕ) (z : WithByte) → (a.read ≡ 0 → ⊥)
         → b ≡ read_at (plane_of black_white red (chosen k.device)) k.device.regs.counter → z ≡ ram_found a k b → z ≡ ram_read black_white red a k
     unfolding ram_read
     reads_ram b z h g i = rw (ne_eqb a.read 0 h, ← g) i
@@ -81,7 +81,7 @@ module _ (a : Active) (k : WithLog) where
     unfolding byte_read
     is_register z h e = rw (ne_eqb a.command 0x27 h) e
 
-module _ (black_white red : List ℕ) (d : Ssd1677) (b : (Option ℕ)) where
+module _ (black_white red : List ℕ) (d : Ssd1677) (b : Option ℕ) where
   pub of_red : d.regs.read_ram_red ≡ true → b ≡ read_at red d.regs.counter → b ≡ read_at (plane_of black_white red (chosen d)) d.regs.counter
   of_red h e = rw h e
 

@@ -1,6 +1,6 @@
 -- What a read leaves: configuration, clock, glass, display, supplies, BUSY and power; the log's length, its count at most 1,024, registers within
 -- the bounds of 13, and of the current command all that `kind` goes by. Assumes nothing.
-use Rattle.std.specs.Prelude.{ℕ, Option, Some, None}
+use Rattle.std.specs.Prelude.{Option, Some, None}
 use Prim.Native.Nat.{ℕ}
 use mathlib.Core.Path.{◌≡◌, refl, subst, sym, ◌∙◌}
 use mathlib.Core.Bool.{Bool, true, false}

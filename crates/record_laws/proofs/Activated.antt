@@ -1,6 +1,6 @@
 -- 0x20 and the record of the waveform loaded: what a LUT load finds is in the LUT register and in the record afterwards, and without one both
 -- are as they were. So the record still tells what the LUT register holds. Assumes nothing.
-use Rattle.std.specs.Prelude.{ℕ, Option, Some, None}
+use Rattle.std.specs.Prelude.{Option, Some, None}
 use Prim.Native.Nat.{ℕ}
 use mathlib.Core.Path.{◌≡◌, refl, sym, subst}
 use mathlib.Core.Bool.{Bool, true, false, ◌&&◌}

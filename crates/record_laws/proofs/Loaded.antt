@@ -1,6 +1,6 @@
 -- The stages of an activation up to its display: a load that finds an entry leaves its setting in the LUT register and its number in the
 -- record, and nothing else touches either. Assumes nothing.
-use Rattle.std.specs.Prelude.{ℕ, Option, Some, None}
+use Rattle.std.specs.Prelude.{Option, Some, None}
 use Prim.Native.Nat.{ℕ, ◌+◌, ◌*◌, ◌%◌, ◌<◌}
 use mathlib.Core.Path.{◌≡◌, refl, ◌∙◌}
 use mathlib.Core.Bool.{Bool, true, false, ◌&&◌, ◌||◌, not, true≢false, false≢true}
@@ -68,12 +68,12 @@ module _ (P : Bool → List ℕ → ℕ → Type 0) where
         let off = noted time (WithoutClock AnalogOn) s in
         either Before (wanted && not s.run.analog) (pick s.run.clock on off) s (either Before s.run.clock on off h h) h
 
-    external_before : (ns : ℕ) (external : (Option ℕ)) (s : Step) → Before s → Before (by_external time ns external s)
+    external_before : (ns : ℕ) (external : Option ℕ) (s : Step) → Before s → Before (by_external time ns external s)
     unfolding waited noted
     external_before ns (Some register) s h = h
     external_before ns None s h = h
 
-    sensed_before : (sensor : ℕ) (config : Ssd1677Config) (external : (Option ℕ)) (s : Step) → Before s
+    sensed_before : (sensor : ℕ) (config : Ssd1677Config) (external : Option ℕ) (s : Step) → Before s
         → Before (sensed time sensor config external s)
     unfolding sensed waited
     sensed_before sensor config external s h =

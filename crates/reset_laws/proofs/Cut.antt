@@ -1,6 +1,6 @@
 -- The law of one cut (#101): `set_reset` lets RES# fall in any state that 13 lets pass, while a refresh is driving. Each state from 0 to S is then
 -- its exact reckoning up to the converted span, and its pixel shows the grey of it. Assumes nothing.
-use Rattle.std.specs.Prelude.{ℕ, Option, Some, None}
+use Rattle.std.specs.Prelude.{Option, Some, None}
 use Prim.Native.Nat.{ℕ, ◌≤◌, ◌<◌, max}
 use mathlib.Core.Path.{◌≡◌, refl, sym, ap, subst, ◌∙◌}
 use mathlib.Core.Bool.{Bool, true, false, ◌&&◌}
@@ -35,7 +35,7 @@ use Rattle.reset.specs.Reset.{restored, display_cut, display_dropped, cut, in_re
 use Rattle.res.specs.Line.{line_taken}
 use Rattle.reset_laws.specs.Cut.{span_to, cut_ending, Cuttable}
 
-lowered_power : (until : (Option ℕ)) (bus : Bus) (t : ℕ) → (lowered until bus t).power ≡ bus.power
+lowered_power : (until : Option ℕ) (bus : Bus) (t : ℕ) → (lowered until bus t).power ≡ bus.power
 lowered_power None bus t = refl
 lowered_power (Some until) bus t = by (leb until t)
   where

@@ -1,6 +1,6 @@
 -- Laws of the LUT of a pixel: a bit that lies in the RAM, the pixel of a row and a column, and the source of a column.
 -- Assumes nothing.
-use Rattle.std.specs.Prelude.{ℕ, Option, Some}
+use Rattle.std.specs.Prelude.{Option, Some}
 use mathlib.Core.Path.{◌≡◌}
 use mathlib.Core.Bool.{Bool, true, false}
 use mathlib.Core.List.{List}
@@ -23,7 +23,7 @@ bit_there plane x row whole there row_in_ram =
     rw (lt-ltb (x / 8) 120 (omega arith), lt-ltb row 680 row_in_ram, lt-ltb (row * 120 + x / 8) (length plane) (omega arith))
 
 -- pixel y * width + x is the one in column x and row y
-pub pixel_is : {r source : ℕ} {row : (Option ℕ)} (gates red black_white : List ℕ) (g : PanelGeometry) (s : Scan) (x y : ℕ) → x < g.width
+pub pixel_is : {r source : ℕ} {row : Option ℕ} (gates red black_white : List ℕ) (g : PanelGeometry) (s : Scan) (x y : ℕ) → x < g.width
     → row ≡ row_of_gate (get_or gates y 0) s.order s.lines → source ≡ source_of g x → r ≡ lut_in_row row red black_white s source
     → r ≡ lut_of gates red black_white g s (y * g.width + x)
 unfolding lut_of

@@ -1,5 +1,5 @@
 -- What each return of the stages hands over, over plain variables. Assumes nothing.
-use Rattle.std.specs.Prelude.{ℕ, Option, Some, None}
+use Rattle.std.specs.Prelude.{Option, Some, None}
 use Prim.Native.Nat.{ℕ, ◌%◌, ◌+◌, min}
 use mathlib.Core.Path.{◌≡◌}
 use mathlib.Core.Bool.{false}
@@ -26,7 +26,7 @@ pub waits : (ns n : ℕ) (r : Run) → n ≡ min (r.ns + ns) (largest 64) → wi
 unfolding waited
 waits ns n r h = rw h
 
-module _ (time ns : ℕ) (x : (Option ℕ)) (s z : Step) where
+module _ (time ns : ℕ) (x : Option ℕ) (s z : Step) where
   pub reads : (t : ℕ) → x ≡ Some t → z ≡ through (λ (r : Run). waited ns (with_temperature (t % 4096) r)) s → z ≡ by_external time ns x s
   reads t e f = rw e f
 

@@ -1,5 +1,5 @@
 -- Steps one after the other: one more, the last where it is refused, and the end. Assumes nothing.
-use Rattle.std.specs.Prelude.{ℕ, Option}
+use Rattle.std.specs.Prelude.{Option}
 use mathlib.Core.Path.{◌≡◌, refl, sym, ap, ◌∙◌}
 use mathlib.Core.Bool.{Bool, true, false}
 use mathlib.Core.List.{List}
@@ -93,6 +93,6 @@ module _ {A : Type 0} (step : ℕ → A → Outcome A) where
           (λ t. absurd (never (sym a ∙ t)), ap (λ (k : ℕ). ended step count (fed (refusal_number refusal) k v)) f ∙ ended_there count refusal i v a ∙ fed_last count i _ w refusal h a o refl)
 
 -- the step of a place, by what its event does
-pub made_one : (otp : List ℕ) (events : ℕ → Event) (i : ℕ) (w : World) {v : World} {number : ℕ} {byte : (Option ℕ)} {event : Event}
+pub made_one : (otp : List ℕ) (events : ℕ → Event) (i : ℕ) (w : World) {v : World} {number : ℕ} {byte : Option ℕ} {event : Event}
     → outcome number (told v byte) ≡ dispatched otp w event → event ≡ events i → outcome number v ≡ made otp events i w
 made_one otp events i w e f = ap unread e ∙ ap (λ (x : Event). unread (dispatched otp w x)) f

@@ -1,5 +1,5 @@
 -- Whether a code stands in a line of a list, from its bounds. Assumes nothing.
-use Rattle.std.specs.Prelude.{ℤ, Option, Some}
+use Rattle.std.specs.Prelude.{Option, Some}
 use mathlib.Core.Path.{◌≡◌, refl}
 use mathlib.Core.Bool.{Bool, true, false, ◌&&◌}
 use mathlib.Core.List.{List, ◌∷◌}
@@ -50,6 +50,6 @@ module _ (sign : ℕ → ℤ) (l : Line) (ls : List Line) (code : ℕ) where
   first_line h = rw (is_in l code h)
 
   -- a code that is not in it
-  pub next_line : {v : (Option ℤ)} → (In l code → ⊥) → v ≡ voltage sign ls code → v ≡ voltage sign (l ∷ ls) code
+  pub next_line : {v : Option ℤ} → (In l code → ⊥) → v ≡ voltage sign ls code → v ≡ voltage sign (l ∷ ls) code
   unfolding voltage
   next_line h e = rw (not_in l code h) e

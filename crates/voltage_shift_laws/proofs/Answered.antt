@@ -5,7 +5,7 @@
 --     bounds-answered   where 4, 5, 11 and 91 find nothing, the answer is the bounds, each the smaller of the exact sum and S
 --     optics-swing-is   its S is the panel's
 -- Assumes nothing.
-use Rattle.std.specs.Prelude.{ℕ, ℤ, Option, Some, None}
+use Rattle.std.specs.Prelude.{Option, Some, None}
 use mathlib.Core.Path.{◌≡◌, refl, sym, ap, subst, ◌∙◌}
 use mathlib.Core.Bool.{Bool, true, false, not, ◌||◌}
 use mathlib.Core.List.{List, [], ◌∷◌}
@@ -115,7 +115,7 @@ module _ (o : Optics) (p s : List ℕ) (v : DrivingVoltage) (before after : ℕ)
 
   -- the results differ by no more than the bound
   pub bounds_hold : (t u : List ℕ) → AgreeBut v s t → AgreeBut v s u → get_or t (voltage_byte v) 0 ≡ before → get_or u (voltage_byte v) 0 ≡ after
-      → (black : Bool) (until : (Option ℕ)) (lut x : ℕ) → lut < 4 → x ≤ optics_swing o
+      → (black : Bool) (until : Option ℕ) (lut x : ℕ) → lut < 4 → x ≤ optics_swing o
       → nat_abs (apply_t (setting_transfer t p (Lut lut) (swing_of o) black until) (pos x) -ℤ apply_t (setting_transfer u p (Lut lut) (swing_of o) black until) (pos x)) ≤ (shift_at b lut).bound
   bounds_hold t u agree-t agree-u is-before is-after black until lut x l h =
       let f = found in
@@ -131,7 +131,7 @@ module _ (o : Optics) (p s : List ℕ) (v : DrivingVoltage) (before after : ℕ)
 
   -- and the greys shown by no more than its steps
   pub grays_hold : (t u : List ℕ) → AgreeBut v s t → AgreeBut v s u → get_or t (voltage_byte v) 0 ≡ before → get_or u (voltage_byte v) 0 ≡ after
-      → (black : Bool) (until : (Option ℕ)) (lut x : ℕ) → lut < 4 → x ≤ optics_swing o
+      → (black : Bool) (until : Option ℕ) (lut x : ℕ) → lut < 4 → x ≤ optics_swing o
       → nat_abs (pos (gray_z (apply_t (setting_transfer t p (Lut lut) (swing_of o) black until) (pos x)) (swing_of o)) -ℤ pos (gray_z (apply_t (setting_transfer u p (Lut lut) (swing_of o) black until) (pos x)) (swing_of o)))
       ≤ (shift_at b lut).steps
   grays_hold t u agree-t agree-u is-before is-after black until lut x l h =

@@ -3,7 +3,7 @@
 --     grays-bounded   nor do they show greys farther apart than the bound in steps of grey, rounded up
 --     states-near     two states under one setting end no farther apart than they began
 -- Assumes nothing.
-use Rattle.std.specs.Prelude.{ℕ, Option, Some, None}
+use Rattle.std.specs.Prelude.{Option, Some, None}
 use mathlib.Core.Path.{◌≡◌, refl, ap, subst, ◌∙◌}
 use mathlib.Core.Bool.{Bool, false}
 use mathlib.Core.List.{List, [], ◌∷◌, foldl}
@@ -104,7 +104,7 @@ module _ (S : ℕ) (some : 1 ≤ S) (room : S ≤ 9223372036854775807) (s t p : 
       by (yes h) = cut_left until h
       by (no h) = rw (cut_late s p drive (pos S) black until (omega arith), cut_late t p drive (pos S) black until (omega arith)) whole_left
 
-module _ (S : ℕ) (some : 1 ≤ S) (room : S ≤ 9223372036854775807) (p : List ℕ) (black : Bool) (until : (Option ℕ)) where
+module _ (S : ℕ) (some : 1 ≤ S) (room : S ≤ 9223372036854775807) (p : List ℕ) (black : Bool) (until : Option ℕ) where
   -- what LUT `lut` of a setting leaves of the state x
   abbrev left : List ℕ → ℕ → ℕ → ℤ
   left s lut x = apply_t (setting_transfer s p (Lut lut) (pos S) black until) (pos x)

@@ -7,4 +7,4 @@ use Rattle.busy.proofs.deadline.Goals as goal
 pub returns : goal.returns
 unfolding deadline_of
 returns c =
-    c.earlier_of.ensures ∙ ap (λ (e : (Option ℕ)). earlier e c.args.state.bus.busy_until) c.end_of-end.ensures
+    c.earlier_of.ensures ∙ ap (λ (e : Option ℕ). earlier e c.args.state.bus.busy_until) c.end_of-end.ensures

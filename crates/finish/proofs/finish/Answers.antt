@@ -1,5 +1,5 @@
 -- `finish::finish` meets its contract. Calls put in another order are refused for what they leave. Assumes nothing.
-use Rattle.std.specs.Prelude.{ℕ, Option}
+use Rattle.std.specs.Prelude.{Option}
 use mathlib.Core.Path.{◌≡◌, sym, subst}
 use mathlib.Core.Bool.{Bool}
 use mathlib.Core.List.{List}

@@ -7,4 +7,4 @@ use Rattle.column.proofs.read.last.Goals as goal
 pub returns : goal.returns
 returns c =
     let s = c.args in
-    c.digit.ensures ∙ ap (λ (f : (Option ℕ)). last_of f s.byte) (sym c.in-Some.is)
+    c.digit.ensures ∙ ap (λ (f : Option ℕ). last_of f s.byte) (sym c.in-Some.is)

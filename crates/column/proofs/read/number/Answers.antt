@@ -1,5 +1,5 @@
 -- `column::read::number` meets its contract: after i turns the front is that of the first i bytes.
-use Rattle.std.specs.Prelude.{ℕ, Option}
+use Rattle.std.specs.Prelude.{Option}
 use mathlib.Core.Path.{◌≡◌, sym, ap, ◌∙◌}
 use mathlib.Core.List.{List}
 use Prim.Native.Nat.{ℕ, suc, ◌+◌, ◌-◌, ◌<◌}
@@ -13,12 +13,12 @@ use Rattle.column.proofs.read.number.Goals as goal
 
 more : (l : List ℕ) (i : ℕ) (f r : Option ℕ) → i < length l → f ≡ front_of (take i l) → r ≡ step_of f (get_or l i 0) → r ≡ front_of (take (i + 1) l)
 more l i f r h e g =
-    g ∙ ap (λ (x : (Option ℕ)). step_of x (get_or l i 0)) e ∙ sym (front_step (take i l) (get_or l i 0)) ∙ ap front_of (sym (take-suc l i 0 h))
+    g ∙ ap (λ (x : Option ℕ). step_of x (get_or l i 0)) e ∙ sym (front_step (take i l) (get_or l i 0)) ∙ ap front_of (sym (take-suc l i 0 h))
     ∙ ap (λ (n : ℕ). front_of (take n l)) (sym (add-one i))
 
 whole : (l : List ℕ) (i : ℕ) (f r : Option ℕ) → suc i ≡ length l → f ≡ front_of (take i l) → r ≡ last_of f (get_or l i 0) → r ≡ read_of l
 whole l i f r h e g =
-    g ∙ ap (λ (x : (Option ℕ)). last_of x (get_or l i 0)) e ∙ sym (read_more (take i l) (get_or l i 0)) ∙ ap read_of (sym (take-suc l i 0 (omega arith)))
+    g ∙ ap (λ (x : Option ℕ). last_of x (get_or l i 0)) e ∙ sym (read_more (take i l) (get_or l i 0)) ∙ ap read_of (sym (take-suc l i 0 (omega arith)))
     ∙ ap (λ (n : ℕ). read_of (take n l)) h ∙ ap read_of (take-length l)
 
 pub returns-then-column-eq0 : goal.returns-then-column-eq0

@@ -21,11 +21,11 @@ returns-in-Some c =
     let p = a.panel in
     let border =
     got c.apply-state.type_inv (c.apply-state.ensures ∙ ap (apply_t c.transfer-transfer.result) (field_back p.border c.struct_told-1.given.1.0.1) ∙ c.transfer-transfer.ensures.alike p.border)
-    ∙ ap (λ (b : (Option Drive)). border_by (transfer_in a.refresh) b p.border) (sym told.in-Some.is ∙ call.border_drive-drives.ensures) in
+    ∙ ap (λ (b : Option Drive). border_by (transfer_in a.refresh) b p.border) (sym told.in-Some.is ∙ call.border_drive-drives.ensures) in
     λ i. record { swing = p.swing; border = border i; image = p.image }
 
 pub returns-in-None : goal.returns-in-None
 returns-in-None c =
     let call = c in
     let a = call.args in
-    ap (λ (b : (Option Drive)). with_border a.panel (border_by (transfer_in a.refresh) b a.panel.border)) (sym c.in-None.is ∙ call.border_drive-drives.ensures)
+    ap (λ (b : Option Drive). with_border a.panel (border_by (transfer_in a.refresh) b a.panel.border)) (sym c.in-None.is ∙ call.border_drive-drives.ensures)

@@ -1,5 +1,5 @@
 -- `line::columns::read` meets its contract.
-use Rattle.std.specs.Prelude.{ℕ, Option}
+use Rattle.std.specs.Prelude.{Option}
 use mathlib.Core.Path.{◌≡◌, refl, ap, ◌∙◌}
 use mathlib.Core.Bool.{Bool, ◌&&◌}
 use mathlib.Core.List.{List}
@@ -22,7 +22,7 @@ no_end : (l : List ℕ) → length l ≡ 27 → (get_or l 26 0 ≡ 10 → ⊥) �
 unfolding columns_of
 no_end l e h = passed _ _ _ _ (λ i. eq-eqb (length l) 27 e i && ne_eqb (get_or l 26 0) 10 h i) refl
 
-whole : (l : List ℕ) (a b d : (Option ℕ)) (r : Columns) → length l ≡ 27 → get_or l 26 0 ≡ 10 → a ≡ read_of (take 20 l) → b ≡ read_of (take 2 (drop 20 l))
+whole : (l : List ℕ) (a b d : Option ℕ) (r : Columns) → length l ≡ 27 → get_or l 26 0 ≡ 10 → a ≡ read_of (take 20 l) → b ≡ read_of (take 2 (drop 20 l))
     → d ≡ read_of (take 4 (drop 22 l)) → r ≡ three_of a b d → r ≡ columns_of l
 unfolding columns_of
 whole l a b d r e f ea eb ed er =
