@@ -4,7 +4,7 @@
 
 ghost use Rattle.std.specs.Prelude.{[], ◌∷◌, ◌≡◌, pos, ◌*ℤ◌};
 ghost use Rattle.config.specs.Temperature.{coldest, warmest, sixteenths_of, register_of, from_sixteenths};
-ghost use Rattle.config.specs.Answer.{is_accepted, first_of, answer_of};
+ghost use Rattle.config.specs.Answer.{first_of, answer_of};
 ghost use Rattle.config.specs.Tests.{geometry_tests, swing_test, periods_test, frequency_test, config_tests};
 ghost use Rattle.config.specs.Defaults.{default_gate_scan, default_timing};
 ghost use Rattle.config.specs.Mode.{mode_number};
@@ -210,7 +210,6 @@ pub struct Ssd1677Config {
 // Parameters an SSD1677 model cannot be built on.
 #[derive(Clone, Copy)]
 pub enum ConfigError {
-    Accepted,
     // The panel has no pixel.
     EmptyPanel,
     // The panel does not fit the controller's sources and gates.
@@ -229,87 +228,59 @@ pub enum ConfigError {
     OtpVoltage(usize),
 }
 
-pub fn is_accepted(error: ConfigError) -> bool
-    ensures { result ≡ is_accepted (answer_of error) }
-{
-    match error {
-        ConfigError::Accepted => true,
-        ConfigError::EmptyPanel => false,
-        ConfigError::PanelOutsideRam => false,
-        ConfigError::OddRowsWithGd => false,
-        ConfigError::ZeroSwing => false,
-        ConfigError::ZeroFramePeriod(_) => false,
-        ConfigError::ZeroFrequency => false,
-        ConfigError::BadTable => false,
-        ConfigError::OtpVoltage(_) => false,
-    }
-}
-
-pub fn geometry_error(panel: PanelGeometry) -> ConfigError
+pub fn check_geometry(panel: PanelGeometry) -> Result<(), ConfigError>
     ensures { answer_of result ≡ first_of (geometry_tests panel) }
 {
     let native = panel.native_scan;
     let sources = (panel.first_source as u32) + (panel.width as u32);
     if (panel.width == 0) | (panel.height == 0) {
-        return ConfigError::EmptyPanel;
+        return Err(ConfigError::EmptyPanel);
     }
     if ((RAM_SOURCES as u32) < sources) | (RAM_GATES < panel.height) {
-        return ConfigError::PanelOutsideRam;
+        return Err(ConfigError::PanelOutsideRam);
     }
     if native.gd & (panel.height % 2 == 1) {
-        return ConfigError::OddRowsWithGd;
+        return Err(ConfigError::OddRowsWithGd);
     }
-    ConfigError::Accepted
+    Ok(())
 }
 
-pub fn swing_error(optics: Optics) -> ConfigError
+pub fn check_swing(optics: Optics) -> Result<(), ConfigError>
     ensures { answer_of result ≡ first_of (swing_test optics ∷ []) }
 {
     if optics.full_swing == 0 {
-        return ConfigError::ZeroSwing;
+        return Err(ConfigError::ZeroSwing);
     }
-    ConfigError::Accepted
+    Ok(())
 }
 
-pub fn periods_error(periods: [u64; 16]) -> ConfigError
+pub fn check_periods(periods: [u64; 16]) -> Result<(), ConfigError>
     ensures { answer_of result ≡ first_of (periods_test periods ∷ []) }
 {
-    let mut code: usize = 0;
-    while code < 16 {
+    for code in 0..16 {
         if periods[code] == 0 {
-            return ConfigError::ZeroFramePeriod(code);
+            return Err(ConfigError::ZeroFramePeriod(code));
         }
-        code += 1;
     }
-    ConfigError::Accepted
+    Ok(())
 }
 
-fn frequency_error(frequency: u32) -> ConfigError
+fn check_frequency(frequency: u32) -> Result<(), ConfigError>
     ensures { answer_of result ≡ first_of (frequency_test frequency ∷ []) }
 {
     if frequency == 0 {
-        return ConfigError::ZeroFrequency;
+        return Err(ConfigError::ZeroFrequency);
     }
-    ConfigError::Accepted
+    Ok(())
 }
 
 // What is refused of a configuration whatever the table: 1 to 5, then 14.
-pub fn config_error(config: Ssd1677Config) -> ConfigError
+pub fn check(config: Ssd1677Config) -> Result<(), ConfigError>
     ensures { answer_of result ≡ first_of (config_tests config) }
 {
     let timing = config.timing;
-    let periods = timing.frame_period;
-    let geometry = geometry_error(config.panel);
-    if is_accepted(geometry) {
-        let swing = swing_error(config.optics);
-        if is_accepted(swing) {
-            let period = periods_error(periods);
-            if is_accepted(period) {
-                return frequency_error(config.frequency);
-            }
-            return period;
-        }
-        return swing;
-    }
-    geometry
+    check_geometry(config.panel)?;
+    check_swing(config.optics)?;
+    check_periods(timing.frame_period)?;
+    check_frequency(config.frequency)
 }

@@ -38,6 +38,7 @@ use Rattle.history.proofs.Display.{during_plain}
 use Rattle.history.proofs.Begun.{told}
 use Rattle.history.proofs.Shows.{refresh}
 use Rattle.history.proofs.Once.{reaches}
+use Rattle.device.specs.declared.Kind.{Kind}
 
 -- ---- what the end and the cut make of the display's refresh
 module _ (luts : List ℕ) (t : ℕ) (d : Display) where

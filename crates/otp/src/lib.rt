@@ -59,13 +59,13 @@ pub fn is_bad_table(otp: &[u8]) -> bool
     any_bad_entry(otp)
 }
 
-pub fn table_error(otp: &[u8]) -> ConfigError
+pub fn check_table(otp: &[u8]) -> Result<(), ConfigError>
     ensures { answer_of result ≡ first_of (table_test otp.now ∷ []) }
 {
     if is_bad_table(otp) {
-        return ConfigError::BadTable;
+        return Err(ConfigError::BadTable);
     }
-    ConfigError::Accepted
+    Ok(())
 }
 
 fn sixteenths_of(register: u16) -> i16

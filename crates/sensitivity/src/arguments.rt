@@ -2,6 +2,7 @@
 use config::Ssd1677Timing;
 use glass::Optics;
 use std::env::{Env, FillError};
+use voltage_shift::DrivingVoltage;
 
 // Bytes of the longest argument, a number of 64 bits. A longer one is read as an empty one, which is none that is asked for.
 const LONGEST: usize = 20;

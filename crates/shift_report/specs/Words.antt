@@ -3,6 +3,7 @@ use Rattle.std.specs.Prelude.{Bool, ◌&&◌, List, [], ◌∷◌, ℕ, ◌+◌,
 use Rattle.numbers.specs.Choice.{pick}
 use Rattle.column.specs.Reading.{same}
 use Rattle.voltage_shift.specs.declared.DrivingVoltage.TheVariants.{Vsh1, Vsh2, Vsl}
+use Rattle.voltage_shift.specs.declared.DrivingVoltage.{DrivingVoltage}
 
 -- "vsh1", "vsh2", "vsl"
 unfoldable pub voltage_word : List ℕ → Option DrivingVoltage

@@ -1,11 +1,10 @@
 -- The voltage codes that the datasheet lists (commands 0x03, 0x04 and 0x2C, as waveform.rs cites them).
-use Rattle.std.specs.Prelude.{Bool, true, false, ◌&&◌, List, [], ◌∷◌, ℕ, ◌+◌, ◌-◌, ◌*◌, ◌/◌, ◌%◌, leb, eqb, ℤ, pos, neg_ℤ, Option, Some, None}
+use Rattle.std.specs.Prelude.{Bool, true, false, ◌&&◌, List, [], ◌∷◌, ℕ, ◌+◌, ◌-◌, ◌*◌, ◌/◌, ◌%◌, leb, eqb, ℤ, pos, neg_ℤ, Option, Some, None, is_some}
 use Rattle.numbers.specs.Choice.{pick}
 
 -- the code stands for a voltage
 abbrev pub is_voltage : Option ℤ → Bool
-is_voltage (Some millivolts) = true
-is_voltage None = false
+is_voltage millivolts = is_some millivolts
 
 -- a line of a list of codes: from the first to the last by `every`; `base` millivolts at the first, `step` more at each next
 pub record Line : Type 0 where

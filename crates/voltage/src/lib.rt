@@ -4,18 +4,8 @@
 mod sheet;
 
 ghost use Rattle.std.specs.Prelude.{◌≡◌};
-ghost use Rattle.voltage.specs.Codes.{is_voltage, source_voltage, vsl_voltage, vcom_voltage, gate_listed};
+ghost use Rattle.voltage.specs.Codes.{source_voltage, vsl_voltage, vcom_voltage, gate_listed};
 ghost use Rattle.voltage.specs.Sheet.{figure};
-
-// Whether a code stands for a voltage.
-pub fn is_voltage(millivolts: Option<i64>) -> bool
-    ensures { result ≡ is_voltage millivolts }
-{
-    match millivolts {
-        Some(_) => true,
-        None => false,
-    }
-}
 
 // The sheet's figures for two codes.
 #[derive(Clone, Copy)]

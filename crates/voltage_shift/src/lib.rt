@@ -69,7 +69,7 @@ fn driving_millivolts(driving: DrivingVoltage, code: u8) -> Option<i64>
 fn is_listed(driving: DrivingVoltage, code: u8) -> bool
     ensures { result ≡ is_voltage (driving_millivolts driving code) }
 {
-    voltage::is_voltage(driving_millivolts(driving, code))
+    driving_millivolts(driving, code).is_some()
 }
 
 // A code that is not listed drives with 0, as in a waveform.

@@ -9,16 +9,16 @@ returns-in_default c = ap is_read (sym c.in_default.is ∙ c.kind.ensures)
 
 pub returns-in-Write : goal.returns-in-Write
 returns-in-Write c =
-    ap is_read (sym (ap Some c.in-Write.is) ∙ sym c.in-Of.is ∙ c.kind.ensures)
+    ap is_read (sym (ap Some c.in-Write.is) ∙ sym c.in-Some.is ∙ c.kind.ensures)
 
 pub returns-in-Read : goal.returns-in-Read
 returns-in-Read c =
-    ap is_read (sym (ap Some c.in-Read.is) ∙ sym c.in-Of.is ∙ c.kind.ensures)
+    ap is_read (sym (ap Some c.in-Read.is) ∙ sym c.in-Some.is ∙ c.kind.ensures)
 
 pub returns-in-Unsupported : goal.returns-in-Unsupported
 returns-in-Unsupported c =
-    ap is_read (sym (ap Some c.in-Unsupported.is) ∙ sym c.in-Of.is ∙ c.kind.ensures)
+    ap is_read (sym (ap Some c.in-Unsupported.is) ∙ sym c.in-Some.is ∙ c.kind.ensures)
 
 pub returns-in-Reserved : goal.returns-in-Reserved
 returns-in-Reserved c =
-    ap is_read (sym (ap Some c.in-Reserved.is) ∙ sym c.in-Of.is ∙ c.kind.ensures)
+    ap is_read (sym (ap Some c.in-Reserved.is) ∙ sym c.in-Some.is ∙ c.kind.ensures)

@@ -6,6 +6,6 @@ pub returns-in-None : goal.returns-in-None
 unfolding fits
 returns-in-None c = rw c.in-None.is
 
-pub returns-in-Of : goal.returns-in-Of
+pub returns-in-Some : goal.returns-in-Some
 unfolding fits
-returns-in-Of c = rw c.in-Of.is
+returns-in-Some c = rw c.in-Some.is

@@ -7,6 +7,7 @@ use Rattle.panel.specs.Finish.{border_by, with_border}
 use Rattle.finish.specs.Refresh.{transfer_in}
 use Rattle.finish.proofs.Drives.{border_takes}
 use Rattle.finish.proofs.refresh.drive_border.Goals as goal
+use Rattle.waveform.specs.declared.Drive.{Drive}
 
 pub transfer-transfer-requires : goal.transfer-transfer-requires
 transfer-transfer-requires c =

@@ -1,14 +1,14 @@
--- `validate::voltages_error` meets its contract: the loop has passed no unlisted voltage.
+-- `validate::check_voltages` meets its contract: the loop has passed no unlisted voltage.
 use mathlib.Core.Path.{◌≡◌, refl, sym, ap, ◌∙◌}
 use mathlib.Core.List.{[]}
 use native.Mathlib.Omega.{arith}
 use borrow.Author.Count.{below_more, below_none}
 use borrow.Author.Tests.{lt-ltb, le-ltb}
-use Rattle.config.specs.Answer.{refused, answer_of}
+use Rattle.config.specs.Answer.{refused, refused_by, answer_of}
 use Rattle.config.proofs.Answers.{refuses, passes, none_left}
 use Rattle.config.proofs.Lowest.{lowest_at, lowest_none}
 use Rattle.otp.specs.Table.{entry_count, unlisted_voltage, unlisted_entry, voltages_test}
-use Rattle.validate.proofs.voltages_error.Goals as goal
+use Rattle.validate.proofs.check_voltages.Goals as goal
 
 pub loop-entry-init : goal.loop-entry-init
 loop-entry-init c = (omega arith, below_none _)
@@ -17,7 +17,7 @@ pub has_unlisted_voltage-requires : goal.has_unlisted_voltage-requires
 has_unlisted_voltage-requires c = omega arith
 
 pub returns-then-has_unlisted_voltage : goal.returns-then-has_unlisted_voltage
-unfolding answer_of
+unfolding answer_of refused_by
 returns-then-has_unlisted_voltage c =
     let otp = c.args.otp.now in
     let e =
@@ -26,17 +26,11 @@ returns-then-has_unlisted_voltage c =
     in
     refuses (voltages_test otp) [] _ (lt-ltb (unlisted_entry otp) (entry_count otp) (omega (arith, e))) (ap (refused 6) (sym e))
 
-pub overflow_add-entry : goal.overflow_add-entry
-overflow_add-entry c = omega arith
-
-pub loop-entry-smaller : goal.loop-entry-smaller
-loop-entry-smaller c = omega arith
-
 pub loop-entry-preserved : goal.loop-entry-preserved
 loop-entry-preserved c = (omega arith, below_more _ _ c.loop-entry.invariant.1 (sym c.has_unlisted_voltage.ensures ∙ c.if-has_unlisted_voltage.false))
 
 pub returns : goal.returns
-unfolding answer_of
+unfolding answer_of refused_by
 returns c =
     let otp = c.args.otp.now in
     let n : c.loop-entry.entry ≡ entry_count otp = omega arith in
