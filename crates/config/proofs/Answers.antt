@@ -5,7 +5,7 @@ use mathlib.Core.List.{List, [], ◌∷◌, ◌++◌}
 use Prim.Native.Nat.{ℕ}
 use native.Mathlib.Omega.{arith}
 use Rattle.numbers.specs.Choice.{pick}
-use Rattle.std.specs.Prelude.{Result, Ok, Err}
+use Rattle.std.specs.Prelude.{Result, Ok, Err, is_ok}
 use Rattle.config.specs.declared.ConfigError.{ConfigError}
 use Rattle.config.specs.declared.ConfigError.TheVariants.{EmptyPanel, PanelOutsideRam, OddRowsWithGd, ZeroSwing, ZeroFramePeriod, ZeroFrequency, BadTable, OtpVoltage}
 use Rattle.config.specs.Answer.{Answer, accepted, refused, is_accepted, Test, first_of, refused_by, answer_of}
@@ -67,3 +67,9 @@ stops_at A B a b error e = stops a b (refused_by error) e (refused_all error)
 pub goes_past : {A : Type 0} (value : A) (a b : List Test) (y : Answer) → answer_of (Ok value) ≡ first_of a → y ≡ first_of b → y ≡ first_of (a ++ b)
 unfolding answer_of
 goes_past value a b y e f = goes_on a b accepted y e refl f
+
+-- the code's answer accepts where the tests do
+pub ok_accepted : (A : Type 0) (r : Result A ConfigError) → is_ok r ≡ is_accepted (answer_of r)
+unfolding answer_of
+ok_accepted A (Ok value) = refl
+ok_accepted A (Err error) = sym (refused_all error)
