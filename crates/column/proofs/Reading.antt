@@ -2,12 +2,15 @@
 use Rattle.std.specs.Prelude.{Option, Some, None}
 use mathlib.Core.Path.{◌≡◌, refl, sym, ap, ◌∙◌}
 use mathlib.Core.Bool.{Bool, true, false, ◌&&◌}
-use mathlib.Core.List.{List, [], ◌∷◌, ◌++◌}
+use mathlib.Core.List.{List, [], ◌∷◌, ◌++◌, append_assoc}
 use Prim.Native.Nat.{ℕ, zero, suc, ◌+◌, ◌-◌, ◌*◌, ◌/◌, ◌%◌, ◌^◌, ◌<◌, ◌≤◌}
 use native.Mathlib.Nat.{pow-suc}
 use native.Mathlib.Omega.{arith}
 use lib.Dec.{leb, ltb, eqb}
-use lib.ListN.{length, length-append}
+use native.Mathlib.Numerals.{add-one}
+use lib.ListN.{length, take, drop, get_or, length-append, take-append-drop}
+use lib.Seq.{take-suc}
+use Rattle.std.proofs.lemmas.List.{append-nil}
 use borrow.Author.Tests.{ltb-false, leb-true, leb-false, eqb-true, eqb-false, lt-ltb, le-ltb, le-leb, lt-leb, eq-eqb, ne_eqb}
 use Rattle.numbers.specs.Choice.{pick}
 use Rattle.numbers.specs.Lists.{tab}
@@ -260,6 +263,23 @@ module _ (xs : List ℕ) (c : ℕ) where
 pub front_none : front_of [] ≡ Some 0
 unfolding front_of front tab
 front_none = refl
+
+-- what holds no number holds none with more bytes after it
+stays : (xs ys : List ℕ) → front_of xs ≡ None → front_of (xs ++ ys) ≡ None
+stays xs [] e = ap front_of (append-nil xs) ∙ e
+stays xs (y ∷ ys) e =
+    ap front_of (sym (append_assoc xs (y ∷ []) ys)) ∙ stays (xs ++ (y ∷ [])) ys (front_step xs y ∙ ap (λ (f : Option ℕ). step_of f y) e)
+
+pub read_stays : (l : List ℕ) (i c : ℕ) → front_of (take i l) ≡ None → read_of (l ++ (c ∷ [])) ≡ None
+read_stays l i c e =
+    read_more l c
+    ∙ ap (λ (f : Option ℕ). last_of f c) (ap front_of (sym (take-append-drop i l)) ∙ stays (take i l) (drop i l) e)
+
+-- the front of a byte more
+pub front_more_at : (l : List ℕ) (i n : ℕ) → i < length l → Some n ≡ front_of (take i l) → step_of (Some n) (get_or l i 0) ≡ front_of (take (i + 1) l)
+front_more_at l i n h e =
+    ap (λ (f : Option ℕ). step_of f (get_or l i 0)) e ∙ sym (front_step (take i l) (get_or l i 0)) ∙ ap front_of (sym (take-suc l i 0 h))
+    ∙ ap (λ (k : ℕ). front_of (take k l)) (sym (add-one i))
 
 -- ---- what was written is read back
 front_value : (w n : ℕ) → n < 10 ^ w → value_of (front w n) ≡ n
