@@ -22,14 +22,14 @@ transfer_cut-requires c =
     let s = c in
     subst (λ (w : Waveform). Walkable w s.args.drive) (sym c.from_setting-decoded.ensures) s.requires.0
 
-pub returns-in-Whole : goal.returns-in-Whole
-returns-in-Whole c =
+pub returns-in-None : goal.returns-in-None
+returns-in-None c =
     let s = c in
     let a = s.args in
     let decoded = waveform_of a.setting.now a.frame_period.now in
     let black = a.positive_drives_black in
     let swing = back s.ranges.swing in
-    let whole = c.in-Whole.is in record { value = c.transfer_whole.ensures.value ∙ ap (λ (z : ℤ). settled (whole_of decoded a.drive z black)) swing ∙ sym (ap (combined_of decoded a.drive a.swing black) whole); alike = λ z. c.transfer_whole.ensures.alike z ∙ ap (λ (y : ℤ). apply_t (whole_of decoded a.drive y black) z) swing ∙ sym (ap (λ (u : Option ℕ). apply_t (transfer_of decoded a.drive a.swing black u) z) whole) }
+    let whole = c.in-None.is in record { value = c.transfer_whole.ensures.value ∙ ap (λ (z : ℤ). settled (whole_of decoded a.drive z black)) swing ∙ sym (ap (combined_of decoded a.drive a.swing black) whole); alike = λ z. c.transfer_whole.ensures.alike z ∙ ap (λ (y : ℤ). apply_t (whole_of decoded a.drive y black) z) swing ∙ sym (ap (λ (u : Option ℕ). apply_t (transfer_of decoded a.drive a.swing black u) z) whole) }
 
 pub returns-in-Some : goal.returns-in-Some
 returns-in-Some c =

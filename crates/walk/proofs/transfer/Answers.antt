@@ -5,13 +5,13 @@ use Rattle.numbers.proofs.Lin.{back}
 use Rattle.waveform.specs.Walks.{whole_of, cut_of, transfer_of}
 use Rattle.walk.proofs.transfer.Goals as goal
 
-pub returns-in-Whole : goal.returns-in-Whole
-returns-in-Whole c =
+pub returns-in-None : goal.returns-in-None
+returns-in-None c =
     let s = c in
     let a = s.args in
     c.transfer_whole.ensures
     ∙ ap (λ (z : ℤ). whole_of a.waveform a.drive z a.positive_drives_black) (back s.ranges.swing)
-    ∙ sym (ap (transfer_of a.waveform a.drive a.swing a.positive_drives_black) c.in-Whole.is)
+    ∙ sym (ap (transfer_of a.waveform a.drive a.swing a.positive_drives_black) c.in-None.is)
 
 pub returns-in-Some : goal.returns-in-Some
 returns-in-Some c =
