@@ -66,12 +66,10 @@ fn pass(
     ensures { result ≡ foldl (whole_step driving) transfer (four_in driving (timed_group setting.now frame_period.now group)) }
 {
     let mut moved = transfer;
-    let mut at: usize = 0;
-    while at < 4 {
+    for at in 0..4 {
         if groups::frames(setting, group, at) != 0 {
             moved = then_phase(setting, frame_period, driving, group, at, moved);
         }
-        at += 1;
     }
     moved
 }
@@ -141,12 +139,10 @@ pub fn transfer_whole(
         positive_drives_black,
     };
     let mut moved = Transfer::identity(swing);
-    let mut k: usize = 0;
-    while k < 10 {
+    for k in 0..10 {
         if !groups::idle(setting, k) {
             moved = group_combined(setting, frame_period, driving, k, moved);
         }
-        k += 1;
     }
     settle(moved)
 }

@@ -38,12 +38,10 @@ fn any_bad_entry(otp: &[u8]) -> bool
     ensures { result ≡ any_of (bad_entry otp.now) (entry_count otp.now) }
 {
     let entries = otp.len() / ENTRY_BYTES;
-    let mut entry: usize = 0;
     let mut bad = false;
-    while entry < entries {
+    for entry in 0..entries {
         let one = bad_entry(otp, entry);
         bad = bad | one;
-        entry += 1;
     }
     bad
 }
@@ -107,9 +105,7 @@ fn covers_register(otp: &[u8], mode: DisplayMode, register: u16, entry: usize) -
 fn last_covering(otp: &[u8], mode: DisplayMode, register: u16) -> Option<usize>
     ensures { result ≡ last_of (covers otp.now mode register) (entry_count otp.now) }
 {
-    let mut entry = otp.len() / ENTRY_BYTES;
-    while 0 < entry {
-        entry -= 1;
+    for entry in (0..otp.len() / ENTRY_BYTES).rev() {
         if covers_register(otp, mode, register, entry) {
             return Some(entry);
         }
