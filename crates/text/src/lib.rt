@@ -23,10 +23,8 @@ pub fn word(text: &mut [u8; ROOM], at: usize, word: &[u8]) -> usize
     ensures { gathered result text.new ≡ written (gathered at text.old) word.now }
 {
     let mut to = at;
-    let mut i: usize = 0;
-    while i < word.len() {
-        to = put(text, to, word[i]);
-        i += 1;
+    for byte in word {
+        to = put(text, to, *byte);
     }
     to
 }
@@ -70,10 +68,8 @@ pub fn hex(text: &mut [u8; ROOM], at: usize, bytes: &[u8]) -> usize
     ensures { gathered result text.new ≡ written (gathered at text.old) (hex_of bytes.now) }
 {
     let mut to = at;
-    let mut i: usize = 0;
-    while i < bytes.len() {
-        to = hex_byte(text, to, bytes[i]);
-        i += 1;
+    for byte in bytes {
+        to = hex_byte(text, to, *byte);
     }
     to
 }
@@ -107,8 +103,5 @@ pub fn flush(
 {
     let said = say_if_full(rt, at);
     let (to, written) = write_front(rt, text, at);
-    match said {
-        Ok(()) => (to, written),
-        Err(error) => (to, Err(error)),
-    }
+    (to, said.and(written))
 }
