@@ -144,10 +144,14 @@ pub fn take(
     if read.ended {
         return Ok(now);
     }
-    let line = line::parse(bytes);
+    let counted = prepare::counted(read);
     let state = now.state;
+    let Some(line) = line::parse(bytes) else {
+        let progress = say::flushed(rt, prepare::bad(counted, text), text)?;
+        return Ok(Run { progress, state });
+    };
     let config = state.config;
-    let prepared = prepare::prepare(prepare::counted(read), line, otp, table, fields, text);
+    let prepared = prepare::prepare(counted, line, otp, table, fields, text);
     let progress = say::flushed(rt, prepared, text)?;
     let geometry = panel(line, config.panel, fields);
     sized(

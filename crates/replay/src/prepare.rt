@@ -9,7 +9,8 @@ pub fn counted(progress: Progress) -> Progress {
     next
 }
 
-fn bad(progress: Progress, text: &mut [u8; text::ROOM]) -> Progress {
+// None of the lines that there are: the run ends.
+pub fn bad(progress: Progress, text: &mut [u8; text::ROOM]) -> Progress {
     let mut next = say::line(progress, text, b"bad line", progress.lines);
     next.ended = true;
     next
@@ -115,6 +116,5 @@ pub fn prepare(
         Line::State(_, _) => progress,
         Line::Picture => progress,
         Line::Counts => progress,
-        Line::Bad => bad(progress, text),
     }
 }
