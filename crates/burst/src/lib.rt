@@ -58,7 +58,7 @@ pub struct Burst {
 fn take(plane: &mut [u8], course: Course, reached: Reached, kind: u8, time: u64, byte: u8) -> Taken
     ensures { byte_step result.done result.reached plane.new ≡ taking course kind time byte reached plane.old }
 {
-    let latest = numbers::max_u64(reached.latest, time);
+    let latest = reached.latest.max(time);
     let busy_until = course.busy_until;
     let quiet = moment::is_quiet(course.running, course.ends, busy_until, latest);
     if (kind == DATA) & quiet {
@@ -67,7 +67,7 @@ fn take(plane: &mut [u8], course: Course, reached: Reached, kind: u8, time: u64,
             let window = course.window;
             let entry = course.entry;
             let counter = at.advanced(window, entry);
-            let received = numbers::saturating_add_u16(reached.received, 1);
+            let received = reached.received.saturating_add(1);
             return Taken {
                 done: true,
                 reached: Reached {

@@ -51,7 +51,7 @@ fn earlier_of(one: Option<u64>, other: Option<u64>) -> Option<u64>
         None => other,
         Some(a) => match other {
             None => Some(a),
-            Some(b) => Some(numbers::min_u64(a, b)),
+            Some(b) => Some(a.min(b)),
         },
     }
 }

@@ -59,7 +59,7 @@ fn end_display(
 pub fn move_clock(state: Ssd1677, time: u64) -> Ssd1677
     ensures { result ≡ with_now state (max state.«now» time) }
 {
-    let latest = numbers::max_u64(state.now, time);
+    let latest = state.now.max(time);
     part::set_now(state, latest)
 }
 

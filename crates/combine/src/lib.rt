@@ -161,9 +161,7 @@ pub fn transfer(
     ensures alike { Alike result (transfer_of (waveform_of setting.now frame_period.now) drive swing positive_drives_black until) }
 {
     match until {
-        None => {
-            transfer_whole(setting, frame_period, drive, swing, positive_drives_black)
-        }
+        None => { transfer_whole(setting, frame_period, drive, swing, positive_drives_black) }
         Some(cut) => {
             let decoded = setting::from_setting(setting, frame_period);
             walk::transfer_cut(decoded, drive, swing, positive_drives_black, cut)

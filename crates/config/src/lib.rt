@@ -7,7 +7,6 @@ ghost use Rattle.config.specs.Temperature.{coldest, warmest, sixteenths_of, regi
 ghost use Rattle.config.specs.Answer.{first_of, answer_of};
 ghost use Rattle.config.specs.Tests.{geometry_tests, swing_test, periods_test, frequency_test, config_tests};
 ghost use Rattle.config.specs.Defaults.{default_gate_scan, default_timing};
-ghost use Rattle.config.specs.Mode.{mode_number};
 
 use glass::{Optics, Provenance};
 
@@ -31,10 +30,10 @@ pub struct GateScan {
     pub gd: bool,
 }
 
-impl GateScan {
-    pub fn default() -> GateScan
-        ensures { result ≡ default_gate_scan }
-    {
+impl Default for GateScan {
+    ghost is_default = { λ scan. scan ≡ default_gate_scan };
+
+    fn default() -> GateScan {
         GateScan {
             sm: false,
             gd: false,
@@ -87,10 +86,10 @@ pub struct Ssd1677Timing {
     pub frame_period: [u64; 16],
 }
 
-impl Ssd1677Timing {
-    pub fn default() -> Ssd1677Timing
-        ensures { result ≡ default_timing }
-    {
+impl Default for Ssd1677Timing {
+    ghost is_default = { λ timing. timing ≡ default_timing };
+
+    fn default() -> Ssd1677Timing {
         Ssd1677Timing {
             provenance: Provenance::Approximation,
             clock_on: 0,
@@ -169,23 +168,13 @@ impl Temperature {
     }
 }
 
-// The two display modes of 0x22 bit 3 and of the waveform settings in OTP (0x37).
+// The two display modes of 0x22 bit 3 and of the waveform settings in OTP (0x37). As numbers, in a table and in the log, 0 and 1.
 #[derive(Clone, Copy)]
 pub enum DisplayMode {
     // Mode 1: the full waveforms on the X4 (0xF7, 0xD7).
     One,
     // Mode 2: the fast, differential waveform on the X4 (0xFC) and the custom-LUT one (0xCC).
     Two,
-}
-
-// The number of a display mode, in a table and in the log: 0 One, 1 Two (SCOPE, OTP table).
-pub fn mode_number(mode: DisplayMode) -> u8
-    ensures { result ≡ mode_number mode }
-{
-    match mode {
-        DisplayMode::One => 0,
-        DisplayMode::Two => 1,
-    }
 }
 
 // Everything an SSD1677 model is built from but the table of waveforms.

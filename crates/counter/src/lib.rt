@@ -6,7 +6,7 @@
 
 ghost use Rattle.std.specs.Prelude.{◌≡◌};
 ghost use Rattle.numbers.specs.Choice.{bit_of};
-ghost use Rattle.counter.specs.Counter.{reset_window, reset_entry, between, within_of, advanced_of};
+ghost use Rattle.counter.specs.Counter.{between, within_of, advanced_of};
 ghost use Rattle.counter.specs.Registers.{ten_bits};
 
 use config::{RAM_GATES, RAM_SOURCES};
@@ -30,13 +30,6 @@ impl Window {
         y_start: 0,
         y_end: RAM_GATES - 1,
     };
-
-    // `RESET`, since a constant has no contract to say what it is.
-    pub fn reset() -> Window
-        ensures { result ≡ reset_window }
-    {
-        Window::RESET
-    }
 }
 
 // The data-entry mode of 0x11: ID0 X increments, ID1 Y increments, AM the counter moves in Y.
@@ -46,13 +39,6 @@ pub struct Entry(pub u8);
 impl Entry {
     // The reset value 03h: X and Y increment, the counter moves in X.
     pub const RESET: Entry = Entry(0x03);
-
-    // `RESET`, since a constant has no contract to say what it is.
-    pub fn reset() -> Entry
-        ensures { result ≡ reset_entry }
-    {
-        Entry::RESET
-    }
 
     fn x_increments(self) -> bool
         ensures { result ≡ bit_of self.0 0 }

@@ -39,7 +39,7 @@ pub fn duration_ns(waveform: Waveform) -> u64
 {
     let mut total: u64 = 0;
     for group in waveform.groups {
-        total = numbers::saturating_add_u64(total, group_ns(group));
+        total = total.saturating_add(group_ns(group));
     }
     total
 }

@@ -27,7 +27,7 @@ fn publish(panel: Panel, display: Display, at: u64, until: Option<u64>) -> Panel
 {
     let old = panel.image;
     let border = glass::gray(panel.border, panel.swing);
-    let generation = numbers::saturating_add_u64(old.generation, 1);
+    let generation = old.generation.saturating_add(1);
     let interrupted = is_cut(until);
     let kind = display.kind;
     let image = PanelImage {

@@ -11,14 +11,14 @@ use device::{Bus, part};
 pub fn after(frequency: u32, moment: u64, ns: u64) -> u64
     ensures { result ≡ after_ns frequency moment ns }
 {
-    numbers::saturating_add_u64(moment, frequency::nanos_to_cycles(frequency, ns))
+    moment.saturating_add(frequency::nanos_to_cycles(frequency, ns))
 }
 
 // Nanoseconds from one moment to another, 0 when that is earlier.
 pub fn ns_between(frequency: u32, from: u64, to: u64) -> u64
     ensures { result ≡ ns_between frequency from to }
 {
-    frequency::cycles_to_nanos(frequency, numbers::saturating_sub_u64(to, from))
+    frequency::cycles_to_nanos(frequency, to.saturating_sub(from))
 }
 
 // Whether the end of BUSY has come; there may be none.

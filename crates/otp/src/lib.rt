@@ -95,7 +95,7 @@ fn covers_register(otp: &[u8], mode: DisplayMode, register: u16, entry: usize) -
     ensures { result ≡ covers otp.now mode register entry }
 {
     let at = ENTRY_BYTES * entry;
-    let byte = config::mode_number(mode);
+    let byte = mode as u8;
     let reached = reaches_down(pair(otp, at + 2), register);
     let upper = sixteenths_of(pair(otp, at + 4));
     let temperature = sixteenths_of(register);

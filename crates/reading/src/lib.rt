@@ -22,7 +22,7 @@ pub struct Reading {
 fn count(active: Active, range: bool, nothing: bool) -> Active
     ensures { result ≡ one_read_more active range nothing }
 {
-    let read = numbers::saturating_add_u16(active.read, 1);
+    let read = active.read.saturating_add(1);
     let mut next = active;
     next.read = read;
     next.range_reported = range;

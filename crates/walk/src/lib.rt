@@ -130,9 +130,9 @@ fn cut_phase(driving: Driving, until: u64, lasting: Lasting, progress: Progress)
     }
     let elapsed = progress.elapsed;
     let transfer = progress.transfer;
-    let end = numbers::saturating_add_u64(elapsed, lasting.length);
+    let end = elapsed.saturating_add(lasting.length);
     if until < end {
-        let left = numbers::saturating_sub_u64(until, elapsed);
+        let left = until.saturating_sub(elapsed);
         return cut_short(driving, phase, left, end, transfer);
     }
     let moved = whole_step(driving, step, transfer);
@@ -189,7 +189,7 @@ fn cut_group(driving: Driving, until: u64, group: Group, progress: Progress) -> 
     if progress.stopped {
         return progress;
     }
-    let end = numbers::saturating_add_u64(progress.elapsed, duration::group_ns(group));
+    let end = progress.elapsed.saturating_add(duration::group_ns(group));
     if end <= until {
         if end < u64::MAX {
             let transfer = progress.transfer;

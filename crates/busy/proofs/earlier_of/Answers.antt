@@ -9,4 +9,4 @@ pub returns-in-None-other : goal.returns-in-None-other
 returns-in-None-other c = the_one _ _ _ c.in-Some.is c.in-None-other.is
 
 pub returns-in-Some-other : goal.returns-in-Some-other
-returns-in-Some-other c = of_two _ _ _ _ _ c.in-Some.is c.in-Some-other.is c.min_u64.ensures
+returns-in-Some-other c = of_two _ _ _ _ _ c.in-Some.is c.in-Some-other.is c.min.ensures

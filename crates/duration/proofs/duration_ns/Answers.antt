@@ -21,7 +21,7 @@ unfolding groups_ns
 loop-group-preserved c =
     let gs = c.args.waveform.groups in
     let k = c.loop-group.group-index in
-    c.saturating_add_u64-total.ensures
+    c.saturating_add-total.ensures
     ∙ (λ i. min (c.loop-group.invariant i + c.group_ns.ensures i) (largest 64))
     ∙ cap_sum (groups_ns gs k) (group_ns (get_or gs k no_group)) (largest 64)
     ∙ ap (λ (n : ℕ). min (groups_ns gs n) (largest 64)) (sym (add-one k))

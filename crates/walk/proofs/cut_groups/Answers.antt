@@ -27,10 +27,10 @@ loop-group-preserved c =
     let step = cut_step s.driving s.until in
     let g = get_or s.waveform.groups m.loop-group.group-index no_group in
     fold_more step s.progress (λ j. group_in s.driving (get_or s.waveform.groups j no_group)) m.loop-group.group-index m.loop-group.invariant
-          (elim c.if-not-idle.branch [
-            | then-not-idle w ↦ w.moved-is ∙ w.cut_group-moved.ensures
-            | else-not-idle w ↦ w.moved-is ∙ idle_walk step s.driving g m.loop-group.moved c.idle.ensures (ap not w.if-not-idle.false)
-          ])
+    (elim c.if-not-idle.branch [
+      | then-not-idle w ↦ w.moved-is ∙ w.cut_group-moved.ensures
+      | else-not-idle w ↦ w.moved-is ∙ idle_walk step s.driving g m.loop-group.moved c.idle.ensures (ap not w.if-not-idle.false)
+    ])
 
 pub returns : goal.returns
 returns c =

@@ -37,7 +37,7 @@ loop-preserved c =
     let first = second in
     let a = first.args in
     fold_more (whole_step a.driving) a.transfer (λ j. phases_in first.step_of-first.result.phase second.step_of-second.result.phase third.step_of-third.result.phase fourth.step_of-fourth.result.phase) m.loop.counter m.loop.invariant
-          (c.whole_pass-moved.ensures ∙ pass_is a.driving a.group first.step_of-first.ensures second.step_of-second.ensures third.step_of-third.ensures fourth.step_of-fourth.ensures m.loop.moved)
+    (c.whole_pass-moved.ensures ∙ pass_is a.driving a.group first.step_of-first.ensures second.step_of-second.ensures third.step_of-third.ensures fourth.step_of-fourth.ensures m.loop.moved)
 
 pub returns : goal.returns
 returns c =
