@@ -5,7 +5,6 @@
 ghost use Rattle.std.specs.Prelude.{◌≡◌, ◌+◌, ◌*◌, ◌≤◌, ◌<◌, length};
 ghost use Rattle.numbers.specs.Lists.{tab};
 ghost use Rattle.ram.specs.Plane.{bit_at};
-ghost use Rattle.ram.specs.declared.Pixel.TheVariants as pixel;
 ghost use Rattle.gates.specs.Gates.{row_or};
 ghost use Rattle.scan.specs.Luts.{option_of, applied, lut_of_bits, lut_in_row, source_of, lut_of};
 
@@ -68,7 +67,7 @@ fn bit_in_row(plane: &[u8], row: u16, source: usize) -> bool
     requires whole { length plane.now ≡ 81600 }
     requires in_ram { row < 680 }
     requires driven { source < 960 }
-    ensures { pixel.Is result ≡ bit_at plane.now source row }
+    ensures { Some result ≡ bit_at plane.now source row }
 {
     let byte = plane[row as usize * ram::ROW_BYTES + source / 8];
     (byte >> (7 - source % 8)) & 1 == 1

@@ -7,4 +7,4 @@ use Rattle.guard_state.proofs.panel_is_fine.Goals as goal
 
 pub returns : goal.returns
 unfolding panel_fine
-returns c = c.is_ok.ensures ∙ ok_accepted _ c.check_geometry.result ∙ ap is_accepted c.check_geometry.ensures
+returns c = c.is_ok.ensures.value ∙ ok_accepted _ c.check_geometry.result ∙ ap is_accepted c.check_geometry.ensures
