@@ -1,12 +1,14 @@
 -- What can be asked of a state, and what a host changes in it beside the events (mod.rs, `is_busy` to `dropped_diagnostics`). A state
 -- that 13 refuses is told nothing: no level, no deadline, a count of 0; its parts are handed back as given.
-use Rattle.std.specs.Prelude.{ℕ, Bool, false, Option, None}
+use Rattle.std.specs.Prelude.{ℕ, Bool, false, Option, None, Result, Ok, Err}
 use Rattle.glass.specs.declared.PanelImage.{PanelImage}
 use Rattle.config.specs.declared.Ssd1677Config.{Ssd1677Config}
 use Rattle.diagnostic.specs.declared.Journal.{Journal}
 use Rattle.device.specs.declared.Ssd1677.{Ssd1677}
 use Rattle.device.specs.Parts.{with_config, with_journal}
 use Rattle.busy.specs.Busy.{busy_at, pin_at, deadline_of}
+use Rattle.guard.specs.declared.Refused.{Refused}
+use Rattle.query.specs.declared.Taken.{Taken}
 use Rattle.query.specs.Outcome.{Outcome, unless, state_guarded}
 
 -- is_busy, at the time as given
@@ -60,6 +62,11 @@ pub record WithCount : Type 0 where
 -- the two as one
 abbrev pub with_count : Ssd1677 → ℕ → WithCount
 with_count d n = record { device = d; count = n }
+
+-- what a call that takes records answers: a refused one takes none
+abbrev pub taken_in : Result Taken Refused → Taken
+taken_in (Ok taken) = taken
+taken_in (Err refused) = record { state = refused.state; count = 0 }
 
 -- no record waits any more; the dropped count and the log's bytes stay
 abbrev pub journal_emptied : Journal → Journal
