@@ -13,4 +13,5 @@ textIn w number = group_text w.levels (get_or w.groups number no_group) number
 
 abbrev pub invariant-loop-number : goal.invariant-loop-number
 invariant-loop-number l =
-    (buffer l.at l.out ≡ appended (buffer 0 l.initial.out) (joined l.number (textIn l.waveform))) × (l.at ≤ 208 * l.number) × (length l.out ≡ length l.initial.out)
+    (buffer l.at l.out ≡ appended (buffer 0 l.initial.out) (joined l.number (textIn l.waveform))) × (l.at ≤ 208 * l.number)
+    × (length l.out ≡ length l.initial.out)

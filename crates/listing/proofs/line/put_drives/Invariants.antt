@@ -8,4 +8,5 @@ use Rattle.listing.proofs.line.put_drives.Given as goal
 
 abbrev pub invariant-loop-lut : goal.invariant-loop-lut
 invariant-loop-lut l =
-    (buffer l.next l.out ≡ appended (buffer l.at l.initial.out) (joined l.lut (λ k. whole 7 (drive_of l.levels l.group l.phase k)))) × (l.next ≡ l.at + 7 * l.lut) × (length l.out ≡ length l.initial.out)
+    (buffer l.next l.out ≡ appended (buffer l.at l.initial.out) (joined l.lut (λ k. whole 7 (drive_of l.levels l.group l.phase k))))
+    × (l.next ≡ l.at + 7 * l.lut) × (length l.out ≡ length l.initial.out)

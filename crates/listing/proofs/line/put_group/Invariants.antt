@@ -8,4 +8,5 @@ use Rattle.listing.proofs.line.put_group.Given as goal
 
 abbrev pub invariant-loop-phase : goal.invariant-loop-phase
 invariant-loop-phase l =
-    (buffer l.next l.out ≡ appended (buffer l.at l.initial.out) (joined l.phase (phase_text l.levels l.group l.number))) × (l.next ≤ l.at + 52 * l.phase) × (length l.out ≡ length l.initial.out)
+    (buffer l.next l.out ≡ appended (buffer l.at l.initial.out) (joined l.phase (phase_text l.levels l.group l.number)))
+    × (l.next ≤ l.at + 52 * l.phase) × (length l.out ≡ length l.initial.out)
