@@ -7,14 +7,6 @@ use voltage_shift::DrivingVoltage;
 // Bytes of the longest argument, a number of 64 bits. A longer one is read as an empty one, which is none that is asked for.
 const LONGEST: usize = 20;
 
-// The frame period of each frame-rate code.
-#[derive(Clone, Copy)]
-pub struct GivenPeriods {
-    pub frame_period: [u64; 16],
-    // The first argument that is no number; 0 where each is one.
-    pub bad: usize,
-}
-
 fn is_given(rt: &impl Env, place: usize) -> bool {
     let mut byte = [0u8; 1];
     !matches!(rt.arg(place, &mut byte), Err(FillError::NotPresent))
@@ -68,44 +60,24 @@ pub fn default_periods() -> [u64; 16] {
 }
 
 // One for all codes.
-fn same_period(rt: &impl Env) -> GivenPeriods {
-    let Some(period) = number(rt, 5) else {
-        return GivenPeriods {
-            frame_period: [0; 16],
-            bad: 5,
-        };
-    };
-    GivenPeriods {
-        frame_period: [period; 16],
-        bad: 0,
-    }
+fn same_period(rt: &impl Env) -> Result<[u64; 16], usize> {
+    let period = number(rt, 5).ok_or(5usize)?;
+    Ok([period; 16])
 }
 
 // One for each code.
-fn own_periods(rt: &impl Env) -> GivenPeriods {
+fn own_periods(rt: &impl Env) -> Result<[u64; 16], usize> {
     let mut frame_period = [0u64; 16];
     for code in 0..16 {
-        let Some(period) = number(rt, 5 + code) else {
-            return GivenPeriods {
-                frame_period,
-                bad: 5 + code,
-            };
-        };
-        frame_period[code] = period;
+        frame_period[code] = number(rt, 5 + code).ok_or(5 + code)?;
     }
-    GivenPeriods {
-        frame_period,
-        bad: 0,
-    }
+    Ok(frame_period)
 }
 
-pub fn periods(rt: &impl Env, given: usize) -> GivenPeriods {
+// The frame period of each frame-rate code, or the first argument that is no number.
+pub fn periods(rt: &impl Env, given: usize) -> Result<[u64; 16], usize> {
     if given < 5 {
-        let frame_period = default_periods();
-        return GivenPeriods {
-            frame_period,
-            bad: 0,
-        };
+        return Ok(default_periods());
     }
     if given == 5 {
         return same_period(rt);

@@ -5,7 +5,6 @@
 mod arguments;
 mod say;
 
-use arguments::GivenPeriods;
 use full_read::read_full;
 use glass::Optics;
 use std::io;
@@ -67,23 +66,6 @@ fn report(
     }
 }
 
-fn with_periods(
-    rt: &(impl Input + Print + Eprint),
-    periods: GivenPeriods,
-    swing: u64,
-    driving: DrivingVoltage,
-    before: u8,
-    after: u8,
-) -> io::Result<()> {
-    if periods.bad != 0 {
-        return say::decimal(rt, periods.bad);
-    }
-    let frame_period = periods.frame_period;
-    let mut optics = Optics::default();
-    optics.full_swing = swing;
-    report(rt, optics, frame_period, driving, before, after)
-}
-
 fn main(rt: HostRuntime) -> io::Result<()> {
     let given = arguments::given(&rt);
     if !arguments::is_asked(given) {
@@ -101,6 +83,11 @@ fn main(rt: HostRuntime) -> io::Result<()> {
     let Some(swing) = arguments::swing(&rt, given) else {
         return say::decimal(&rt, 4);
     };
-    let periods = arguments::periods(&rt, given);
-    with_periods(&rt, periods, swing, driving, before, after)
+    let frame_period = match arguments::periods(&rt, given) {
+        Ok(frame_period) => frame_period,
+        Err(place) => return say::decimal(&rt, place),
+    };
+    let mut optics = Optics::default();
+    optics.full_swing = swing;
+    report(&rt, optics, frame_period, driving, before, after)
 }

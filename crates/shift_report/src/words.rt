@@ -8,17 +8,7 @@ use voltage_shift::DrivingVoltage;
 fn is_word(given: &[u8], word: &[u8]) -> bool
     ensures { result ≡ same given.now word.now }
 {
-    if given.len() != word.len() {
-        return false;
-    }
-    let mut i: usize = 0;
-    while i < given.len() {
-        if given[i] != word[i] {
-            return false;
-        }
-        i += 1;
-    }
-    true
+    given == word
 }
 
 // `vsh1`, `vsh2` or `vsl`.
