@@ -1,9 +1,11 @@
 -- A byte that the MCU reads (mod.rs, `read_data`): refused, or done in the order of the Rust.
-use Rattle.std.specs.Prelude.{ℕ, List, length, Option, None}
+use Rattle.std.specs.Prelude.{ℕ, List, length, Option, None, Result, Ok, Err}
 use Rattle.world.specs.World.{WithGlassLog, on, log_in_glass_log, glass_in_glass_log}
 use Rattle.clock.specs.Advance.{advanced}
+use Rattle.reading.specs.declared.Reading.{Reading}
 use Rattle.reading.specs.Reading.{read_taken}
 use Rattle.guard_lengths.specs.Lengths.{planes_log_lent}
+use Rattle.guard.specs.declared.Refused.{Refused}
 use Rattle.guard.specs.Refusals.{guarded}
 use Rattle.query.specs.Outcome.{Outcome, unless}
 
@@ -15,6 +17,11 @@ pub record WithRead : Type 0 where
 -- the two as one
 abbrev pub with_read : WithGlassLog → Option ℕ → WithRead
 with_read w b = record { left = w; byte = b }
+
+-- the state that a read leaves and its byte: of a refused one the state as it was given, and none
+abbrev pub reading_in : Result Reading Refused → Reading
+reading_in (Ok reading) = reading
+reading_in (Err refused) = record { state = refused.state; byte = None }
 
 -- the clock moves, then the current command gives its byte
 unfoldable pub read_in : List ℕ → List ℕ → List ℕ → ℕ → WithGlassLog → WithRead

@@ -1,5 +1,5 @@
 -- What a call other than start refuses of what it is handed, by SCOPE, Refusals: 13, 11, 15, 12.
-use Rattle.std.specs.Prelude.{ℕ, Bool, true, false, not, List, Result, Ok, Err}
+use Rattle.std.specs.Prelude.{ℕ, not, List, Result, Ok, Err}
 use Rattle.numbers.specs.Choice.{pick}
 use Rattle.otp.specs.Table.{bad_table}
 use Rattle.device.specs.declared.Ssd1677.{Ssd1677}
@@ -20,11 +20,6 @@ number_of Counts = 15
 abbrev pub refusal_number : {A : Type 0} → Result A Refusal → ℕ
 refusal_number (Ok value) = 0
 refusal_number (Err refusal) = number_of refusal
-
--- the call is not refused
-abbrev pub accepts : {A : Type 0} → Result A Refusal → Bool
-accepts (Ok value) = true
-accepts (Err refusal) = false
 
 -- 13, then 11, then 15
 unfoldable pub guarded : Ssd1677 → Lengths → Result Unit Refusal

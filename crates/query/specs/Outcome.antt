@@ -1,12 +1,12 @@
 -- What a call that may be refused answers and leaves (SCOPE, Refusals).
-use Rattle.std.specs.Prelude.{ℕ, not, Result, Ok, Err}
+use Rattle.std.specs.Prelude.{ℕ, not, Result, Ok, Err, is_ok}
 use Rattle.numbers.specs.Choice.{pick}
 use Rattle.device.specs.declared.Ssd1677.{Ssd1677}
 use Rattle.guard.specs.declared.Refusal.{Refusal}
 use Rattle.guard.specs.declared.Refusal.TheVariants.{State}
 use Rattle.guard.specs.declared.Refused.{Refused}
 use Rattle.guard_state.specs.State.{state_fine}
-use Rattle.guard.specs.Refusals.{number_of, refusal_number, accepts}
+use Rattle.guard.specs.Refusals.{number_of, refusal_number}
 
 -- the refusal's number, 0 for a call that is accepted, and all that the call answers and leaves beside it
 pub record Outcome (A : Type 0) : Type 0 where
@@ -19,7 +19,7 @@ outcome number held = record { number = number; held = held }
 
 -- what an accepted call does, and of a refused one all as it was given
 abbrev pub unless : {A : Type 0} → Result Unit Refusal → A → A → Outcome A
-unless answer given done = outcome (refusal_number answer) (pick (accepts answer) done given)
+unless answer given done = outcome (refusal_number answer) (pick (is_ok answer) done given)
 
 -- whether a call was refused, of one that hands back its state
 abbrev pub answer_in : {A : Type 0} → Result A Refused → Result Unit Refusal
