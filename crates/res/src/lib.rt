@@ -35,9 +35,7 @@ pub fn set_reset(
     match guard::check(state, lengths) {
         Ok(()) => {
             let present = clock::advance(state, states, luts, pixels, counts, time);
-            Ok(reset::set_line(
-                present, states, luts, pixels, counts, log, asserted,
-            ))
+            Ok(reset::set_line(present, states, luts, pixels, counts, log, asserted))
         }
         Err(refusal) => Err(Refused { refusal, state }),
     }
