@@ -42,12 +42,10 @@ fn find_code(supply: Supply, millivolts: i64) -> usize
     if millivolts == 0 {
         return 0;
     }
-    let mut code: usize = 0;
-    while code < NO_CODE {
+    for code in 0..NO_CODE {
         if stands_for(supply, code, millivolts) {
             return code;
         }
-        code += 1;
     }
     NO_CODE
 }

@@ -30,10 +30,7 @@ returns-then-millivolts-eq0 c =
     rw (same_is s.args.millivolts (pos 0) (same_bits s.ranges.millivolts zero_fits c.if-millivolts-eq0.true))
 
 pub loop-code-init : goal.loop-code-init
-loop-code-init c = (omega arith, below_none _)
-
-pub stands_for-requires : goal.stands_for-requires
-stands_for-requires c = omega arith
+loop-code-init c = below_none _
 
 pub returns-then-stands_for : goal.returns-then-stands_for
 returns-then-stands_for c =
@@ -42,17 +39,11 @@ returns-then-stands_for c =
     let z = s.args.millivolts in
     searched s.args.supply z m.loop-code.code m.if-millivolts-eq0.false
     (lowest_at (stands_for s.args.supply z) 256 m.loop-code.code (omega arith)
-    (rw (back s.ranges.millivolts) at m.loop-code.invariant.1)
+    (rw (back s.ranges.millivolts) at m.loop-code.invariant)
     (rw (back s.ranges.millivolts) at (sym c.stands_for.ensures ∙ c.if-stands_for.true)))
 
-pub overflow_add-code : goal.overflow_add-code
-overflow_add-code c = omega arith
-
-pub loop-code-smaller : goal.loop-code-smaller
-loop-code-smaller c = omega arith
-
 pub loop-code-preserved : goal.loop-code-preserved
-loop-code-preserved c = (omega arith, below_more _ _ c.loop-code.invariant.1 (sym c.stands_for.ensures ∙ c.if-stands_for.false))
+loop-code-preserved c = below_more _ _ c.loop-code.invariant (sym c.stands_for.ensures ∙ c.if-stands_for.false)
 
 pub returns : goal.returns
 returns c =
@@ -61,4 +52,4 @@ returns c =
     let z = s.args.millivolts in
     let n : m.loop-code.code ≡ 256 = omega arith in
     searched s.args.supply z 256 m.if-millivolts-eq0.false
-    (lowest_none (stands_for s.args.supply z) 256 (rw (back s.ranges.millivolts, n) at m.loop-code.invariant.1))
+    (lowest_none (stands_for s.args.supply z) 256 (rw (back s.ranges.millivolts, n) at m.loop-code.invariant))
