@@ -52,16 +52,11 @@ pub fn index(at: Counter) -> Option<usize>
 pub fn read(plane: &[u8], at: Counter) -> Option<u8>
     ensures { result ≡ read_at plane.now at }
 {
-    match index(at) {
-        Some(i) => {
-            if i < plane.len() {
-                Some(plane[i])
-            } else {
-                None
-            }
-        }
-        None => None,
+    let i = index(at)?;
+    if i < plane.len() {
+        return Some(plane[i]);
     }
+    None
 }
 
 // Writes `byte` at the counter; `false`, and the plane as it was, where a read finds nothing.
@@ -84,10 +79,8 @@ pub fn write(plane: &mut [u8], at: Counter, byte: u8) -> bool
 pub fn bit(plane: &[u8], x: u16, row: u16) -> Option<bool>
     ensures { result ≡ bit_at plane.now x row }
 {
-    match read(plane, Counter { x: x, y: row }) {
-        Some(byte) => Some((byte >> (7 - x % 8)) & 1 == 1),
-        None => None,
-    }
+    let byte = read(plane, Counter { x: x, y: row })?;
+    Some((byte >> (7 - x % 8)) & 1 == 1)
 }
 
 // Every byte of the plane, however long, becomes `byte`.

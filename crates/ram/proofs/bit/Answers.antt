@@ -5,10 +5,10 @@ use Rattle.numbers.specs.Choice.{bit_of}
 use Rattle.ram.specs.Plane.{bit_at}
 use Rattle.ram.proofs.bit.Goals as goal
 
-pub returns-in-Some : goal.returns-in-Some
+pub returns : goal.returns
 unfolding bit_at bit_of
-returns-in-Some c = rw (← (sym c.in-Some.is ∙ c.read.ensures), and_mask _ 1)
+returns c = rw (← (sym c.in_ok-byte.was ∙ c.read.ensures), and_mask _ 1)
 
-pub returns-in-None : goal.returns-in-None
+pub returns-in_err-byte : goal.returns-in_err-byte
 unfolding bit_at
-returns-in-None c = rw (← (sym c.in-None.is ∙ c.read.ensures))
+returns-in_err-byte c = rw (c.from_residual.ensures, ← (sym c.in_err-byte.was ∙ c.read.ensures))
