@@ -10,7 +10,6 @@ ghost use Rattle.numbers.specs.Lists.{tab};
 ghost use Rattle.voltage.specs.Codes.{vcom_voltage};
 ghost use Rattle.waveform.specs.Voltages.{or_zero};
 ghost use Rattle.waveform.specs.Setting.{group_codes_of, waveform_of};
-ghost use Rattle.drive_sheet.specs.Supplies.{Coded};
 ghost use Rattle.drive_sheet.specs.Bytes.{setting_of, sheet_byte, last_byte, sheet_of};
 ghost use Rattle.drive_sheet.specs.Tests.{Prepared, sheet_refusal, told_of, number_in, reply, written_of};
 
@@ -40,13 +39,13 @@ pub enum Supply {
     Vcom,
 }
 
-// The codes of a sheet's voltages, 256 for one that has none.
+// The codes of a sheet's voltages, as far as they have one.
 #[derive(Clone, Copy)]
 pub struct SupplyCodes {
-    pub vsh1: usize,
-    pub vsh2: usize,
-    pub vsl: usize,
-    pub vcom: usize,
+    pub vsh1: Option<u8>,
+    pub vsh2: Option<u8>,
+    pub vsl: Option<u8>,
+    pub vcom: Option<u8>,
 }
 
 // Why a sheet is not written.
@@ -74,17 +73,16 @@ pub fn number(error: SheetError) -> u8
     }
 }
 
-// Bytes 105 to 111.
+// Bytes 105 to 111, of voltages that have a code.
 fn last_byte(gate: u8, codes: SupplyCodes, place: usize) -> u8
-    requires { Coded codes }
     ensures { result ≡ last_byte gate codes place }
 {
     match place {
         0 => gate,
-        1 => codes.vsh1 as u8,
-        2 => codes.vsh2 as u8,
-        3 => codes.vsl as u8,
-        4 => codes.vcom as u8,
+        1 => codes.vsh1.unwrap_or(0),
+        2 => codes.vsh2.unwrap_or(0),
+        3 => codes.vsl.unwrap_or(0),
+        4 => codes.vcom.unwrap_or(0),
         _ => 0,
     }
 }

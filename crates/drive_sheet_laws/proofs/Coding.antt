@@ -8,7 +8,7 @@ use Prim.Native.Nat.{ℕ, ◌-◌, ◌%◌, ◌<◌}
 use native.Mathlib.Omega.{arith}
 use lib.Dec.{leb, eqb, ltb}
 use lib.IntN.{ℤ, pos, neg_ℤ, nat_abs, neg_ℤ-neg_ℤ}
-use borrow.Author.Tests.{leb-true, eqb-true, ltb-true, ltb-false}
+use borrow.Author.Tests.{leb-true, eqb-true, ltb-true, ltb-false, lt-ltb}
 use Rattle.numbers.specs.Choice.{pick}
 use Rattle.numbers.proofs.Cases.{left, right}
 use Rattle.voltage.specs.Codes.{Line, has, at, voltage, below, source_high, source_low, vsl_line, vcom_zero, vcom_line}
@@ -18,7 +18,7 @@ use Rattle.config.specs.Lowest.{lowest}
 use Rattle.config.proofs.Lowest.{Passed, lowest_none}
 use Rattle.drive_sheet.specs.declared.Supply.{Supply}
 use Rattle.drive_sheet.specs.declared.Supply.TheVariants.{Vsh1, Vsh2, Vsl, Vcom}
-use Rattle.drive_sheet.specs.Supplies.{voltage_of, is_listed_as, absent_code, supply_code}
+use Rattle.drive_sheet.specs.Supplies.{voltage_of, is_listed_as, code_count, code_found, supply_code}
 use Rattle.drive_sheet.proofs.Equal.{same_is, same_not, same_self, same_true}
 use Rattle.drive_sheet.proofs.Found.{found, before}
 use Rattle.drive_sheet_laws.specs.Coding.{Coding}
@@ -106,22 +106,25 @@ unfolding is_listed_as
 listed_is (Some v) z e = ap Some (same_true v z e)
 listed_is None z e = absurd (false≢true e)
 
+a_code : (n : ℕ) → n < code_count → code_found n ≡ Some n
+a_code n h = ap (λ (b : Bool). pick b (Some n) None) (lt-ltb n code_count h)
+
 module _ (supply : Supply) (z : ℤ) where
   abbrev stood : ℕ → Bool
   stood code = is_listed_as (voltage_of supply code) z
 
-  searched : (z ≡ pos 0 → ⊥) → supply_code supply z ≡ lowest stood absent_code
+  searched : (z ≡ pos 0 → ⊥) → supply_code supply z ≡ code_found (lowest stood code_count)
   unfolding supply_code
   searched h = rw (same_not z (pos 0) h)
 
-  finds : (code : ℕ) → code < absent_code → stood code ≡ true → lowest stood absent_code < absent_code
-  finds code l e = by (ltb (lowest stood absent_code) absent_code) refl
+  finds : (code : ℕ) → code < code_count → stood code ≡ true → lowest stood code_count < code_count
+  finds code l e = by (ltb (lowest stood code_count) code_count) refl
     where
-      by : (b : Bool) → ltb (lowest stood absent_code) absent_code ≡ b → lowest stood absent_code < absent_code
-      by true r = ltb-true (lowest stood absent_code) absent_code r
-      by false r = absurd (false≢true (sym (before stood absent_code code (omega (arith, ltb-false (lowest stood absent_code) absent_code r))) ∙ e))
+      by : (b : Bool) → ltb (lowest stood code_count) code_count ≡ b → lowest stood code_count < code_count
+      by true r = ltb-true (lowest stood code_count) code_count r
+      by false r = absurd (false≢true (sym (before stood code_count code (omega (arith, ltb-false (lowest stood code_count) code_count r))) ∙ e))
 
-  none : ((code : ℕ) → code < absent_code → voltage_of supply code ≡ Some z → ⊥) → Passed stood absent_code
+  none : ((code : ℕ) → code < code_count → voltage_of supply code ≡ Some z → ⊥) → Passed stood code_count
   none h k l = by (stood k) refl
     where
       by : (b : Bool) → stood k ≡ b → b ≡ false
@@ -135,7 +138,8 @@ coding supply z =
       the_zero = λ e. rw (same_is z (pos 0) e);
       the_code = λ h code l e.
           searched supply z h
-          ∙ one_code supply (lowest (stood supply z) absent_code) code z
-          (listed_is (voltage_of supply (lowest (stood supply z) absent_code)) z (found (stood supply z) absent_code (finds supply z code l (listed_yes (voltage_of supply code) z e)))) e;
-      no_code = λ h n. searched supply z h ∙ lowest_none (stood supply z) absent_code (none supply z n);
+          ∙ a_code (lowest (stood supply z) code_count) (finds supply z code l (listed_yes (voltage_of supply code) z e))
+          ∙ ap Some (one_code supply (lowest (stood supply z) code_count) code z
+          (listed_is (voltage_of supply (lowest (stood supply z) code_count)) z (found (stood supply z) code_count (finds supply z code l (listed_yes (voltage_of supply code) z e)))) e);
+      no_code = λ h n. searched supply z h ∙ ap code_found (lowest_none (stood supply z) code_count (none supply z n));
     }
