@@ -1,7 +1,7 @@
 -- 12 stands after 13, 11 and 15: what a call lent no table answers decides, unless it is accepted. Assumes nothing.
 use Rattle.std.specs.Prelude.{Result, Ok, Err}
 use Prim.Native.Nat.{ℕ}
-use mathlib.Core.Path.{◌≡◌, refl}
+use mathlib.Core.Path.{◌≡◌}
 use mathlib.Core.Bool.{Bool, true, false, not}
 use mathlib.Core.List.{List}
 use Rattle.numbers.specs.Choice.{pick}

@@ -27,7 +27,7 @@ use Rattle.guard_lengths.specs.declared.Lengths.{Lengths}
 use Rattle.guard_lengths.specs.Lengths.{lengths_fit, counts_fit}
 use Rattle.power_on.specs.declared.StartError.{StartError}
 use Rattle.power_on.specs.declared.StartError.TheVariants.{Parameters, Buffer, Counts}
-use Rattle.power_on.specs.Start.{buffer_test, counts_test, all_tests, start_refused_by, start_answer_of, no_display, chip_with, powered_on, chip_in, Buffers, buffers, lengths_in, Clean, clean, cleared, filled, Powered, powered, powered_up, start, started}
+use Rattle.power_on.specs.Start.{buffer_test, counts_test, all_tests, start_refused_by, start_answer_of, no_display, chip_with, powered_on, chip_in, Buffers, buffers, lengths_in, Clean, clean, cleared, filled, powered, powered_up, start, started}
 
 -- ---- the tests
 module _ (p : PanelGeometry) (l : Lengths) (fit : Bool) (is : fit ≡ lengths_fit p l) where

@@ -1,5 +1,5 @@
 -- The voltage codes that the datasheet lists (commands 0x03, 0x04 and 0x2C, as waveform.rs cites them).
-use Rattle.std.specs.Prelude.{Bool, true, false, ◌&&◌, List, [], ◌∷◌, ℕ, ◌+◌, ◌-◌, ◌*◌, ◌/◌, ◌%◌, leb, eqb, ℤ, pos, neg_ℤ, Option, Some, None, is_some}
+use Rattle.std.specs.Prelude.{Bool, true, ◌&&◌, List, [], ◌∷◌, ℕ, ◌+◌, ◌-◌, ◌*◌, ◌/◌, ◌%◌, leb, eqb, ℤ, pos, neg_ℤ, Option, Some, None, is_some}
 use Rattle.numbers.specs.Choice.{pick}
 
 -- the code stands for a voltage

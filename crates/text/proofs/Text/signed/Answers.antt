@@ -1,11 +1,7 @@
 -- `text::Text::signed` meets its contract: the digits are those of the size, after the sign of a negative number.
 use mathlib.Core.Path.{◌≡◌, sym, ap, ◌∙◌}
-use mathlib.Core.List.{List}
-use Prim.Native.Nat.{ℕ}
-use lib.IntN.{ℤ, nat_abs}
-use lib.Signed.{lt_z}
 use Rattle.numbers.proofs.Lin.{rd, back}
-use Rattle.text.specs.Text.{put_of, written, decimal_of, signed_of}
+use Rattle.text.specs.Text.{written, decimal_of, signed_of}
 use Rattle.text.proofs.Laws.{minus_of, plus_of}
 use Rattle.text.proofs.Text.signed.Goals as goal
 use Rattle.text.proofs.Text.signed.Goals.{then-z-lt0, else-z-lt0}

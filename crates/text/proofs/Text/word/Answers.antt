@@ -1,9 +1,6 @@
 -- `text::Text::word` meets its contract: after i turns the first i bytes are written.
-use mathlib.Core.Path.{◌≡◌, refl, ap, ◌∙◌}
+use mathlib.Core.Path.{◌≡◌, refl, ◌∙◌}
 use native.Mathlib.Omega.{arith}
-use lib.ListN.{length, take}
-use lib.Seq.{take-length}
-use Prim.Native.Nat.{ℕ}
 use Rattle.text.specs.Text.{written}
 use Rattle.text.proofs.Laws.{word_step}
 use Rattle.text.proofs.Text.word.Goals as goal
