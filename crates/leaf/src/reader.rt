@@ -9,20 +9,24 @@ use std::io;
 // Bytes of a name at most.
 const NAME: usize = 32;
 
+// A number as far as it is read.
+#[derive(Clone, Copy)]
+struct Number {
+    value: u64,
+    minus: bool,
+}
+
 // A line as far as it is read.
 #[derive(Drop)]
 pub struct Reader {
     name: [u8; NAME],
     // Bytes of its name.
     letters: usize,
-    // A blank ended the name.
-    named: bool,
     numbers: [u64; NUMBERS],
     // Numbers that a blank ended.
     count: usize,
-    // The number being read.
-    value: u64,
-    minus: bool,
+    // The number being read; none before the blank that ends the name.
+    number: Option<Number>,
     ghost named_within: { letters ≤ 32 },
     ghost counted_within: { count ≤ 8192 },
 }
@@ -34,16 +38,42 @@ fn digit(byte: u8) -> u64 {
     }
 }
 
+impl Number {
+    fn new() -> Number {
+        Number {
+            value: 0,
+            minus: false,
+        }
+    }
+
+    // The number with a byte more.
+    fn more(self, byte: u8) -> Number {
+        let mut next = self;
+        if byte == b'-' {
+            next.minus = true;
+        } else {
+            next.value = self.value.saturating_mul(10).saturating_add(digit(byte));
+        }
+        next
+    }
+
+    fn held(self) -> u64 {
+        if self.minus {
+            self.value.wrapping_neg()
+        } else {
+            self.value
+        }
+    }
+}
+
 impl Reader {
     pub fn new() -> Reader {
         Reader {
             name: [0; NAME],
             letters: 0,
-            named: false,
             numbers: [0; NUMBERS],
             count: 0,
-            value: 0,
-            minus: false,
+            number: None,
         }
     }
 
@@ -67,12 +97,9 @@ impl Reader {
 
     // A byte of the name, or of a number.
     fn more(&mut self, byte: u8) {
-        if !self.named {
-            self.spell(byte);
-        } else if byte == b'-' {
-            self.minus = true;
-        } else {
-            self.value = self.value.saturating_mul(10).saturating_add(digit(byte));
+        match self.number {
+            Some(number) => self.number = Some(number.more(byte)),
+            None => self.spell(byte),
         }
     }
 
@@ -84,24 +111,17 @@ impl Reader {
     }
 
     fn end_word(&mut self) {
-        if self.named {
-            self.end_number();
-        } else {
-            self.named = true;
+        if let Some(number) = self.number {
+            self.push(number.held());
         }
+        self.number = Some(Number::new());
     }
 
-    fn end_number(&mut self) {
+    fn push(&mut self, n: u64) {
         if self.count < NUMBERS {
-            self.numbers[self.count] = if self.minus {
-                self.value.wrapping_neg()
-            } else {
-                self.value
-            };
+            self.numbers[self.count] = n;
             self.count += 1;
         }
-        self.value = 0;
-        self.minus = false;
     }
 
     // The answer, and the next line.
@@ -112,7 +132,7 @@ impl Reader {
         };
         answer::answer(answers, &question);
         self.letters = 0;
-        self.named = false;
         self.count = 0;
+        self.number = None;
     }
 }
