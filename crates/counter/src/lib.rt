@@ -6,7 +6,7 @@
 
 ghost use Rattle.std.specs.Prelude.{◌≡◌};
 ghost use Rattle.numbers.specs.Choice.{bit_of};
-ghost use Rattle.counter.specs.Counter.{between, within_of, advanced_of};
+ghost use Rattle.counter.specs.Counter.{reset_window, reset_entry, between, within_of, advanced_of};
 ghost use Rattle.counter.specs.Registers.{ten_bits};
 
 use config::{RAM_GATES, RAM_SOURCES};
@@ -30,6 +30,14 @@ impl Window {
         y_start: 0,
         y_end: RAM_GATES - 1,
     };
+}
+
+impl Default for Window {
+    ghost is_default = { λ window. window ≡ reset_window };
+
+    fn default() -> Window {
+        Window::RESET
+    }
 }
 
 // The data-entry mode of 0x11: ID0 X increments, ID1 Y increments, AM the counter moves in Y.
@@ -56,6 +64,14 @@ impl Entry {
         ensures { result ≡ bit_of self.0 2 }
     {
         self.0 & 0b100 != 0
+    }
+}
+
+impl Default for Entry {
+    ghost is_default = { λ entry. entry ≡ reset_entry };
+
+    fn default() -> Entry {
+        Entry::RESET
     }
 }
 

@@ -1,5 +1,5 @@
 -- What can be asked of a state, and what a host changes in it beside the events (mod.rs, `is_busy` to `dropped_diagnostics`). A state
--- that 13 refuses is told nothing: no level, no deadline, a count of 0; its parts are handed back as given.
+-- that 13 refuses is told nothing: here no level, no deadline and a count of 0 stand for that, and of its parts the parts as given.
 use Rattle.std.specs.Prelude.{ℕ, Bool, false, Option, None, Result, Ok, Err}
 use Rattle.glass.specs.declared.PanelImage.{PanelImage}
 use Rattle.config.specs.declared.Ssd1677Config.{Ssd1677Config}

@@ -5,4 +5,4 @@ use Rattle.registers.proofs.reset.Goals as goal
 
 pub returns : goal.returns
 unfolding reset_of
-returns c = rw c.default-gate_scan.ensures refl
+returns c = rw (c.default-gate_scan.ensures, c.default-entry.ensures, c.default-window.ensures) refl

@@ -1,6 +1,7 @@
 -- `validate::validate` meets its contract: the tests of each call, one list after the other.
 use mathlib.Core.List.{List, [], ◌∷◌}
 use Prim.Native.Nat.{ℕ}
+use borrow.Author.Rules.{rules}
 use Rattle.std.proofs.lemmas.Result.{err_from_is_err_and}
 use Rattle.config.specs.Answer.{Test}
 use Rattle.config.specs.Tests.{config_tests}
@@ -34,4 +35,4 @@ pub returns : goal.returns
 returns c =
     let o = c.args.otp.now in
     goes_past _ (config_tests c.args.config) (rest o) _ c.in_ok-check.ensures
-    (goes_past _ (table o) (voltages o) _ c.in_ok-check_table.ensures c.check_voltages.ensures)
+    (goes_past _ (table o) (voltages o) _ c.in_ok-check_table.ensures (search rules))
