@@ -72,7 +72,13 @@ fn status_byte(status: Status, busy: bool, index: u16) -> Option<u8>
 }
 
 // Data byte `index` of a read command, but for 0x27, which reads the RAM.
-pub fn read_register(regs: Registers, status: Status, busy: bool, command: u8, index: u16) -> Option<u8>
+pub fn read_register(
+    regs: Registers,
+    status: Status,
+    busy: bool,
+    command: u8,
+    index: u16,
+) -> Option<u8>
     ensures { result ≡ read_register regs status busy command index }
 {
     match command {
