@@ -1,4 +1,5 @@
 -- What an activation keeps. Assumes nothing.
+use Rattle.std.specs.Prelude.{None}
 use Prim.Native.Nat.{ℕ}
 use mathlib.Core.Path.{◌≡◌, refl, sym, subst, ◌∙◌}
 use mathlib.Core.Bool.{Bool, ◌&&◌}
@@ -8,7 +9,6 @@ use lib.ListN.{length}
 use Rattle.numbers.specs.Choice.{pick}
 use Rattle.numbers.proofs.Painted.{length_tab}
 use Rattle.panel.specs.Finish.{finished}
-use Rattle.waveform.specs.declared.Until.TheVariants.{Whole}
 use Rattle.diagnostic.specs.declared.DiagnosticKind.TheVariants.{WithoutClock, WithoutAnalog}
 use Rattle.diagnostic.specs.declared.Stage.TheVariants as stage
 use Rattle.scan.specs.Luts.{lut_of}
@@ -42,9 +42,9 @@ pub ready_advanced : (luts : List ℕ) (time : ℕ) (g : WithGlass) → ReadyGla
 unfolding advanced ended
 ready_advanced luts time g h =
     either (ReadyGlass luts) (is_over (clocked time g).device)
-    (clock.glass_published (clocked time g) (finished (ending_of (clocked time g).device g.device.display.ends Whole) luts (glass_of (clocked time g))))
+    (clock.glass_published (clocked time g) (finished (ending_of (clocked time g).device g.device.display.ends None) luts (glass_of (clocked time g))))
     (clocked time g)
-    (ready_finished (ending_of (clocked time g).device g.device.display.ends Whole) luts (clocked time g) h)
+    (ready_finished (ending_of (clocked time g).device g.device.display.ends None) luts (clocked time g) h)
     h
 
 -- a display writes every LUT anew and no more

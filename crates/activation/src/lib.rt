@@ -76,7 +76,7 @@ fn display_of(
     ensures { result ≡ display_of setting border frequency time before ns two }
 {
     let started = moment::after(frequency, time, before);
-    let whole = numbers::saturating_add_u64(before, ns);
+    let whole = before.saturating_add(ns);
     let ends = moment::after(frequency, time, whole);
     let kind = kind_of(two);
     Display {

@@ -1,11 +1,10 @@
 -- The parameters that act at once (mod.rs, `deep_sleep`, `hv_ready_detection`, `vci_detection`; datasheet Table 7-1).
-use Rattle.std.specs.Prelude.{ℕ, ◌+◌, ◌-◌, ◌*◌, ◌/◌, ◌%◌, Bool, true, false, ◌&&◌, ◌||◌, List, eqb, leb, ltb, length}
+use Rattle.std.specs.Prelude.{ℕ, ◌+◌, ◌-◌, ◌*◌, ◌/◌, ◌%◌, Bool, true, false, ◌&&◌, ◌||◌, List, eqb, leb, ltb, length, None}
 use Rattle.numbers.specs.Choice.{pick}
 use Rattle.numbers.specs.Lists.{tab}
 use Rattle.diagnostic.specs.declared.Stage.TheVariants.{HvReadyDetection, VciDetection}
 use Rattle.device.specs.declared.Ssd1677.{Ssd1677}
 use Rattle.device.specs.declared.Power.TheVariants.{Asleep}
-use Rattle.device.specs.declared.Deadline.TheVariants.{Never}
 use Rattle.device.specs.Parts.{with_slept, with_status}
 use Rattle.world.specs.World.{WithLog, with_log, WithRam, with_ram, on, device_in_ram, log_in_ram}
 use Rattle.start.specs.Start.{with_busy_for, is_powered, unpowered}
@@ -13,7 +12,7 @@ use Rattle.acts.specs.Reserved.{checked}
 
 -- asleep: the supplies off, and BUSY without an end
 unfoldable pub asleep : Ssd1677 → Ssd1677
-asleep d = with_slept d (record { power = Asleep; current = d.bus.current; busy_until = Never }) false false
+asleep d = with_slept d (record { power = Asleep; current = d.bus.current; busy_until = None }) false false
 
 -- a plane whose bytes are all 0
 abbrev pub zeros : List ℕ → List ℕ

@@ -1,12 +1,11 @@
 -- Whether what is shown rests on values not measured on a device (config.rs, `is_approximation`).
-use Rattle.std.specs.Prelude.{Bool, true, false, ◌||◌, List, [], ◌∷◌, ℕ, eqb}
+use Rattle.std.specs.Prelude.{Bool, true, false, ◌||◌, List, [], ◌∷◌, ℕ, eqb, Result, Ok, Err}
 use Rattle.numbers.specs.Choice.{pick}
 use Rattle.glass.specs.declared.Provenance.{Provenance}
 use Rattle.glass.specs.declared.Provenance.TheVariants.{Approximation, Measured}
+use Rattle.config.specs.declared.ConfigError.{ConfigError}
 use Rattle.config.specs.declared.Ssd1677Config.{Ssd1677Config}
-use Rattle.config.specs.Answer.{Answer, accepted, refused, first_of}
-use Rattle.approximation.specs.declared.IsApproximation.{IsApproximation}
-use Rattle.approximation.specs.declared.IsApproximation.TheVariants.{Is, BadTable}
+use Rattle.config.specs.Answer.{Answer, accepted, first_of, refused_by}
 use Rattle.otp.specs.Table.{entry_count, provenance_at, bad_table, table_test}
 use Rattle.otp.specs.Search.{any_of}
 
@@ -25,9 +24,9 @@ pub record Outcome : Type 0 where
   pub approximation : Bool
 
 -- the number of each case
-unfoldable pub outcome_of : IsApproximation → Outcome
-outcome_of (Is b) = record { told = accepted; approximation = b }
-outcome_of BadTable = record { told = refused 12 0; approximation = false }
+unfoldable pub outcome_of : Result Bool ConfigError → Outcome
+outcome_of (Ok b) = record { told = accepted; approximation = b }
+outcome_of (Err error) = record { told = refused_by error; approximation = false }
 
 -- the optics, the durations or a waveform of the table; a table that 12 refuses is refused
 unfoldable pub approximated : Ssd1677Config → List ℕ → Outcome

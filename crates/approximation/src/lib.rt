@@ -6,7 +6,7 @@ ghost use Rattle.otp.specs.Table.{entry_count};
 ghost use Rattle.otp.specs.Search.{any_of};
 ghost use Rattle.approximation.specs.Approximation.{approximate, approximate_entry, approximated, outcome_of};
 
-use config::Ssd1677Config;
+use config::{ConfigError, Ssd1677Config};
 use glass::Provenance;
 use otp::ENTRY_BYTES;
 
@@ -30,37 +30,26 @@ fn any_approximate_entry(otp: &[u8]) -> bool
     ensures { result ≡ any_of (approximate_entry otp.now) (entry_count otp.now) }
 {
     let entries = otp.len() / ENTRY_BYTES;
-    let mut entry: usize = 0;
     let mut any = false;
-    while entry < entries {
+    for entry in 0..entries {
         let one = is_approximate_entry(otp, entry);
         any = any | one;
-        entry += 1;
     }
     any
 }
 
-// Whether a configuration is an approximation, or that its table is none.
-#[derive(Clone, Copy)]
-pub enum IsApproximation {
-    Is(bool),
-    BadTable,
-}
-
 // Whether any part of what the model shows rests on values not measured on a device: the optics, the durations or a waveform of the
-// table. An interface showing the panel says "approximation" when it is true.
-pub fn is_approximation(config: Ssd1677Config, otp: &[u8]) -> IsApproximation
+// table. An interface showing the panel says "approximation" when it is true. A table that 12 refuses is refused.
+pub fn is_approximation(config: Ssd1677Config, otp: &[u8]) -> Result<bool, ConfigError>
     ensures { outcome_of result ≡ approximated config otp.now }
 {
     let optics = config.optics;
     let timing = config.timing;
     let of_glass = optics.provenance;
     let of_durations = timing.provenance;
-    if otp::is_bad_table(otp) {
-        return IsApproximation::BadTable;
-    }
+    otp::check_table(otp)?;
     let glass = is_approximate(of_glass);
     let durations = is_approximate(of_durations);
     let entries = any_approximate_entry(otp);
-    IsApproximation::Is(glass | durations | entries)
+    Ok(glass | durations | entries)
 }

@@ -1,4 +1,5 @@
 -- What each return of the code hands over, over plain variables. Assumes nothing.
+use Rattle.std.specs.Prelude.{Option, Some, None}
 use Prim.Native.Nat.{ℕ}
 use mathlib.Core.Path.{◌≡◌, refl, sym, ap, subst, ◌∙◌}
 use mathlib.Core.Bool.{Bool, true, false, ◌&&◌, ◌||◌, not}
@@ -14,8 +15,6 @@ use Rattle.device.specs.declared.Power.{Power}
 use Rattle.device.specs.declared.Power.TheVariants.{Running, Asleep, InReset}
 use Rattle.device.specs.declared.Ssd1677.{Ssd1677}
 use Rattle.world.specs.World.{WithLog, with_log, WithBuffers, with_buffers, Lent, on, device_in_buffers, log_in_buffers}
-use Rattle.command.specs.declared.Known.{Known}
-use Rattle.command.specs.declared.Known.TheVariants.{Of, Unknown}
 use Rattle.command.specs.Table.{kind_of}
 use Rattle.busy.specs.Busy.{pending}
 use Rattle.chip.specs.Report.{logged}
@@ -70,24 +69,24 @@ module _ (k : Lent) (command : ℕ) (w : WithBuffers) where
       → z ≡ run k command (on device_in_buffers (command_made command kind) w)
   accepts kind d z e f = f ∙ ap (λ (x : Ssd1677). run k command (put x)) e
 
-  module _ (known : Known) (told : known ≡ kind_of command) where
+  module _ (known : Option Kind) (told : known ≡ kind_of command) where
     -- what the table has, by what the decoder answered
-    by : (x : Known) → known ≡ x → command_by_kind k command w x ≡ command_by_kind k command w (kind_of command)
+    by : (x : Option Kind) → known ≡ x → command_by_kind k command w x ≡ command_by_kind k command w (kind_of command)
     by x e = ap (command_by_kind k command w) (sym e ∙ told)
 
-    pub unknown : (z : WithLog) → known ≡ Unknown → z ≡ logged (UnknownCommand command) entry → log_in_buffers.put w z ≡ command_by_kind k command w (kind_of command)
+    pub unknown : (z : WithLog) → known ≡ None → z ≡ logged (UnknownCommand command) entry → log_in_buffers.put w z ≡ command_by_kind k command w (kind_of command)
     unfolding command_by_kind
-    unknown z e f = ap (log_in_buffers.put w) f ∙ by Unknown e
+    unknown z e f = ap (log_in_buffers.put w) f ∙ by None e
 
-    module _ (kind : Kind) (of : known ≡ Of kind) where
+    module _ (kind : Kind) (of : known ≡ Some kind) where
       pub reserved : (z : WithLog) → kind ≡ Reserved → z ≡ logged (ReservedCommand command) entry → log_in_buffers.put w z ≡ command_by_kind k command w (kind_of command)
       unfolding command_by_kind
-      reserved z e f = ap (log_in_buffers.put w) f ∙ by (Of Reserved) (of ∙ ap Of e)
+      reserved z e f = ap (log_in_buffers.put w) f ∙ by (Some Reserved) (of ∙ ap Some e)
 
       pub unsupported : (z : WithLog) → kind ≡ Unsupported → z ≡ logged (UnsupportedCommand command) entry
           → log_in_buffers.put w z ≡ command_by_kind k command w (kind_of command)
       unfolding command_by_kind
-      unsupported z e f = ap (log_in_buffers.put w) f ∙ by (Of Unsupported) (of ∙ ap Of e)
+      unsupported z e f = ap (log_in_buffers.put w) f ∙ by (Some Unsupported) (of ∙ ap Some e)
 
       -- with the kind as the code has it
       abbrev accepted : Kind → WithBuffers
@@ -95,11 +94,11 @@ module _ (k : Lent) (command : ℕ) (w : WithBuffers) where
 
       pub writes : (p : Params) (z : WithBuffers) → kind ≡ Write p → z ≡ accepted kind → z ≡ command_by_kind k command w (kind_of command)
       unfolding command_by_kind
-      writes p z e f = f ∙ ap accepted e ∙ by (Of (Write p)) (of ∙ ap Of e)
+      writes p z e f = f ∙ ap accepted e ∙ by (Some (Write p)) (of ∙ ap Some e)
 
       pub reads : (z : WithBuffers) → kind ≡ Read → z ≡ accepted kind → z ≡ command_by_kind k command w (kind_of command)
       unfolding command_by_kind
-      reads z e f = f ∙ ap accepted e ∙ by (Of Read) (of ∙ ap Of e)
+      reads z e f = f ∙ ap accepted e ∙ by (Some Read) (of ∙ ap Some e)
 
   module _ (p : Power) where
     pub in_reset_is : (z : WithLog) → p ≡ InReset → z ≡ logged (WhileInReset command) entry → log_in_buffers.put w z ≡ begun k command w p

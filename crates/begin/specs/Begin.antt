@@ -1,5 +1,5 @@
 -- A command byte, once the clock has moved and the last command is closed (mod.rs, `write_command` and `start_command`).
-use Rattle.std.specs.Prelude.{ℕ, Bool, false, ◌&&◌, ◌||◌, not, eqb}
+use Rattle.std.specs.Prelude.{ℕ, Bool, false, ◌&&◌, ◌||◌, not, eqb, Option, Some, None}
 use Rattle.numbers.specs.Choice.{pick}
 use Rattle.diagnostic.specs.declared.DiagnosticKind.TheVariants.{UnknownCommand, ReservedCommand, UnsupportedCommand, WhileBusy, WhileAsleep, WhileInReset}
 use Rattle.device.specs.declared.Kind.{Kind}
@@ -10,8 +10,6 @@ use Rattle.device.specs.declared.Current.TheVariants.{Active}
 use Rattle.device.specs.declared.Ssd1677.{Ssd1677}
 use Rattle.device.specs.Parts.{with_bus, with_current}
 use Rattle.world.specs.World.{WithBuffers, Lent, on, device_in_buffers, log_in_buffers}
-use Rattle.command.specs.declared.Known.{Known}
-use Rattle.command.specs.declared.Known.TheVariants.{Of, Unknown}
 use Rattle.command.specs.Table.{kind_of}
 use Rattle.busy.specs.Busy.{pending}
 use Rattle.chip.specs.Report.{logged}
@@ -43,12 +41,12 @@ run k command w =
     (pick (eqb command 0x24 || eqb command 0x26 || eqb command 0x27) (on log_in_buffers (pointed command) w) w)))
 
 -- by what Table 7-1 has for the command: 21, 22 and 23 leave it without data
-unfoldable pub command_by_kind : Lent → ℕ → WithBuffers → Known → WithBuffers
-command_by_kind k command w Unknown = on log_in_buffers (logged (UnknownCommand command)) w
-command_by_kind k command w (Of Reserved) = on log_in_buffers (logged (ReservedCommand command)) w
-command_by_kind k command w (Of Unsupported) = on log_in_buffers (logged (UnsupportedCommand command)) w
-command_by_kind k command w (Of (Write params)) = run k command (on device_in_buffers (command_made command (Write params)) w)
-command_by_kind k command w (Of Read) = run k command (on device_in_buffers (command_made command Read) w)
+unfoldable pub command_by_kind : Lent → ℕ → WithBuffers → Option Kind → WithBuffers
+command_by_kind k command w None = on log_in_buffers (logged (UnknownCommand command)) w
+command_by_kind k command w (Some Reserved) = on log_in_buffers (logged (ReservedCommand command)) w
+command_by_kind k command w (Some Unsupported) = on log_in_buffers (logged (UnsupportedCommand command)) w
+command_by_kind k command w (Some (Write params)) = run k command (on device_in_buffers (command_made command (Write params)) w)
+command_by_kind k command w (Some Read) = run k command (on device_in_buffers (command_made command Read) w)
 
 -- BUSY is high and the command is not the status read, 0x2F, which a busy chip takes
 abbrev pub is_held_off : ℕ → Ssd1677 → Bool

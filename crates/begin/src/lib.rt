@@ -8,7 +8,6 @@ ghost use Rattle.world.specs.World.{with_buffers, lent, on, device_in_buffers};
 ghost use Rattle.activation.specs.Activation.{Activatable};
 ghost use Rattle.begin.specs.Begin.{command_made, run, command_by_kind};
 
-use command::Known;
 use device::{Active, Current, Kind, Ssd1677, part};
 use diagnostic::DiagnosticKind;
 
@@ -125,7 +124,7 @@ pub fn decode(
 {
     let known = command::kind(command);
     // The last command was closed before this byte was looked at, so that data which follow are ignored: there is no more to do than to log.
-    let Known::Of(kind) = known else {
+    let Some(kind) = known else {
         return chip::report(state, log, DiagnosticKind::UnknownCommand { command });
     };
     match kind {

@@ -1,4 +1,5 @@
 -- What a command byte keeps: all that a diagnostic, a command made current, a restoring, BUSY and an activation with what is lent keep. Assumes nothing.
+use Rattle.std.specs.Prelude.{Option, Some, None}
 use Prim.Native.Nat.{ℕ, ◌≤◌, ◌%◌}
 use mathlib.Core.Path.{◌≡◌, refl, sym, ap, subst, ◌∙◌}
 use mathlib.Core.Bool.{true, ◌||◌}
@@ -18,8 +19,6 @@ use Rattle.device.specs.declared.Power.{Power}
 use Rattle.device.specs.declared.Power.TheVariants.{Running, Asleep, InReset}
 use Rattle.device.specs.declared.Ssd1677.{Ssd1677}
 use Rattle.world.specs.World.{WithLog, with_log, WithBuffers, Lent, on, device_in_buffers, log_in_buffers}
-use Rattle.command.specs.declared.Known.{Known}
-use Rattle.command.specs.declared.Known.TheVariants.{Of, Unknown}
 use Rattle.command.specs.Table.{kind_of}
 use Rattle.registers.proofs.Bounds.{Bounded, reset_bounded}
 use Rattle.guard_kinds.specs.Kinds.{current_fine}
@@ -41,7 +40,7 @@ busy_then ns w = on device_in_buffers (λ (d : Ssd1677). with_busy_for d ns) w
 
 module _ (k : Lent) (P : WithBuffers → Type 0)
     (reports : (kind : DiagnosticKind) (w : WithBuffers) → P w → P (on log_in_buffers (logged kind) w))
-    (makes : (command : ℕ) (kind : Kind) (w : WithBuffers) → kind_of command ≡ Of kind → P w → P (on device_in_buffers (command_made command kind) w))
+    (makes : (command : ℕ) (kind : Kind) (w : WithBuffers) → kind_of command ≡ Some kind → P w → P (on device_in_buffers (command_made command kind) w))
     (restores : (w : WithBuffers) → P w → P (on device_in_buffers restored w))
     (waits : (ns : ℕ) (w : WithBuffers) → P w → P (busy_then ns w))
     (activates : (w : WithBuffers) → P w → P (activated k w)) where
@@ -88,16 +87,16 @@ module _ (k : Lent) (P : WithBuffers → Type 0)
         (either P (eqb command 0x24 || eqb command 0x26 || eqb command 0x27) _ _ (pointed_keeps command) h)))
 
   module _ (command : ℕ) (w : WithBuffers) (h : P w) where
-    accepted_keeps : (kind : Kind) → kind_of command ≡ Of kind → P (run k command (on device_in_buffers (command_made command kind) w))
+    accepted_keeps : (kind : Kind) → kind_of command ≡ Some kind → P (run k command (on device_in_buffers (command_made command kind) w))
     accepted_keeps kind e = run_keeps (on device_in_buffers (command_made command kind) w) (makes command kind w e h) command
 
-    kind_keeps : (known : Known) → kind_of command ≡ known → P (command_by_kind k command w known)
+    kind_keeps : (known : Option Kind) → kind_of command ≡ known → P (command_by_kind k command w known)
     unfolding command_by_kind
-    kind_keeps Unknown e = reports (UnknownCommand command) w h
-    kind_keeps (Of Reserved) e = reports (ReservedCommand command) w h
-    kind_keeps (Of Unsupported) e = reports (UnsupportedCommand command) w h
-    kind_keeps (Of (Write params)) e = accepted_keeps (Write params) e
-    kind_keeps (Of Read) e = accepted_keeps Read e
+    kind_keeps None e = reports (UnknownCommand command) w h
+    kind_keeps (Some Reserved) e = reports (ReservedCommand command) w h
+    kind_keeps (Some Unsupported) e = reports (UnsupportedCommand command) w h
+    kind_keeps (Some (Write params)) e = accepted_keeps (Write params) e
+    kind_keeps (Some Read) e = accepted_keeps Read e
 
     pub begun_keeps : (p : Power) → P (begun k command w p)
     unfolding begun

@@ -1,13 +1,11 @@
 -- What the timed functions make of the numbers that they are handed, and what they hand back.
-use Rattle.std.specs.Prelude.{Bool, true, false, List, [], ◌∷◌, ℕ, ◌/◌, ℤ}
+use Rattle.std.specs.Prelude.{Bool, true, false, List, [], ◌∷◌, ℕ, ◌/◌, ℤ, Option, Some, None}
 use Rattle.numbers.specs.Choice.{pick}
 use Rattle.counts.specs.Counts.{Picture}
 use Rattle.glass.specs.declared.Transfer.{Transfer}
 use Rattle.glass.specs.declared.RefreshKind.{RefreshKind}
 use Rattle.glass.specs.declared.RefreshKind.TheVariants.{PowerOn, Full, Partial}
 use Rattle.glass.specs.declared.PanelImage.{PanelImage}
-use Rattle.waveform.specs.declared.Until.{Until}
-use Rattle.waveform.specs.declared.Until.TheVariants.{Whole, Cut}
 use Rattle.config.specs.declared.PanelGeometry.{PanelGeometry}
 use Rattle.scan.specs.declared.Scan.{Scan}
 use Rattle.scan.specs.Luts.{option_of}
@@ -16,9 +14,9 @@ use Rattle.panel.specs.declared.Display.{Display}
 use Rattle.panel.specs.Finish.{Glass}
 
 -- up to a cut, or whole
-abbrev pub until_of : Bool → ℕ → Until
-until_of true until = Cut until
-until_of false until = Whole
+abbrev pub until_of : Bool → ℕ → Option ℕ
+until_of true until = Some until
+until_of false until = None
 
 -- a transfer as three numbers
 abbrev pub numbers_of : Transfer → List ℤ

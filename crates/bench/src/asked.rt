@@ -6,12 +6,10 @@ ghost use Rattle.bench.specs.Asked.{lasting, grayable, walkable, combinable, cou
 fn last(periods: &[u64; 16]) -> bool
     ensures { result ≡ lasting periods.now }
 {
-    let mut code: usize = 0;
-    while code < 16 {
+    for code in 0..16 {
         if periods[code] == 0 {
             return false;
         }
-        code += 1;
     }
     true
 }

@@ -8,7 +8,7 @@ ghost use Rattle.panel.specs.Finish.{setting_transfer};
 ghost use Rattle.bench.specs.Asked.{grayable, walkable, combinable};
 
 use glass::Transfer;
-use waveform::{Drive, Until};
+use waveform::Drive;
 
 pub(crate) fn paint_grays(states: &[i64], swing: i64, pixels: &mut [u8])
     requires { grayable swing (length states.now) (length pixels.old) ≡ true }
@@ -25,7 +25,7 @@ pub(crate) fn transfer(
     lut: usize,
     swing: i64,
     positive_drives_black: bool,
-    until: Until,
+    until: Option<u64>,
 ) -> Transfer
     requires { walkable periods.now lut ≡ true }
     ensures { result ≡ setting_transfer setting.now periods.now (Lut lut) swing positive_drives_black until }

@@ -6,15 +6,14 @@ use config::{GateScan, PanelGeometry};
 use glass::{PanelImage, RefreshKind};
 use panel::{Display, Panel};
 use scan::{PlaneOption, Scan};
-use waveform::Until;
 
-pub(crate) fn until_of(cut: bool, until: u64) -> Until
+pub(crate) fn until_of(cut: bool, until: u64) -> Option<u64>
     ensures { result ≡ until_of cut until }
 {
     if cut {
-        return Until::Cut(until);
+        return Some(until);
     }
-    Until::Whole
+    None
 }
 
 pub fn geometry_of(

@@ -1,8 +1,7 @@
 -- The whole device, from its start through a list of events.
-use Rattle.std.specs.Prelude.{true, false, List, ℕ, replicate}
+use Rattle.std.specs.Prelude.{true, false, List, ℕ, replicate, None}
 use Rattle.glass.specs.Optics.{default_optics}
 use Rattle.config.specs.Defaults.{default_timing}
-use Rattle.config.specs.declared.ExternalSensor.TheVariants.{Absent}
 use Rattle.config.specs.declared.Ssd1677Config.{Ssd1677Config}
 use Rattle.config.specs.declared.Ssd1677Timing.{Ssd1677Timing}
 use Rattle.event.specs.declared.Event.{Event}
@@ -38,7 +37,7 @@ config_of width height =
       timing = reference_timing;
       busy_active_high = true;
       ambient = 400;
-      external_sensor = Absent;
+      external_sensor = None;
       vci_millivolts = 3300;
       user_id = replicate 10 0;
       frequency = 1000000000;

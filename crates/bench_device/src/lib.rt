@@ -32,8 +32,9 @@ pub fn proved_traffic(
 ) -> usize
     ensures { ran result header.new (buffers states.new luts.new (picture pixels.new counts.new) black_white.new red.new gates.new log.new) ≡ ran_from otp.now (event_at kinds.now times.now values.now) (shortest kinds.now times.now values.now) (started (config_of width height) otp.now (buffers states.old luts.old (picture pixels.old counts.old) black_white.old red.old gates.old log.old)).left }
 {
+    let config = whole::config_of(width, height);
     let started = power_on::new(
-        whole::config_of(width, height),
+        config,
         &mut states[..],
         &mut luts[..],
         &mut pixels[..],
@@ -44,8 +45,9 @@ pub fn proved_traffic(
         &mut log[..],
         otp,
     );
+    let present = started.unwrap_or(power_on::unstarted(config));
     let fed = traffic::feed(
-        started.state,
+        present,
         &mut states[..],
         &mut luts[..],
         &mut pixels[..],

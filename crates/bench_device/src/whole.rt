@@ -3,7 +3,7 @@ ghost use Rattle.std.specs.Prelude.{◌≡◌};
 ghost use Rattle.bench_device.specs.Whole.{config_of};
 
 use bench::made;
-use config::{ExternalSensor, Ssd1677Config, Ssd1677Timing};
+use config::{Ssd1677Config, Ssd1677Timing};
 use glass::Optics;
 
 // The frame period of every code in the reference that the device is held to (config.rs, `gdeq0426t82`); the default is another (#105).
@@ -26,7 +26,7 @@ pub(crate) fn config_of(width: u16, height: u16) -> Ssd1677Config
         timing,
         busy_active_high: true,
         ambient: 400,
-        external_sensor: ExternalSensor::Absent,
+        external_sensor: None,
         vci_millivolts: 3300,
         user_id: [0u8; 10],
         frequency: FREQUENCY,

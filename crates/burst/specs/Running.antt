@@ -1,5 +1,5 @@
 -- Bytes of RAM data one after the other, up to the first event that is more than such a byte (mod.rs, `write_data` and `write_ram`).
-use Rattle.std.specs.Prelude.{ℕ, zero, suc, ◌+◌, max, Bool, ◌&&◌, List, eqb, get_or}
+use Rattle.std.specs.Prelude.{ℕ, zero, suc, ◌+◌, max, Bool, ◌&&◌, List, eqb, get_or, Option, Some, None}
 use Rattle.numbers.specs.Choice.{pick}
 use Rattle.counter.specs.Counter.{advanced_of}
 use Rattle.ram.specs.Plane.{wrote_at, written_at}
@@ -30,6 +30,11 @@ pub record ByteStep : Type 0 where
 -- the three as one
 abbrev pub byte_step : Bool → Reached → List ℕ → ByteStep
 byte_step done reached plane = record { done = done; reached = reached; plane = plane }
+
+-- how far the bytes have come, after one or where there was none
+abbrev pub reached_in : Reached → Option Reached → Reached
+reached_in s (Some onwards) = onwards
+reached_in s None = s
 
 -- one event
 abbrev pub taking : Course → ℕ → ℕ → ℕ → Reached → List ℕ → ByteStep

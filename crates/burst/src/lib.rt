@@ -2,11 +2,11 @@
 // counter, the clock and the command's count alone, so these go through a loop of their own and the state is put back once: a frame has 48,000.
 #![tactic(auto)]
 
-ghost use Rattle.std.specs.Prelude.{◌≡◌, ◌-◌, ◌≤◌, length};
-ghost use Rattle.burst.specs.Running.{byte_step, taking, ran, running};
+ghost use Rattle.std.specs.Prelude.{is_some, ◌≡◌, ◌-◌, ◌≤◌, length};
+ghost use Rattle.burst.specs.Running.{reached_in, byte_step, taking, ran, running};
 ghost use Rattle.burst.specs.Burst.{course_of, reached_by, into, ran_into, bursted, burstOf};
 
-use device::{Active, Current, Deadline, Ssd1677, part};
+use device::{Active, Current, Ssd1677, part};
 use ram::{Counter, Entry, Window};
 
 // The kind of a data event (docs/replay-format.md).
@@ -29,15 +29,7 @@ pub struct Course {
     // A display and its end.
     pub running: bool,
     pub ends: u64,
-    pub busy_until: Deadline,
-}
-
-// What one event did.
-#[derive(Clone, Copy)]
-struct Taken {
-    // The event was such a byte.
-    done: bool,
-    reached: Reached,
+    pub busy_until: Option<u64>,
 }
 
 // Where the bytes end: the place of the first event that is none.
@@ -54,11 +46,18 @@ pub struct Burst {
     pub state: Ssd1677,
 }
 
-// One event, where it is a byte of RAM data and nothing more.
-fn take(plane: &mut [u8], course: Course, reached: Reached, kind: u8, time: u64, byte: u8) -> Taken
-    ensures { byte_step result.done result.reached plane.new ≡ taking course kind time byte reached plane.old }
+// One event, where it is a byte of RAM data and nothing more: how far the bytes have then come.
+fn take(
+    plane: &mut [u8],
+    course: Course,
+    reached: Reached,
+    kind: u8,
+    time: u64,
+    byte: u8,
+) -> Option<Reached>
+    ensures { byte_step (is_some result) (reached_in reached result) plane.new ≡ taking course kind time byte reached plane.old }
 {
-    let latest = numbers::max_u64(reached.latest, time);
+    let latest = reached.latest.max(time);
     let busy_until = course.busy_until;
     let quiet = moment::is_quiet(course.running, course.ends, busy_until, latest);
     if (kind == DATA) & quiet {
@@ -67,25 +66,16 @@ fn take(plane: &mut [u8], course: Course, reached: Reached, kind: u8, time: u64,
             let window = course.window;
             let entry = course.entry;
             let counter = at.advanced(window, entry);
-            let received = numbers::saturating_add_u16(reached.received, 1);
-            return Taken {
-                done: true,
-                reached: Reached {
-                    latest,
-                    counter,
-                    received,
-                },
-            };
+            let received = reached.received.saturating_add(1);
+            return Some(Reached {
+                latest,
+                counter,
+                received,
+            });
         }
-        return Taken {
-            done: false,
-            reached,
-        };
+        return None;
     }
-    Taken {
-        done: false,
-        reached,
-    }
+    None
 }
 
 // The events from a place on, up to the first that is no such byte.
@@ -104,15 +94,15 @@ fn run_on(
 {
     let mut next = reached;
     let mut i = from;
+    // The place where they end is part of the answer, so it is counted here.
     while i < count {
-        let taken = take(&mut plane[..], course, next, kinds[i], times[i], values[i]);
-        if !taken.done {
+        let Some(onward) = take(&mut plane[..], course, next, kinds[i], times[i], values[i]) else {
             return Run {
                 made: i,
                 reached: next,
             };
-        }
-        next = taken.reached;
+        };
+        next = onward;
         i += 1;
     }
     Run {

@@ -5,16 +5,16 @@
 ghost use Rattle.std.specs.Prelude.{◌≡◌};
 ghost use Rattle.busy.specs.Busy.{pending, busy_at, pin_at, earlier, display_end, deadline_of};
 
-use device::{Deadline, Power, Ssd1677};
+use device::{Power, Ssd1677};
 use panel::Display;
 
 // Whether the instant is before the deadline.
-pub fn is_pending(deadline: Deadline, time: u64) -> bool
+pub fn is_pending(deadline: Option<u64>, time: u64) -> bool
     ensures { result ≡ pending deadline time }
 {
     match deadline {
-        Deadline::Never => false,
-        Deadline::At(until) => time < until,
+        None => false,
+        Some(until) => time < until,
     }
 }
 
@@ -44,29 +44,29 @@ pub fn pin(state: Ssd1677, time: u64) -> bool
     !is_busy
 }
 
-fn earlier_of(one: Deadline, other: Deadline) -> Deadline
+fn earlier_of(one: Option<u64>, other: Option<u64>) -> Option<u64>
     ensures { result ≡ earlier one other }
 {
     match one {
-        Deadline::Never => other,
-        Deadline::At(a) => match other {
-            Deadline::Never => Deadline::At(a),
-            Deadline::At(b) => Deadline::At(numbers::min_u64(a, b)),
+        None => other,
+        Some(a) => match other {
+            None => Some(a),
+            Some(b) => Some(a.min(b)),
         },
     }
 }
 
-fn end_of(display: Display) -> Deadline
+fn end_of(display: Display) -> Option<u64>
     ensures { result ≡ display_end display }
 {
     if display.running {
-        return Deadline::At(display.ends);
+        return Some(display.ends);
     }
-    Deadline::Never
+    None
 }
 
 // When BUSY falls, or a display ends and its image is published.
-pub fn deadline(state: Ssd1677) -> Deadline
+pub fn deadline(state: Ssd1677) -> Option<u64>
     ensures { result ≡ deadline_of state }
 {
     let bus = state.bus;

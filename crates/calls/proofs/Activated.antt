@@ -1,5 +1,6 @@
 -- An activation leaves BUSY high to the end of the display that it starts: BUSY lasts as long as all the stages, the display among them.
 -- Assumes nothing.
+use Rattle.std.specs.Prelude.{Some}
 use Prim.Native.Nat.{ℕ, ◌+◌, ◌≤◌, ◌<◌, min}
 use mathlib.Core.Path.{◌≡◌, refl, sym, ap, subst, ◌∙◌}
 use mathlib.Core.Bool.{Bool, true, false, ◌&&◌}
@@ -15,7 +16,6 @@ use Rattle.diagnostic.specs.declared.DiagnosticKind.TheVariants.{WithoutClock, W
 use Rattle.diagnostic.specs.declared.Stage.TheVariants as stage
 use Rattle.panel.specs.declared.Display.{Display}
 use Rattle.device.specs.declared.Bus.{Bus}
-use Rattle.device.specs.declared.Deadline.TheVariants.{At}
 use Rattle.device.specs.declared.Power.TheVariants.{Running}
 use Rattle.device.specs.declared.Ssd1677.{Ssd1677}
 use Rattle.device.specs.Parts.{with_until, with_loaded, with_activated}
@@ -34,7 +34,7 @@ never : false ≡ true → ⊥
 never e = let z : ◌≡◌ {A = ℕ} 0 1 = cc in omega arith
 
 -- ---- BUSY rises for a span
-rises : (bus : Bus) (frequency moment ns : ℕ) → 0 < ns → busy_for bus frequency moment ns ≡ with_until bus (At (after_ns frequency moment ns))
+rises : (bus : Bus) (frequency moment ns : ℕ) → 0 < ns → busy_for bus frequency moment ns ≡ with_until bus (Some (after_ns frequency moment ns))
 unfolding busy_for
 rises bus frequency moment ns h = rw (lt-ltb 0 ns h)
 

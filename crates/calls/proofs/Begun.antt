@@ -1,5 +1,6 @@
 -- A command byte keeps BUSY high to the end of a running display: while one runs every command but 0x2F is held off, and where none runs
 -- only 0x20 starts one. Assumes nothing.
+use Rattle.std.specs.Prelude.{Option, Some, None}
 use Prim.Native.Nat.{ℕ}
 use mathlib.Core.Path.{◌≡◌, refl, sym, ap, subst, ◌∙◌}
 use mathlib.Core.Bool.{Bool, true, false, ◌&&◌, ◌||◌, not}
@@ -17,8 +18,6 @@ use Rattle.device.specs.declared.Power.{Power}
 use Rattle.device.specs.declared.Power.TheVariants.{Running, Asleep, InReset}
 use Rattle.device.specs.declared.Ssd1677.{Ssd1677}
 use Rattle.world.specs.World.{WithLog, with_log, WithBuffers, Lent, on, device_in_buffers, log_in_buffers}
-use Rattle.command.specs.declared.Known.{Known}
-use Rattle.command.specs.declared.Known.TheVariants.{Of, Unknown}
 use Rattle.command.specs.Table.{rows, kind_of}
 use Rattle.busy.specs.Busy.{pending}
 use Rattle.chip.specs.Close.{closed}
@@ -66,15 +65,15 @@ unfolding soft_reset restored
 reset_same d = refl
 
 -- ---- 0x20 takes no data byte
-abbrev known_takes_none : Known → Bool
-known_takes_none (Of kind) = takes_none kind
-known_takes_none Unknown = true
+abbrev known_takes_none : Option Kind → Bool
+known_takes_none (Some kind) = takes_none kind
+known_takes_none None = true
 
 activation_takes_none : known_takes_none (kind_of 0x20) ≡ true
 unfolding kind_of lookup rows
 activation_takes_none = refl
 
-activation_kind : (command : ℕ) (kind : Kind) → command ≡ 0x20 → kind_of command ≡ Of kind → takes_none kind ≡ true
+activation_kind : (command : ℕ) (kind : Kind) → command ≡ 0x20 → kind_of command ≡ Some kind → takes_none kind ≡ true
 activation_kind command kind is e =
     ap known_takes_none (sym e) ∙ ap (λ (c : ℕ). known_takes_none (kind_of c)) is ∙ activation_takes_none
 
@@ -96,7 +95,7 @@ module _ (k : Lent) (command : ℕ) (w : WithBuffers) (still : w.device.display.
   unfolding command_made
   made_still kind = still
 
-  run_held : (kind : Kind) → w.device.bus.power ≡ Running → kind_of command ≡ Of kind → HeldWith (run k command (on device_in_buffers (command_made command kind) w))
+  run_held : (kind : Kind) → w.device.bus.power ≡ Running → kind_of command ≡ Some kind → HeldWith (run k command (on device_in_buffers (command_made command kind) w))
   unfolding run
   run_held kind power e =
       let v = on device_in_buffers (command_made command kind) w in
@@ -108,13 +107,13 @@ module _ (k : Lent) (command : ℕ) (w : WithBuffers) (still : w.device.display.
       (either HeldWith (eqb command 0x24 || eqb command 0x26 || eqb command 0x27) (on log_in_buffers (pointed command) v) v
       (held_still _ (pointed_same entry command ∙ made_still kind)) (held_still _ (made_still kind)))))
 
-  kind_held : (known : Known) → w.device.bus.power ≡ Running → kind_of command ≡ known → HeldWith (command_by_kind k command w known)
+  kind_held : (known : Option Kind) → w.device.bus.power ≡ Running → kind_of command ≡ known → HeldWith (command_by_kind k command w known)
   unfolding command_by_kind logged
-  kind_held Unknown power e = held_still _ still
-  kind_held (Of Reserved) power e = held_still _ still
-  kind_held (Of Unsupported) power e = held_still _ still
-  kind_held (Of (Write params)) power e = run_held (Write params) power e
-  kind_held (Of Read) power e = run_held Read power e
+  kind_held None power e = held_still _ still
+  kind_held (Some Reserved) power e = held_still _ still
+  kind_held (Some Unsupported) power e = held_still _ still
+  kind_held (Some (Write params)) power e = run_held (Write params) power e
+  kind_held (Some Read) power e = run_held Read power e
 
   begun_still : (p : Power) → w.device.bus.power ≡ p → HeldWith (begun k command w p)
   unfolding begun logged

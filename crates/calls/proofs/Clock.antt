@@ -1,4 +1,5 @@
 -- The clock's move keeps BUSY high to the end of a running display: it ends a display before it lowers BUSY. Assumes nothing.
+use Rattle.std.specs.Prelude.{Option, Some, None}
 use Prim.Native.Nat.{ℕ, ◌<◌, max}
 use mathlib.Core.Path.{◌≡◌, refl, sym, subst, ◌∙◌}
 use mathlib.Core.Bool.{Bool, true, false, ◌&&◌}
@@ -7,11 +8,8 @@ use native.Mathlib.Omega.{arith}
 use lib.Dec.{leb}
 use borrow.Author.Tests.{leb-false, lt-leb}
 use Rattle.numbers.specs.Choice.{pick}
-use Rattle.waveform.specs.declared.Until.TheVariants.{Whole}
 use Rattle.panel.specs.Finish.{finished}
 use Rattle.device.specs.declared.Bus.{Bus}
-use Rattle.device.specs.declared.Deadline.{Deadline}
-use Rattle.device.specs.declared.Deadline.TheVariants.{At}
 use Rattle.device.specs.declared.Ssd1677.{Ssd1677}
 use Rattle.device.specs.Parts.{with_now, with_bus}
 use Rattle.world.specs.World.{WithGlass}
@@ -44,7 +42,7 @@ under_way_kept d e display clock power until current u =
     }
 
 -- BUSY stays high before its time
-stays_high : (until : Deadline) (bus : Bus) (moment n : ℕ) → until ≡ At n → moment < n → lowered until bus moment ≡ bus
+stays_high : (until : Option ℕ) (bus : Bus) (moment n : ℕ) → until ≡ Some n → moment < n → lowered until bus moment ≡ bus
 stays_high until bus moment n e h = rw (e, lt-leb n moment h)
 
 -- a running display that is not over
@@ -86,6 +84,6 @@ module _ (luts : List ℕ) (time : ℕ) (g : WithGlass) (due : Due g.device) whe
   held_advanced = by (is_over moved.device) refl
     where
       by : (b : Bool) → is_over moved.device ≡ b
-          → Held (quieted (pick b (glass_published moved (finished (ending_of moved.device moved.device.display.ends Whole) luts (glass_of moved))) moved)).device
+          → Held (quieted (pick b (glass_published moved (finished (ending_of moved.device moved.device.display.ends None) luts (glass_of moved))) moved)).device
       by true e = held_still _ refl
       by false e = still_due e

@@ -1,4 +1,5 @@
 -- Every call keeps BUSY high to the end of a running display; what that says of `is_busy` and of the next deadline. Assumes nothing.
+use Rattle.std.specs.Prelude.{Some}
 use Prim.Native.Nat.{ℕ, ◌≤◌, ◌<◌, min}
 use mathlib.Core.Path.{◌≡◌, refl, sym, ap, ◌∙◌}
 use mathlib.Core.Bool.{Bool, true, false}
@@ -9,7 +10,6 @@ use Rattle.config.specs.declared.Ssd1677Config.{Ssd1677Config}
 use Rattle.diagnostic.specs.declared.DiagnosticKind.TheVariants.{ResetDuringDisplay}
 use Rattle.panel.specs.declared.Display.{Display}
 use Rattle.device.specs.declared.Current.{Current}
-use Rattle.device.specs.declared.Deadline.TheVariants.{At}
 use Rattle.device.specs.declared.Power.{Power}
 use Rattle.device.specs.declared.Power.TheVariants.{Running, Asleep, InReset}
 use Rattle.device.specs.declared.Ssd1677.{Ssd1677}
@@ -139,12 +139,12 @@ module _ (d : Ssd1677) (u : UnderWay d) where
 
   module _ (run : d.display.running ≡ true) where
     -- the next deadline is that end
-    pub deadline_at_end : deadline_of d ≡ At d.display.ends
+    pub deadline_at_end : deadline_of d ≡ Some d.display.ends
     unfolding deadline_of display_end earlier
     deadline_at_end =
         let l = u.to_its_end in
         let first : min d.display.ends u.until ≡ d.display.ends = omega arith in
         rw (run, u.busy, first)
 
-    pub deadline_not_after : (n : ℕ) → deadline_of d ≡ At n → n ≤ d.display.ends
+    pub deadline_not_after : (n : ℕ) → deadline_of d ≡ Some n → n ≤ d.display.ends
     deadline_not_after n e = let a = deadline_at_end in let same : n ≡ d.display.ends = cc in omega arith

@@ -1,4 +1,5 @@
 -- Every call leaves a sound state and sound buffers: 13, 11, 15 and 12 refuse no later call. Assumes nothing.
+use Rattle.std.specs.Prelude.{Some}
 use Prim.Native.Nat.{ℕ, zero-le, ◌≤◌}
 use mathlib.Core.Path.{◌≡◌, refl, sym, ap, subst, ◌∙◌}
 use mathlib.Core.Bool.{Bool, true}
@@ -11,7 +12,6 @@ use Rattle.device.specs.declared.Current.{Current}
 use Rattle.device.specs.declared.Current.TheVariants.{Ignoring, Active}
 use Rattle.world.specs.World.{World, with_log, WithGlass, with_glass_log, with_ram, with_buffers, lent_of, glass_in_world}
 use Rattle.registers.proofs.Bounds.{Bounded}
-use Rattle.guard_lengths.specs.declared.LentLength.TheVariants.{Of}
 use Rattle.guard_kinds.specs.Kinds.{current_fine}
 use Rattle.clock.specs.Advance.{Ready, advanced}
 use Rattle.chip.specs.Close.{closed}
@@ -68,8 +68,8 @@ module _ (otp : List ℕ) (w : World) (s : Sound otp w) where
   -- what finishing a display asks
   ready : Ready w.device w.states w.luts w.picture.pixels w.picture.counts
   ready =
-      ready_fine w.device w.states w.luts w.picture.pixels w.picture.counts (Of (length w.log)) (Of (length w.black_white)) (Of (length w.red))
-      (Of (length w.gates)) s.state s.lengths (sound_long otp w s).counts
+      ready_fine w.device w.states w.luts w.picture.pixels w.picture.counts (Some (length w.log)) (Some (length w.black_white)) (Some (length w.red))
+      (Some (length w.gates)) s.state s.lengths (sound_long otp w s).counts
 
   module _ (time : ℕ) where
     -- the clock has moved

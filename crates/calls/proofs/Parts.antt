@@ -1,4 +1,5 @@
 -- What 13, 11 and 15 ask of a device and its buffers, part by part, and all of it again from the parts. Assumes nothing.
+use Rattle.std.specs.Prelude.{Option, Some}
 use Prim.Native.Nat.{ℕ, ◌≤◌}
 use mathlib.Core.Path.{◌≡◌, refl, sym, ap, ◌∙◌}
 use mathlib.Core.Bool.{true, false}
@@ -11,8 +12,6 @@ use Rattle.otp.specs.Table.{bad_table}
 use Rattle.device.specs.declared.Ssd1677.{Ssd1677}
 use Rattle.world.specs.World.{World}
 use Rattle.registers.proofs.Bounds.{Bounded}
-use Rattle.guard_lengths.specs.declared.LentLength.{LentLength}
-use Rattle.guard_lengths.specs.declared.LentLength.TheVariants.{Of}
 use Rattle.guard_kinds.specs.Kinds.{current_fine}
 use Rattle.guard_lengths.specs.Lengths.{plane_bytes, log_bytes, pixels_of, fits, lengths_fit, counts_fit, lengths_of}
 use Rattle.guard_state.specs.State.{panel_fine, swing_fine, periods_fine, registers_fine, count_fine, frequency_fine, state_fine}
@@ -94,21 +93,21 @@ long_parts p w e counted =
     }
 
 -- the lengths of buffers, each lent or not
-pub lengths_pass : (p : PanelGeometry) (s u x n : ℕ) (g b r o : LentLength) → s ≡ pixels_of p → u ≡ pixels_of p → x ≡ pixels_of p
+pub lengths_pass : (p : PanelGeometry) (s u x n : ℕ) (g b r o : Option ℕ) → s ≡ pixels_of p → u ≡ pixels_of p → x ≡ pixels_of p
     → fits g log_bytes ≡ true → fits b plane_bytes ≡ true → fits r plane_bytes ≡ true → fits o p.height ≡ true
     → lengths_fit p (lengths_of s u x n g b r o) ≡ true
 unfolding lengths_fit
 lengths_pass p s u x n g b r o e f h i j k l =
     rw (eq-eqb s (pixels_of p) e, eq-eqb u (pixels_of p) f, eq-eqb x (pixels_of p) h, i, j, k, l)
 
-pub has : (n size : ℕ) → n ≡ size → fits (Of n) size ≡ true
+pub has : (n size : ℕ) → n ≡ size → fits (Some n) size ≡ true
 unfolding fits
 has n size e = eq-eqb n size e
 
 pub long_passes : (p : PanelGeometry) (w : World) → Long p w → lengths_fit p (lengths_in_world w) ≡ true
 long_passes p w l =
-    lengths_pass p (length w.states) (length w.luts) (length w.picture.pixels) (length w.picture.counts) (Of (length w.log)) (Of (length w.black_white))
-    (Of (length w.red)) (Of (length w.gates)) l.states l.luts l.pixels (has (length w.log) log_bytes l.log)
+    lengths_pass p (length w.states) (length w.luts) (length w.picture.pixels) (length w.picture.counts) (Some (length w.log)) (Some (length w.black_white))
+    (Some (length w.red)) (Some (length w.gates)) l.states l.luts l.pixels (has (length w.log) log_bytes l.log)
     (has (length w.black_white) plane_bytes l.black_white) (has (length w.red) plane_bytes l.red)
     (has (length w.gates) p.height l.gates)
 

@@ -1,15 +1,14 @@
 -- From an accepted start on, whatever calls came, each with what the call before it left: no further call is refused, and BUSY is high to
 -- the end of a running display. Assumes nothing.
+use Rattle.std.specs.Prelude.{Some, Ok}
 use Prim.Native.Nat.{ℕ, ◌<◌}
 use mathlib.Core.Path.{◌≡◌, sym, ap, subst, ◌∙◌}
 use mathlib.Core.Bool.{true, false}
 use mathlib.Core.List.{List, [], ◌∷◌}
 use Rattle.config.specs.declared.Ssd1677Config.{Ssd1677Config}
 use Rattle.config.specs.Answer.{is_accepted}
-use Rattle.device.specs.declared.Deadline.TheVariants.{At}
 use Rattle.world.specs.World.{World}
 use Rattle.busy.specs.Busy.{busy_at, deadline_of}
-use Rattle.guard.specs.declared.Refusal.TheVariants.{Accepted}
 use Rattle.query.specs.Outcome.{Outcome, outcome, state_guarded}
 use Rattle.power_on.specs.Start.{Buffers, started, world_of}
 use Rattle.calls.specs.World.{Call, set_reset, called, taken, left_by, AllTyped}
@@ -51,7 +50,7 @@ module _ (c : Ssd1677Config) (otp : List ℕ) (b : Buffers) (accepts : is_accept
   never_refused call = accepted_takes otp present run_kept.sound call
 
   -- nor is a question (is_busy, busy_pin, next_deadline, config, panel_image, dropped_diagnostics): 13 accepts the state
-  pub never_refused_asking : state_guarded present.device ≡ Accepted
+  pub never_refused_asking : state_guarded present.device ≡ Ok tt
   never_refused_asking = state_passes present.device run_kept.sound.state
 
   -- after a call that asserts RES# no refresh is under way
@@ -65,5 +64,5 @@ module _ (c : Ssd1677Config) (otp : List ℕ) (b : Buffers) (accepts : is_accept
     busy_while_running t h = busy_to_end present.device (run_kept.held run) t h
 
     -- and the next deadline is that end
-    pub deadline_while_running : deadline_of present.device ≡ At present.device.display.ends
+    pub deadline_while_running : deadline_of present.device ≡ Some present.device.display.ends
     deadline_while_running = deadline_at_end present.device (run_kept.held run) run

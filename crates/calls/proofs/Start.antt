@@ -1,5 +1,6 @@
 -- An accepted start leaves a sound state and sound buffers; the state that a refused one hands back, every call refuses with 13.
 -- Assumes nothing.
+use Rattle.std.specs.Prelude.{Result, Err}
 use Prim.Native.Nat.{ℕ, zero-le, ◌≤◌}
 use mathlib.Core.Path.{◌≡◌, refl, sym, ap, subst, ◌∙◌}
 use mathlib.Core.Bool.{true, false}
@@ -104,18 +105,18 @@ module _ (c : Ssd1677Config) (otp : List ℕ) (b : Buffers) where
   refused_start h = rw h (unstarted_refused c)
 
 -- ---- 13 refuses every call
-refused_13 : {A : Type 0} (r : Refusal) (given done : A) → r ≡ State → unless r given done ≡ outcome 13 given
+refused_13 : {A : Type 0} (r : Result Unit Refusal) (given done : A) → r ≡ Err State → unless r given done ≡ outcome 13 given
 refused_13 r given done e = rw e
 
-alone_refuses : (d : Ssd1677) → state_fine d ≡ false → state_guarded d ≡ State
+alone_refuses : (d : Ssd1677) → state_fine d ≡ false → state_guarded d ≡ Err State
 unfolding state_guarded
 alone_refuses d e = rw e
 
-two_refuse : (d : Ssd1677) (l : Lengths) → state_fine d ≡ false → guarded d l ≡ State
+two_refuse : (d : Ssd1677) (l : Lengths) → state_fine d ≡ false → guarded d l ≡ Err State
 unfolding guarded
 two_refuse d l e = rw e
 
-three_refuse : (d : Ssd1677) (l : Lengths) (otp : List ℕ) → state_fine d ≡ false → guarded_with_table d l otp ≡ State
+three_refuse : (d : Ssd1677) (l : Lengths) (otp : List ℕ) → state_fine d ≡ false → guarded_with_table d l otp ≡ Err State
 unfolding guarded_with_table
 three_refuse d l otp e = rw e
 
@@ -134,7 +135,7 @@ unfine_refused otp w e take_diagnostics =
 
 -- what a refused start hands back, 13 refuses also where it is only asked (is_busy, busy_pin, next_deadline, config, panel_image,
 -- dropped_diagnostics)
-pub unstarted_refuses : (c : Ssd1677Config) → state_guarded (unstarted c) ≡ State
+pub unstarted_refuses : (c : Ssd1677Config) → state_guarded (unstarted c) ≡ Err State
 unstarted_refuses c = alone_refuses (unstarted c) (unstarted_refused c)
 
 -- and so does every call with what a refused start left, whatever table it is lent

@@ -1,9 +1,8 @@
 -- What every call keeps from an accepted start on: nothing is refused on the way; a running refresh keeps BUSY to its end.
-use Rattle.std.specs.Prelude.{ℕ, ◌≤◌, ◌<◌, ◌≡◌, Bool, true, false, List, eqb, length}
+use Rattle.std.specs.Prelude.{ℕ, ◌≤◌, ◌<◌, ◌≡◌, Bool, true, false, List, eqb, length, Some}
 use Rattle.otp.specs.Table.{bad_table}
 use Rattle.device.specs.declared.Current.{Current}
 use Rattle.device.specs.declared.Current.TheVariants.{Idle, Ignoring, Active}
-use Rattle.device.specs.declared.Deadline.TheVariants.{At}
 use Rattle.device.specs.declared.Kind.{Kind}
 use Rattle.device.specs.declared.Kind.TheVariants.{Write, Read, Unsupported, Reserved}
 use Rattle.device.specs.declared.Params.TheVariants.{Exactly, Between, Stream}
@@ -44,7 +43,7 @@ inert (Active a) = takes_none a.kind
 -- a refresh under way: the chip runs, the clock is before its end, and BUSY is high at least to that end
 pub record UnderWay (d : Ssd1677) : Type 0 where
   pub until : ℕ
-  pub busy : d.bus.busy_until ≡ At until
+  pub busy : d.bus.busy_until ≡ Some until
   pub to_its_end : d.display.ends ≤ until
   pub before_its_end : d.now < d.display.ends
   pub runs : d.bus.power ≡ Running

@@ -1,5 +1,4 @@
 // The sixteen frame periods among the arguments.
-use column::read::Column;
 use std::env::{Env, FillError};
 use std::io;
 
@@ -7,17 +6,17 @@ use std::io;
 const DIGITS: usize = 20;
 
 // Blanks in front are taken, up to 20 bytes in all. Argument 0 is the program's own name.
-fn period(rt: &impl Env, argument: usize) -> Column {
+fn period(rt: &impl Env, argument: usize) -> Option<u64> {
     let mut text = [0u8; DIGITS];
     let Ok(length) = rt.arg(argument, &mut text) else {
-        return Column::Other;
+        return None;
     };
     column::read::number(&text[..length])
 }
 
 fn take_all(rt: &(impl Env + Print + Eprint), frame_period: &mut [u64; 16]) -> io::Result<bool> {
     for code in 0..16 {
-        let Column::Number(ns) = period(rt, code + 1) else {
+        let Some(ns) = period(rt, code + 1) else {
             crate::say::bad_period(rt, code)?;
             return Ok(false);
         };

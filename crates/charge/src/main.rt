@@ -7,7 +7,7 @@ mod say;
 
 ghost use Rattle.std.specs.Prelude.{◌≤◌, length};
 
-use charges::{LINE_BYTES, Reported};
+use charges::{ChargeError, LINE_BYTES};
 use config::Ssd1677Timing;
 use full_read::read_full;
 use otp::{ENTRY_BYTES, MOST_ENTRIES};
@@ -46,10 +46,10 @@ fn answer(
     lines: &mut [u8],
 ) -> io::Result<()> {
     match charges::report(frame_period, table, lines) {
-        Reported::Written => write_lines(rt, lines),
-        Reported::Refused(error) => say::refused(rt, error, table),
-        Reported::LongPeriod => say::long_period(rt, frame_period),
-        Reported::OtherLength => say::refusal(rt, 11),
+        Ok(()) => write_lines(rt, lines),
+        Err(ChargeError::Parameters(error)) => say::refused(rt, error, table),
+        Err(ChargeError::LongPeriod) => say::long_period(rt, frame_period),
+        Err(ChargeError::OtherLength) => say::refusal(rt, 11),
     }
 }
 

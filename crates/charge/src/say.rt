@@ -41,17 +41,10 @@ pub fn bad_period(rt: &(impl Print + Eprint), code: usize) -> io::Result<()> {
 
 // The first entry that 12 refuses; each is a table by itself.
 fn first_bad(table: &[u8]) -> usize {
-    let entries = table.len() / ENTRY_BYTES;
-    let mut entry: usize = 0;
-    while entry < entries {
-        let at = ENTRY_BYTES * entry;
-        let end = at + ENTRY_BYTES;
-        if otp::is_bad_table(&table[at..end]) {
-            return entry;
-        }
-        entry += 1;
-    }
-    entry
+    table
+        .chunks_exact(ENTRY_BYTES)
+        .position(|entry| otp::is_bad_table(entry))
+        .unwrap_or(table.len() / ENTRY_BYTES)
 }
 
 fn bad_table(rt: &(impl Print + Eprint), table: &[u8]) -> io::Result<()> {
@@ -87,15 +80,12 @@ pub fn refused(rt: &(impl Print + Eprint), error: ConfigError, table: &[u8]) -> 
     }
 }
 
+// The first code whose period 81 refuses; the last where none before it is.
 fn first_long(frame_period: [u64; 16]) -> usize {
-    let mut code: usize = 0;
-    while code < 15 {
-        if charges::LONGEST_PERIOD < frame_period[code] {
-            return code;
-        }
-        code += 1;
-    }
-    code
+    frame_period
+        .iter()
+        .position(|ns| charges::LONGEST_PERIOD < *ns)
+        .unwrap_or(15)
 }
 
 pub fn long_period(rt: &(impl Print + Eprint), frame_period: [u64; 16]) -> io::Result<()> {

@@ -1,7 +1,7 @@
 -- A text that fills its buffer, periods that 81 lets pass, and what a call leaves where it is refused and where it is not.
 -- Assumes nothing.
 use mathlib.Core.Path.{◌≡◌, refl, sym, ap, ◌∙◌}
-use mathlib.Core.Bool.{Bool, true, false, not, ◌||◌}
+use mathlib.Core.Bool.{Bool, true, false, ◌||◌}
 use mathlib.Core.List.{List, [], ◌∷◌, ◌++◌, append-nil}
 use Prim.Native.Nat.{ℕ, zero, suc, ◌<◌}
 use native.Mathlib.Nat.{not-suc-le-zero, le_of_suc-le-suc, eq-or-lt_of_le}
@@ -12,12 +12,14 @@ use lib.ListN.{length, get_or, drop}
 use lib.Seq.{drop-length}
 use borrow.Author.Tests.{ltb-false}
 use Rattle.numbers.proofs.Cases.{took, passed}
-use Rattle.config.specs.Answer.{Answer, accepted, refused, is_accepted, Test, first_of}
-use Rattle.config.proofs.Answers.{refuses, passes, none_left, stops, goes_on}
+use Rattle.std.specs.Prelude.{Ok, Err}
+use Rattle.config.specs.declared.ConfigError.{ConfigError}
+use Rattle.config.specs.Answer.{Answer, accepted, refused, is_accepted, Test, first_of, refused_by, answer_of}
+use Rattle.config.proofs.Answers.{refuses, passes, none_left, stops_at, goes_past, ok_accepted}
 use Rattle.otp.specs.Search.{any_of}
 use Rattle.column.specs.Columns.{Buffer, buffer, appended}
 use Rattle.column.proofs.Appended.{fronted}
-use Rattle.charges.specs.Charge.{longest_period, long_period_test, AllShort, with_answer, tested, as_refusal}
+use Rattle.charges.specs.Charge.{longest_period, long_period_test, AllShort, with_answer, tested}
 
 -- a text from the buffer's front to its end
 pub filled : (text before : List ℕ) {at : ℕ} {now : List ℕ} → buffer at now ≡ appended (buffer 0 before) text → at ≡ length before → now ≡ text
@@ -46,19 +48,6 @@ pub none_long : (periods : List ℕ) → (long_period_test periods).refuses ≡ 
 none_long periods e code h = ltb-false longest_period (get_or periods code 0) (none_passes (λ k. ltb longest_period (get_or periods k 0)) 16 e code h)
 
 -- ---- the answer of the first tests, then 81 and 11: what a call leaves where one of them refuses it, and where none does
-pub turned : (b : Bool) → not b ≡ true → b ≡ false
-turned true e = sym e
-turned false e = refl
-
-pub unturned : (b : Bool) → not b ≡ false → b ≡ true
-unturned true e = refl
-unturned false e = sym e
-
--- what is refused is told as it is
-still_refused : (x : Answer) → is_accepted x ≡ false → as_refusal x ≡ x
-still_refused accepted h = absurd (let z : ◌≡◌ {A = ℕ} 0 1 = cc in omega arith)
-still_refused (refused n v) h = refl
-
 module _ {A : Type 0} (tests : List Test) (before done : A) where
   left_alone : (x : Answer) → x ≡ first_of tests → is_accepted x ≡ false → with_answer x before ≡ tested tests before done
   unfolding tested
@@ -68,16 +57,15 @@ module _ {A : Type 0} (tests : List Test) (before done : A) where
   unfolding tested
   does {now} e t = λ i. with_answer (e i) (took _ done before now (ap is_accepted (sym e)) t i)
 
-module _ {A : Type 0} (first : List Test) (long lent : Test) (before done : A) {x : Answer} (e : x ≡ first_of first) where
-  pub at_first : not (is_accepted x) ≡ true → with_answer (as_refusal x) before ≡ tested (first ++ long ∷ lent ∷ []) before done
-  at_first h =
-      let no : is_accepted x ≡ false = turned _ h in
-      let same = still_refused x no in
-      left_alone _ before done (as_refusal x) (same ∙ stops first (long ∷ lent ∷ []) x e no) (ap is_accepted same ∙ no)
+module _ {A : Type 0} (B : Type 0) (first : List Test) (long lent : Test) (before done : A) where
+  pub at_first : (error : ConfigError) → answer_of {A = B} (Err error) ≡ first_of first → with_answer (refused_by error) before ≡ tested (first ++ long ∷ lent ∷ []) before done
+  unfolding answer_of
+  at_first error e =
+      left_alone _ before done (refused_by error) (stops_at B B first (long ∷ lent ∷ []) error e) (sym (ok_accepted B (Err error)))
 
-  module _ (passes-first : not (is_accepted x) ≡ false) where
+  module _ (value : B) (e : answer_of (Ok value) ≡ first_of first) where
     on : (y : Answer) → y ≡ first_of (long ∷ lent ∷ []) → y ≡ first_of (first ++ long ∷ lent ∷ [])
-    on y = goes_on first (long ∷ lent ∷ []) x y e (unturned _ passes-first)
+    on y = goes_past value first (long ∷ lent ∷ []) y e
 
     pub at_long : long.refuses ≡ true → with_answer (refused long.number long.value) before ≡ tested (first ++ long ∷ lent ∷ []) before done
     at_long h = left_alone _ before done _ (on _ (refuses long (lent ∷ []) _ h refl)) refl

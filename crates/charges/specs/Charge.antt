@@ -1,5 +1,5 @@
 -- The charge that a waveform leaves in the glass (SCOPE, Charge): the signed sum of its drives, in millivolts × nanoseconds.
-use Rattle.std.specs.Prelude.{false, List, [], ◌∷◌, ℕ, ◌≤◌, ◌<◌, ltb, ℤ, pos, nat_abs, ◌+ℤ◌, length, get_or}
+use Rattle.std.specs.Prelude.{false, List, [], ◌∷◌, ℕ, ◌≤◌, ◌<◌, ltb, ℤ, pos, nat_abs, ◌+ℤ◌, length, get_or, Result, Ok, Err}
 use Rattle.numbers.specs.Choice.{pick}
 use Rattle.waveform.specs.declared.Drive.TheVariants.{Lut}
 use Rattle.waveform.specs.declared.Group.{Group}
@@ -8,11 +8,11 @@ use Rattle.waveform.specs.declared.Waveform.{Waveform}
 use Rattle.waveform.specs.Voltages.{AllListable}
 use Rattle.waveform.specs.Phases.{no_group}
 use Rattle.waveform.specs.Exact.{all_drives, setting_phases}
-use Rattle.config.specs.Answer.{Answer, accepted, refused, is_accepted, Test, first_of, answer_of}
+use Rattle.config.specs.Answer.{Answer, accepted, refused, is_accepted, Test, first_of, refused_by}
 use Rattle.config.specs.Tests.{periods_test, lent_test}
 use Rattle.otp.specs.Search.{any_of}
-use Rattle.charges.specs.declared.Charged.{Charged}
-use Rattle.charges.specs.declared.Charged.TheVariants.{Sum, Refused, LongPeriod, OtherLength}
+use Rattle.charges.specs.declared.ChargeError.{ChargeError}
+use Rattle.charges.specs.declared.ChargeError.TheVariants.{Parameters, LongPeriod, OtherLength}
 use Rattle.charges.specs.declared.PixelLut.{PixelLut}
 use Rattle.charges.specs.declared.PixelLut.TheVariants.{Lut0, Lut1, Lut2, Lut3}
 
@@ -50,10 +50,11 @@ with_answer answer held = record { answer = answer; held = held }
 unfoldable pub tested : {A : Type 0} → List Test → A → A → WithAnswer A
 tested tests before done = with_answer (first_of tests) (pick (is_accepted (first_of tests)) done before)
 
--- the answer of an error that is told as a refusal: no test has the number 0, so that to tell `Accepted` as one meets no contract
-abbrev pub as_refusal : Answer → Answer
-as_refusal accepted = refused 0 0
-as_refusal (refused number value) = refused number value
+-- the number and the value of each error
+unfoldable pub charge_refusal : ChargeError → Answer
+charge_refusal (Parameters error) = refused_by error
+charge_refusal LongPeriod = refused 81 0
+charge_refusal OtherLength = refused 11 0
 
 -- ---- one sum
 
@@ -65,11 +66,9 @@ lut_number Lut2 = 2
 lut_number Lut3 = 3
 
 -- the number, the value and the sum of each case; a refusal has the sum 0
-unfoldable pub charged_of : Charged → WithAnswer ℤ
-charged_of (Sum z) = with_answer accepted z
-charged_of (Refused error) = with_answer (as_refusal (answer_of error)) (pos 0)
-charged_of LongPeriod = with_answer (refused 81 0) (pos 0)
-charged_of OtherLength = with_answer (refused 11 0) (pos 0)
+unfoldable pub charged_of : Result ℤ ChargeError → WithAnswer ℤ
+charged_of (Ok z) = with_answer accepted z
+charged_of (Err error) = with_answer (charge_refusal error) (pos 0)
 
 -- 5, 81, 11
 abbrev pub charge_tests : List ℕ → List ℕ → List Test

@@ -1,13 +1,12 @@
 -- The report of the charge that each waveform of a table leaves in the glass (SCOPE, Charge).
-use Rattle.std.specs.Prelude.{List, [], ◌∷◌, ◌++◌, ℕ, ◌+◌, ◌*◌, ℤ, length, take, drop}
+use Rattle.std.specs.Prelude.{List, [], ◌∷◌, ◌++◌, ℕ, ◌+◌, ◌*◌, ℤ, length, take, drop, Result, Ok, Err}
 use Rattle.waveform.specs.Phases.{joined}
-use Rattle.config.specs.Answer.{Answer, accepted, refused, Test, answer_of}
+use Rattle.config.specs.Answer.{Answer, accepted, Test}
 use Rattle.config.specs.Tests.{periods_test, lent_test}
 use Rattle.otp.specs.Table.{entry_bytes, entry_count, table_test}
 use Rattle.column.specs.Columns.{natural, whole, line_end}
-use Rattle.charges.specs.Charge.{charge_of, long_period_test, as_refusal}
-use Rattle.charges.specs.declared.Reported.{Reported}
-use Rattle.charges.specs.declared.Reported.TheVariants.{Written, Refused, LongPeriod, OtherLength}
+use Rattle.charges.specs.Charge.{charge_of, long_period_test, charge_refusal}
+use Rattle.charges.specs.declared.ChargeError.{ChargeError}
 
 -- the 112 setting bytes of an entry, from its byte 6 on (SCOPE, OTP table)
 abbrev pub setting_bytes : List ℕ → ℕ → List ℕ
@@ -34,8 +33,6 @@ abbrev pub report_tests : List ℕ → List ℕ → List ℕ → List Test
 report_tests periods otp out = periods_test periods ∷ table_test otp ∷ long_period_test periods ∷ lent_test (length out) (charge_line_bytes * entry_count otp) ∷ []
 
 -- the number and the value of each case
-unfoldable pub reported_of : Reported → Answer
-reported_of Written = accepted
-reported_of (Refused error) = as_refusal (answer_of error)
-reported_of LongPeriod = refused 81 0
-reported_of OtherLength = refused 11 0
+unfoldable pub reported_of : {A : Type 0} → Result A ChargeError → Answer
+reported_of (Ok value) = accepted
+reported_of (Err error) = charge_refusal error

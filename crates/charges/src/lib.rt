@@ -8,6 +8,7 @@ ghost use Rattle.std.specs.Prelude.{◌≡◌, [], ◌∷◌, ◌*◌, pos, leng
 ghost use Rattle.config.specs.Answer.{first_of, answer_of};
 ghost use Rattle.config.specs.Tests.{periods_test};
 ghost use Rattle.otp.specs.Table.{entry_count, table_test};
+ghost use Rattle.charges.specs.declared.ChargeError.TheVariants.{Parameters};
 ghost use Rattle.charges.specs.Charge.{charge_of, long_period_test, with_answer, tested, lut_number, charged_of, charge_tests, AllShort};
 ghost use Rattle.charges.specs.Report.{charge_text, charge_line_bytes, report_tests, reported_of};
 
@@ -32,30 +33,23 @@ pub enum PixelLut {
     Lut3,
 }
 
-// What is answered of one sum.
+// What refuses a sum or a report.
 #[derive(Clone, Copy)]
-pub enum Charged {
-    // In millivolts × nanoseconds.
-    Sum(i64),
-    // 5.
-    Refused(ConfigError),
+pub enum ChargeError {
+    // 5 or 12.
+    Parameters(ConfigError),
     // 81: a frame period above 100,000,000 ns.
     LongPeriod,
-    // 11: the setting is not 112 bytes long.
+    // 11: the setting is not 112 bytes long, or the buffer has another length than the lines.
     OtherLength,
 }
 
-// What a report answers.
-#[derive(Clone, Copy)]
-pub enum Reported {
-    // The lines fill the buffer.
-    Written,
-    // 5 or 12.
-    Refused(ConfigError),
-    // 81: a frame period above 100,000,000 ns.
-    LongPeriod,
-    // 11: the buffer has another length than the lines.
-    OtherLength,
+impl From<ConfigError> for ChargeError {
+    ghost from_gives = { λ error made. made ≡ Parameters error };
+
+    fn from(error: ConfigError) -> ChargeError {
+        ChargeError::Parameters(error)
+    }
 }
 
 fn number_of(lut: PixelLut) -> usize
@@ -73,44 +67,33 @@ fn has_long_period(frame_period: [u64; 16]) -> bool
     ensures { result ≡ (long_period_test frame_period).refuses }
 {
     let mut long = false;
-    let mut code: usize = 0;
-    while code < 16 {
+    for code in 0..16 {
         long = long | (LONGEST_PERIOD < frame_period[code]);
-        code += 1;
     }
     long
 }
 
 // 5, then 12.
-fn parameters_error(frame_period: [u64; 16], otp: &[u8]) -> ConfigError
+fn check_parameters(frame_period: [u64; 16], otp: &[u8]) -> Result<(), ConfigError>
     ensures { answer_of result ≡ first_of (periods_test frame_period ∷ table_test otp.now ∷ []) }
 {
-    let periods = config::periods_error(frame_period);
-    if config::is_accepted(periods) {
-        return otp::table_error(otp);
-    }
-    periods
+    config::check_periods(frame_period)?;
+    otp::check_table(otp)
 }
 
-// The charge that one LUT of a setting leaves. An unlisted source voltage counts as 0.
-pub fn charge(frame_period: [u64; 16], setting: &[u8], lut: PixelLut) -> Charged
+// The charge that one LUT of a setting leaves, in millivolts × nanoseconds. An unlisted source voltage counts as 0.
+pub fn charge(frame_period: [u64; 16], setting: &[u8], lut: PixelLut) -> Result<i64, ChargeError>
     ensures { charged_of result ≡ tested (charge_tests frame_period setting.now) (pos 0) (charge_of setting.now frame_period (lut_number lut)) }
 {
-    let error = config::periods_error(frame_period);
-    let accepted = config::is_accepted(error);
-    let long = has_long_period(frame_period);
-    let other = setting.len() != SETTING_BYTES;
-    if !accepted {
-        return Charged::Refused(error);
+    config::check_periods(frame_period)?;
+    if has_long_period(frame_period) {
+        return Err(ChargeError::LongPeriod);
     }
-    if long {
-        return Charged::LongPeriod;
-    }
-    if other {
-        return Charged::OtherLength;
+    if setting.len() != SETTING_BYTES {
+        return Err(ChargeError::OtherLength);
     }
     let waveform = sum::waveform_of(setting, &frame_period);
-    Charged::Sum(sum::charge_of(waveform, number_of(lut)))
+    Ok(sum::charge_of(waveform, number_of(lut)))
 }
 
 // The lines of all entries, which fill `out`.
@@ -121,33 +104,27 @@ fn put_text(out: &mut [u8], otp: &[u8], frame_period: &[u64; 16])
 {
     let entries = otp.len() / ENTRY_BYTES;
     let mut at: usize = 0;
-    let mut entry: usize = 0;
-    while entry < entries {
+    for entry in 0..entries {
         let from = ENTRY_BYTES * entry + 6;
         let end = from + SETTING_BYTES;
         at = line::put_line(out, at, &otp[from..end], entry, frame_period);
-        entry += 1;
     }
 }
 
 // Fills `out` with a line for each entry of the table: its number and the charge of LUT 0 to 3, in millivolts × nanoseconds. An unlisted
 // source voltage counts as 0. Refused, `out` stays as it is.
-pub fn report(frame_period: [u64; 16], otp: &[u8], out: &mut [u8]) -> Reported
+pub fn report(frame_period: [u64; 16], otp: &[u8], out: &mut [u8]) -> Result<(), ChargeError>
     ensures { with_answer (reported_of result) out.new ≡ tested (report_tests frame_period otp.now out.old) out.old (charge_text frame_period otp.now) }
 {
-    let error = parameters_error(frame_period, otp);
-    let accepted = config::is_accepted(error);
+    check_parameters(frame_period, otp)?;
     let long_period = has_long_period(frame_period);
     let other_length = out.len() != LINE_BYTES * (otp.len() / ENTRY_BYTES);
-    if !accepted {
-        return Reported::Refused(error);
-    }
     if long_period {
-        return Reported::LongPeriod;
+        return Err(ChargeError::LongPeriod);
     }
     if other_length {
-        return Reported::OtherLength;
+        return Err(ChargeError::OtherLength);
     }
     put_text(out, otp, &frame_period);
-    Reported::Written
+    Ok(())
 }

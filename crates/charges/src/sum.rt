@@ -37,10 +37,8 @@ fn pass_charge(driving: Driving, group: Group) -> i64
     ensures { result ≡ drive_sum (four_in driving group) }
 {
     let mut sum: i64 = 0;
-    let mut phase: usize = 0;
-    while phase < 4 {
+    for phase in 0..4 {
         sum += drive_at(driving, group, phase);
-        phase += 1;
     }
     sum
 }
@@ -79,11 +77,9 @@ pub(crate) fn charge_of(waveform: Waveform, lut: usize) -> i64
         positive_drives_black: false,
     };
     let mut sum: i64 = 0;
-    let mut k: usize = 0;
-    while k < 10 {
+    for k in 0..10 {
         let group = waveform.groups[k];
         sum += group_charge(driving, group);
-        k += 1;
     }
     sum
 }

@@ -1,11 +1,11 @@
 -- The clock's move, part by part: what it leaves of a state as it was, and the length of the states. Assumes nothing.
+use Rattle.std.specs.Prelude.{None}
 use Prim.Native.Nat.{ℕ}
 use mathlib.Core.Path.{◌≡◌, refl, ◌∙◌}
 use mathlib.Core.Bool.{Bool, true, false}
 use mathlib.Core.List.{List}
 use lib.ListN.{length}
 use Rattle.numbers.specs.Choice.{pick}
-use Rattle.waveform.specs.declared.Until.TheVariants.{Whole}
 use Rattle.panel.specs.Finish.{finished}
 use Rattle.panel.specs.Finish as glass
 use Rattle.panel_laws.proofs.Exactly.{states_length}
@@ -15,11 +15,11 @@ use Rattle.clock.specs.Advance.{ending_of, glass_of, glass_published, is_over, e
 
 -- what the end of a display leaves, whether it has come or not
 ended_leaves : {A : Type 0} (f : WithGlass → A) (luts : List ℕ) (g : WithGlass)
-    → f (glass_published g (finished (ending_of g.device g.device.display.ends Whole) luts (glass_of g))) ≡ f g → f (ended luts g) ≡ f g
+    → f (glass_published g (finished (ending_of g.device g.device.display.ends None) luts (glass_of g))) ≡ f g → f (ended luts g) ≡ f g
 unfolding ended
 ended_leaves f luts g e = by (is_over g.device)
   where
-    by : (b : Bool) → f (pick b (glass_published g (finished (ending_of g.device g.device.display.ends Whole) luts (glass_of g))) g) ≡ f g
+    by : (b : Bool) → f (pick b (glass_published g (finished (ending_of g.device g.device.display.ends None) luts (glass_of g))) g) ≡ f g
     by true = e
     by false = refl
 

@@ -1,15 +1,14 @@
 -- What each return of the code hands over, over plain variables. Assumes nothing.
+use Rattle.std.specs.Prelude.{Option, None}
 use Prim.Native.Nat.{ℕ, max}
 use mathlib.Core.Path.{◌≡◌, refl, sym, ap, subst, ◌∙◌}
 use mathlib.Core.Bool.{Bool, true, false, ◌&&◌, not}
 use mathlib.Core.List.{List}
 use native.Mathlib.Omega.{arith}
-use Rattle.waveform.specs.declared.Until.TheVariants.{Whole}
 use Rattle.panel.specs.declared.Display.{Display}
 use Rattle.panel.specs.Finish.{Glass, finished}
 use Rattle.device.specs.declared.Ssd1677.{Ssd1677}
 use Rattle.device.specs.declared.Bus.{Bus}
-use Rattle.device.specs.declared.Deadline.{Deadline}
 use Rattle.device.specs.Parts.{with_now, with_bus}
 use Rattle.device.specs.Parts as part
 use Rattle.world.specs.World.{WithGlass, with_glass}
@@ -18,7 +17,7 @@ use Rattle.clock.specs.Advance.{stopped, ending_of, glass_of, is_over, is_quiet,
 
 module _ (luts : List ℕ) (g : WithGlass) where
   pub ends : (after : Glass) (off : Display) (r : Ssd1677) → is_over g.device ≡ true
-      → after ≡ finished (ending_of g.device g.device.display.ends Whole) luts (glass_of g)
+      → after ≡ finished (ending_of g.device g.device.display.ends None) luts (glass_of g)
       → off ≡ stopped g.device.display → r ≡ part.with_panel_and_display g.device after.panel off
       → with_glass r after.states after.picture ≡ ended luts g
   unfolding ended
@@ -35,7 +34,7 @@ neither false true e = absurd (let z : ◌≡◌ {A = ℕ} 0 1 = cc in omega ari
 neither false false e = (refl, refl)
 
 -- before its time BUSY does not fall
-still : (until : Deadline) (bus : Bus) (moment : ℕ) → has_come until moment ≡ false → lowered until bus moment ≡ bus
+still : (until : Option ℕ) (bus : Bus) (moment : ℕ) → has_come until moment ≡ false → lowered until bus moment ≡ bus
 still until bus moment h = rw h
 
 settled : (g : WithGlass) → has_come g.device.bus.busy_until g.device.now ≡ false → quieted g ≡ g

@@ -1,10 +1,8 @@
 -- What the clock's move does (mod.rs, `advance`; SCOPE, Time: time never goes back, the later clock counts).
-use Rattle.std.specs.Prelude.{ℕ, max, Bool, false, ◌&&◌, List, leb, ℤ}
+use Rattle.std.specs.Prelude.{ℕ, max, Bool, false, ◌&&◌, List, leb, ℤ, Option, None}
 use Rattle.numbers.specs.Choice.{pick}
-use Rattle.waveform.specs.declared.Until.TheVariants.{Whole}
 use Rattle.panel.specs.declared.Display.{Display}
 use Rattle.panel.specs.Finish.{Glass, glass, Ending, ending, Finishable, finished}
-use Rattle.waveform.specs.declared.Until.{Until}
 use Rattle.device.specs.declared.Ssd1677.{Ssd1677}
 use Rattle.device.specs.Parts.{with_now, with_bus}
 use Rattle.device.specs.Parts as part
@@ -20,7 +18,7 @@ abbrev pub stopped : Display → Display
 stopped d = record { running = false; started = d.started; ends = d.ends; kind = d.kind; setting = d.setting; border = d.border }
 
 -- the end of the running display at a moment, whole or cut
-abbrev pub ending_of : Ssd1677 → ℕ → Until → Ending
+abbrev pub ending_of : Ssd1677 → ℕ → Option ℕ → Ending
 ending_of d at until = ending d.display d.config.optics.positive_drives_black d.config.timing.frame_period at until
 
 -- the glass as the state has it
@@ -43,7 +41,7 @@ is_quiet d = quiet_at d.display.running d.display.ends d.bus.busy_until d.now
 unfoldable pub ended : List ℕ → WithGlass → WithGlass
 ended luts g =
     pick (is_over g.device)
-    (glass_published g (finished (ending_of g.device g.device.display.ends Whole) luts (glass_of g)))
+    (glass_published g (finished (ending_of g.device g.device.display.ends None) luts (glass_of g)))
     g
 
 -- BUSY, at the clock

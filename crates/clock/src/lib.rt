@@ -9,7 +9,6 @@ ghost use Rattle.clock.specs.Advance.{Ready, stopped, ended, is_quiet, advanced}
 
 use device::{Ssd1677, part};
 use panel::Display;
-use waveform::Until;
 
 // A display that has ended, been cut or been dropped.
 pub fn stop(display: Display) -> Display
@@ -44,7 +43,7 @@ fn end_display(
             optics.positive_drives_black,
             periods,
             display.ends,
-            Until::Whole,
+            None,
             &mut states[..],
             luts,
             &mut pixels[..],
@@ -60,7 +59,7 @@ fn end_display(
 pub fn move_clock(state: Ssd1677, time: u64) -> Ssd1677
     ensures { result ≡ with_now state (max state.«now» time) }
 {
-    let latest = numbers::max_u64(state.now, time);
+    let latest = state.now.max(time);
     part::set_now(state, latest)
 }
 

@@ -1,20 +1,22 @@
 -- Reading a column byte by byte, from the left, gives what the definition says; and a number that was written is read back. Assumes nothing.
+use Rattle.std.specs.Prelude.{Option, Some, None}
 use mathlib.Core.Path.{◌≡◌, refl, sym, ap, ◌∙◌}
 use mathlib.Core.Bool.{Bool, true, false, ◌&&◌}
-use mathlib.Core.List.{List, [], ◌∷◌, ◌++◌}
+use mathlib.Core.List.{List, [], ◌∷◌, ◌++◌, append_assoc}
 use Prim.Native.Nat.{ℕ, zero, suc, ◌+◌, ◌-◌, ◌*◌, ◌/◌, ◌%◌, ◌^◌, ◌<◌, ◌≤◌}
 use native.Mathlib.Nat.{pow-suc}
 use native.Mathlib.Omega.{arith}
 use lib.Dec.{leb, ltb, eqb}
-use lib.ListN.{length, length-append}
+use native.Mathlib.Numerals.{add-one}
+use lib.ListN.{length, take, drop, get_or, length-append, take-append-drop}
+use lib.Seq.{take-suc}
+use Rattle.std.proofs.lemmas.List.{append-nil}
 use borrow.Author.Tests.{ltb-false, leb-true, leb-false, eqb-true, eqb-false, lt-ltb, le-ltb, le-leb, lt-leb, eq-eqb, ne_eqb}
 use Rattle.numbers.specs.Choice.{pick}
 use Rattle.numbers.specs.Lists.{tab}
 use Rattle.numbers.proofs.Cases.{left, right}
 use Rattle.column.specs.Columns.{natural}
 use Rattle.column.specs.Reading.{same, value_from, value_of, read_of, digit_of, step_of, last_of}
-use Rattle.column.specs.declared.read.Column.{Column}
-use Rattle.column.specs.declared.read.Column.TheVariants.{Number, Other}
 use Rattle.column.proofs.Columns.{column_length}
 use Rattle.column.proofs.Fronts.{front, front_length, column_more, front_more}
 
@@ -50,54 +52,54 @@ length_more : (xs : List ℕ) (c : ℕ) → length (xs ++ (c ∷ [])) ≡ suc (l
 length_more xs c = length-append xs (c ∷ []) ∙ omega arith
 
 -- ---- what stands left of the units
-unfoldable pub front_of : List ℕ → Column
-front_of xs = pick (same xs (front (length xs) (value_of xs)) && ltb (value_of xs) (2 ^ 64)) (Number (value_of xs)) Other
+unfoldable pub front_of : List ℕ → Option ℕ
+front_of xs = pick (same xs (front (length xs) (value_of xs)) && ltb (value_of xs) (2 ^ 64)) (Some (value_of xs)) None
 
 -- what is found of a byte more: p that the digits left of it are those of a tenth of m, d what is written in its place
-found : Bool → ℕ → ℕ → ℕ → Column
-found p c d m = pick ((p && eqb c d) && ltb m (2 ^ 64)) (Number m) Other
+found : Bool → ℕ → ℕ → ℕ → Option ℕ
+found p c d m = pick ((p && eqb c d) && ltb m (2 ^ 64)) (Some m) None
 
-fronted : (p : Bool) → ℕ → Column
-fronted p v = pick (p && ltb v (2 ^ 64)) (Number v) Other
+fronted : (p : Bool) → ℕ → Option ℕ
+fronted p v = pick (p && ltb v (2 ^ 64)) (Some v) None
 
-nothing : (p : Bool) (c d m : ℕ) → (c ≡ d → ⊥) → found p c d m ≡ Other
+nothing : (p : Bool) (c d m : ℕ) → (c ≡ d → ⊥) → found p c d m ≡ None
 unfolding found
-nothing p c d m h = λ i. pick (not_both i && ltb m (2 ^ 64)) (Number m) Other
+nothing p c d m h = λ i. pick (not_both i && ltb m (2 ^ 64)) (Some m) None
   where
     not_both : p && eqb c d ≡ false
     not_both = ap (λ (b : Bool). p && b) (ne_eqb c d h) ∙ and_false p
 
-pub no_digit : (n c : ℕ) → (48 ≤ c → c ≤ 57 → ⊥) → digit_of n c ≡ Other
+pub no_digit : (n c : ℕ) → (48 ≤ c → c ≤ 57 → ⊥) → digit_of n c ≡ None
 unfolding digit_of
 no_digit n c h = go (leb 48 c) (leb c 57) refl refl
   where
     go : (a b : Bool) → leb 48 c ≡ a → leb c 57 ≡ b
-        → pick (leb 48 c && leb c 57 && ltb (10 * n + (c - 48)) (2 ^ 64)) (Number (10 * n + (c - 48))) Other ≡ Other
+        → pick (leb 48 c && leb c 57 && ltb (10 * n + (c - 48)) (2 ^ 64)) (Some (10 * n + (c - 48))) None ≡ None
     go true true e f = absurd (h (leb-true 48 c e) (leb-true c 57 f))
-    go true false e f = λ i. pick (e i && f i && ltb (10 * n + (c - 48)) (2 ^ 64)) (Number (10 * n + (c - 48))) Other
-    go false b e f = λ i. pick (e i && leb c 57 && ltb (10 * n + (c - 48)) (2 ^ 64)) (Number (10 * n + (c - 48))) Other
+    go true false e f = λ i. pick (e i && f i && ltb (10 * n + (c - 48)) (2 ^ 64)) (Some (10 * n + (c - 48))) None
+    go false b e f = λ i. pick (e i && leb c 57 && ltb (10 * n + (c - 48)) (2 ^ 64)) (Some (10 * n + (c - 48))) None
 
-pub a_digit : (n c : ℕ) → 48 ≤ c → c ≤ 57 → digit_of n c ≡ pick (ltb (10 * n + (c - 48)) (2 ^ 64)) (Number (10 * n + (c - 48))) Other
+pub a_digit : (n c : ℕ) → 48 ≤ c → c ≤ 57 → digit_of n c ≡ pick (ltb (10 * n + (c - 48)) (2 ^ 64)) (Some (10 * n + (c - 48))) None
 unfolding digit_of
 a_digit n c h k =
-    λ i. pick (le-leb 48 c h i && le-leb c 57 k i && ltb (10 * n + (c - 48)) (2 ^ 64)) (Number (10 * n + (c - 48))) Other
+    λ i. pick (le-leb 48 c h i && le-leb c 57 k i && ltb (10 * n + (c - 48)) (2 ^ 64)) (Some (10 * n + (c - 48))) None
 
 -- ---- the units' digit
 last_digit : (p : Bool) (v c : ℕ) → 48 ≤ c → c ≤ 57 → found p c c (10 * v + (c - 48)) ≡ last_of (fronted p v) c
 unfolding found fronted
 last_digit false v c h k = refl
-last_digit true v c h k = (λ i. pick (eq-eqb c c refl i && ltb (10 * v + (c - 48)) (2 ^ 64)) (Number (10 * v + (c - 48))) Other) ∙ go (ltb v (2 ^ 64)) refl
+last_digit true v c h k = (λ i. pick (eq-eqb c c refl i && ltb (10 * v + (c - 48)) (2 ^ 64)) (Some (10 * v + (c - 48))) None) ∙ go (ltb v (2 ^ 64)) refl
   where
     go : (t : Bool) → ltb v (2 ^ 64) ≡ t
-        → pick (ltb (10 * v + (c - 48)) (2 ^ 64)) (Number (10 * v + (c - 48))) Other ≡ last_of (pick t (Number v) Other) c
+        → pick (ltb (10 * v + (c - 48)) (2 ^ 64)) (Some (10 * v + (c - 48))) None ≡ last_of (pick t (Some v) None) c
     go true e = sym (a_digit v c h k)
-    go false e = λ i. pick (le-ltb (10 * v + (c - 48)) (2 ^ 64) (omega (arith, ltb-false v (2 ^ 64) e)) i) (Number (10 * v + (c - 48))) Other
+    go false e = λ i. pick (le-ltb (10 * v + (c - 48)) (2 ^ 64) (omega (arith, ltb-false v (2 ^ 64) e)) i) (Some (10 * v + (c - 48))) None
 
-last_other : (p : Bool) (v c : ℕ) → (48 ≤ c → c ≤ 57 → ⊥) → Other ≡ last_of (fronted p v) c
+last_other : (p : Bool) (v c : ℕ) → (48 ≤ c → c ≤ 57 → ⊥) → None ≡ last_of (fronted p v) c
 unfolding fronted
 last_other p v c h = go (p && ltb v (2 ^ 64))
   where
-    go : (t : Bool) → Other ≡ last_of (pick t (Number v) Other) c
+    go : (t : Bool) → None ≡ last_of (pick t (Some v) None) c
     go true = sym (no_digit v c h)
     go false = refl
 
@@ -110,14 +112,14 @@ step_digit p v c h k o = last_digit p v c h k ∙ go (p && ltb v (2 ^ 64))
     zero_first true e = ne_eqb c 48 (λ f. omega (arith, eqb-true v 0 e))
     zero_first false e = refl
 
-    go : (t : Bool) → last_of (pick t (Number v) Other) c ≡ step_of (pick t (Number v) Other) c
+    go : (t : Bool) → last_of (pick t (Some v) None) c ≡ step_of (pick t (Some v) None) c
     go true =
         sym
-        (λ i. pick ((ap (λ (b : Bool). eqb v 0 && b) (ne_eqb c 32 (λ f. omega arith)) ∙ and_false (eqb v 0)) i) (Number 0)
-        (pick (zero_first (eqb v 0) refl i) Other (digit_of v c)))
+        (λ i. pick ((ap (λ (b : Bool). eqb v 0 && b) (ne_eqb c 32 (λ f. omega arith)) ∙ and_false (eqb v 0)) i) (Some 0)
+        (pick (zero_first (eqb v 0) refl i) None (digit_of v c)))
     go false = refl
 
-step_other : (p : Bool) (v c : ℕ) → (v ≡ 0 → c ≡ 32 → ⊥) → (48 ≤ c → c ≤ 57 → ⊥) → Other ≡ step_of (fronted p v) c
+step_other : (p : Bool) (v c : ℕ) → (v ≡ 0 → c ≡ 32 → ⊥) → (48 ≤ c → c ≤ 57 → ⊥) → None ≡ step_of (fronted p v) c
 unfolding fronted
 step_other p v c b h = go (p && ltb v (2 ^ 64))
   where
@@ -125,11 +127,11 @@ step_other p v c b h = go (p && ltb v (2 ^ 64))
     blank true e = ne_eqb c 32 (b (eqb-true v 0 e))
     blank false e = refl
 
-    go : (t : Bool) → Other ≡ step_of (pick t (Number v) Other) c
+    go : (t : Bool) → None ≡ step_of (pick t (Some v) None) c
     go true =
         sym
-        (λ i. pick (blank (eqb v 0) refl i) (Number 0)
-        (pick ((ap (λ (b : Bool). eqb v 0 && b) (ne_eqb c 48 (λ f. h (omega arith) (omega arith))) ∙ and_false (eqb v 0)) i) Other (no_digit v c h i)))
+        (λ i. pick (blank (eqb v 0) refl i) (Some 0)
+        (pick ((ap (λ (b : Bool). eqb v 0 && b) (ne_eqb c 48 (λ f. h (omega arith) (omega arith))) ∙ and_false (eqb v 0)) i) None (no_digit v c h i)))
     go false = refl
 
 step_blank : (p : Bool) → found p 32 32 0 ≡ step_of (fronted p 0) 32
@@ -137,7 +139,7 @@ unfolding found fronted
 step_blank true = refl
 step_blank false = refl
 
-step_zero : (p : Bool) → Other ≡ step_of (fronted p 0) 48
+step_zero : (p : Bool) → None ≡ step_of (fronted p 0) 48
 unfolding fronted
 step_zero true = refl
 step_zero false = refl
@@ -158,16 +160,16 @@ module _ (xs : List ℕ) (c : ℕ) where
   opened : front_of (xs ++ (c ∷ [])) ≡ found (lefts (whole / 10)) c placed whole
   unfolding front_of found lefts
   opened =
-      (λ i. pick (same (xs ++ (c ∷ [])) (front (length_more xs c i) (value_more 0 c xs i)) && ltb (value_more 0 c xs i) (2 ^ 64)) (Number (value_more 0 c xs i)) Other)
-      ∙ ap (λ (b : Bool). pick (b && ltb whole (2 ^ 64)) (Number whole) Other)
+      (λ i. pick (same (xs ++ (c ∷ [])) (front (length_more xs c i) (value_more 0 c xs i)) && ltb (value_more 0 c xs i) (2 ^ 64)) (Some (value_more 0 c xs i)) None)
+      ∙ ap (λ (b : Bool). pick (b && ltb whole (2 ^ 64)) (Some whole) None)
       (ap (same (xs ++ (c ∷ []))) (front_more (length xs) whole) ∙ same_more c placed xs (front (length xs) (whole / 10)) (sym (front_length (length xs) (whole / 10))))
 
   closed : read_of (xs ++ (c ∷ [])) ≡ found (lefts (whole / 10)) c (48 + whole % 10) whole
   unfolding read_of found lefts
   closed =
       (λ i. pick (ltb 0 (length_more xs c i) && same (xs ++ (c ∷ [])) (natural (length_more xs c i) (value_more 0 c xs i)) && ltb (value_more 0 c xs i) (2 ^ 64))
-      (Number (value_more 0 c xs i)) Other)
-      ∙ (λ i. pick (lt-ltb 0 (suc (length xs)) (omega arith) i && digits i && ltb whole (2 ^ 64)) (Number whole) Other)
+      (Some (value_more 0 c xs i)) None)
+      ∙ (λ i. pick (lt-ltb 0 (suc (length xs)) (omega arith) i && digits i && ltb whole (2 ^ 64)) (Some whole) None)
     where
       digits : same (xs ++ (c ∷ [])) (natural (suc (length xs)) whole) ≡ same xs (front (length xs) (whole / 10)) && eqb c (48 + whole % 10)
       digits =
@@ -186,7 +188,7 @@ module _ (xs : List ℕ) (c : ℕ) where
   unit h k = omega arith
 
   pub read_more : read_of (xs ++ (c ∷ [])) ≡ last_of (front_of xs) c
-  read_more = closed ∙ go (leb 48 c) (leb c 57) refl refl ∙ ap (λ (f : Column). last_of f c) (sym fronts)
+  read_more = closed ∙ go (leb 48 c) (leb c 57) refl refl ∙ ap (λ (f : Option ℕ). last_of f c) (sym fronts)
     where
       other : (48 ≤ c → c ≤ 57 → ⊥) → found (lefts (whole / 10)) c (48 + whole % 10) whole ≡ last_of (fronted (lefts (value_of xs)) (value_of xs)) c
       other h =
@@ -204,7 +206,7 @@ module _ (xs : List ℕ) (c : ℕ) where
   Goal = found (lefts (whole / 10)) c placed whole ≡ step_of (fronted (lefts (value_of xs)) (value_of xs)) c
 
   pub front_step : front_of (xs ++ (c ∷ [])) ≡ step_of (front_of xs) c
-  front_step = opened ∙ go (leb 48 c) (leb c 57) refl refl ∙ ap (λ (f : Column). step_of f c) (sym fronts)
+  front_step = opened ∙ go (leb 48 c) (leb c 57) refl refl ∙ ap (λ (f : Option ℕ). step_of f c) (sym fronts)
     where
       -- no digit: a blank after blanks, or nothing
       blank : value_of xs ≡ 0 → c ≡ 32 → Goal
@@ -258,9 +260,26 @@ module _ (xs : List ℕ) (c : ℕ) where
       go true false e f = other (λ h k. omega (arith, leb-false c 57 f))
       go false b e f = other (λ h k. omega (arith, leb-false 48 c e))
 
-pub front_none : front_of [] ≡ Number 0
+pub front_none : front_of [] ≡ Some 0
 unfolding front_of front tab
 front_none = refl
+
+-- what holds no number holds none with more bytes after it
+stays : (xs ys : List ℕ) → front_of xs ≡ None → front_of (xs ++ ys) ≡ None
+stays xs [] e = ap front_of (append-nil xs) ∙ e
+stays xs (y ∷ ys) e =
+    ap front_of (sym (append_assoc xs (y ∷ []) ys)) ∙ stays (xs ++ (y ∷ [])) ys (front_step xs y ∙ ap (λ (f : Option ℕ). step_of f y) e)
+
+pub read_stays : (l : List ℕ) (i c : ℕ) → front_of (take i l) ≡ None → read_of (l ++ (c ∷ [])) ≡ None
+read_stays l i c e =
+    read_more l c
+    ∙ ap (λ (f : Option ℕ). last_of f c) (ap front_of (sym (take-append-drop i l)) ∙ stays (take i l) (drop i l) e)
+
+-- the front of a byte more
+pub front_more_at : (l : List ℕ) (i n : ℕ) → i < length l → Some n ≡ front_of (take i l) → step_of (Some n) (get_or l i 0) ≡ front_of (take (i + 1) l)
+front_more_at l i n h e =
+    ap (λ (f : Option ℕ). step_of f (get_or l i 0)) e ∙ sym (front_step (take i l) (get_or l i 0)) ∙ ap front_of (sym (take-suc l i 0 h))
+    ∙ ap (λ (k : ℕ). front_of (take k l)) (sym (add-one i))
 
 -- ---- what was written is read back
 front_value : (w n : ℕ) → n < 10 ^ w → value_of (front w n) ≡ n
@@ -286,11 +305,11 @@ column_value w n h =
     shorter = let e = pow-suc 10 w in omega arith
 
 -- every number that fits its column is read back from it
-pub written_read : (w n : ℕ) → n < 10 ^ suc w → n < 2 ^ 64 → read_of (natural (suc w) n) ≡ Number n
+pub written_read : (w n : ℕ) → n < 10 ^ suc w → n < 2 ^ 64 → read_of (natural (suc w) n) ≡ Some n
 unfolding read_of
 written_read w n h k =
-    (λ i. pick (ltb 0 (long i) && same (natural (suc w) n) (natural (long i) (worth i)) && ltb (worth i) (2 ^ 64)) (Number (worth i)) Other)
-    ∙ (λ i. pick (lt-ltb 0 (suc w) (omega arith) i && same_refl (natural (suc w) n) i && lt-ltb n (2 ^ 64) k i) (Number n) Other)
+    (λ i. pick (ltb 0 (long i) && same (natural (suc w) n) (natural (long i) (worth i)) && ltb (worth i) (2 ^ 64)) (Some (worth i)) None)
+    ∙ (λ i. pick (lt-ltb 0 (suc w) (omega arith) i && same_refl (natural (suc w) n) i && lt-ltb n (2 ^ 64) k i) (Some n) None)
   where
     long : length (natural (suc w) n) ≡ suc w
     long = column_length (suc w) false n
@@ -305,12 +324,12 @@ same_is (x ∷ xs) [] e = let z : ◌≡◌ {A = ℕ} 0 1 = cc in absurd (omega 
 same_is (x ∷ xs) (y ∷ ys) e = λ i. eqb-true x y (left (eqb x y) (same xs ys) e) i ∷ same_is xs ys (right (eqb x y) (same xs ys) e) i
 
 -- and each column that is read as a number is the one that is written for it
-pub read_written : (bytes : List ℕ) (n : ℕ) → read_of bytes ≡ Number n → bytes ≡ natural (length bytes) n
+pub read_written : (bytes : List ℕ) (n : ℕ) → read_of bytes ≡ Some n → bytes ≡ natural (length bytes) n
 unfolding read_of
 read_written bytes n = go _ refl
   where
     go : (t : Bool) → ltb 0 (length bytes) && same bytes (natural (length bytes) (value_of bytes)) && ltb (value_of bytes) (2 ^ 64) ≡ t
-        → pick t (Number (value_of bytes)) Other ≡ Number n → bytes ≡ natural (length bytes) n
+        → pick t (Some (value_of bytes)) None ≡ Some n → bytes ≡ natural (length bytes) n
     go true e f =
         same_is bytes (natural (length bytes) (value_of bytes))
         (right (ltb 0 (length bytes)) _ (left _ (ltb (value_of bytes) (2 ^ 64)) e))
@@ -318,8 +337,8 @@ read_written bytes n = go _ refl
     go false e f = let z : ◌≡◌ {A = ℕ} 0 1 = cc in absurd (omega arith)
 
 -- a column of no width holds no number
-pub read_none : (bytes : List ℕ) → length bytes ≡ 0 → read_of bytes ≡ Other
+pub read_none : (bytes : List ℕ) → length bytes ≡ 0 → read_of bytes ≡ None
 unfolding read_of
 read_none bytes h =
     λ i. pick (le-ltb 0 (length bytes) (omega arith) i && same bytes (natural (length bytes) (value_of bytes)) && ltb (value_of bytes) (2 ^ 64))
-    (Number (value_of bytes)) Other
+    (Some (value_of bytes)) None

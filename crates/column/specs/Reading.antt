@@ -1,9 +1,7 @@
 -- The number in a column of decimals, right-justified, blanks in front, no leading zeros (docs/replay-format.md; #102).
-use Rattle.std.specs.Prelude.{Bool, true, false, ◌&&◌, List, [], ◌∷◌, ℕ, ◌+◌, ◌-◌, ◌*◌, ◌^◌, eqb, leb, ltb, length}
+use Rattle.std.specs.Prelude.{Bool, true, false, ◌&&◌, List, [], ◌∷◌, ℕ, ◌+◌, ◌-◌, ◌*◌, ◌^◌, eqb, leb, ltb, length, Option, Some, None}
 use Rattle.numbers.specs.Choice.{pick}
 use Rattle.column.specs.Columns.{natural}
-use Rattle.column.specs.declared.read.Column.{Column}
-use Rattle.column.specs.declared.read.Column.TheVariants.{Number, Other}
 
 -- two texts are the same
 abbrev pub same : List ℕ → List ℕ → Bool
@@ -22,21 +20,21 @@ abbrev pub value_of : List ℕ → ℕ
 value_of bytes = value_from 0 bytes
 
 -- bytes are a number's column where writing that number into it gives them back, and the number has 64 bits
-unfoldable pub read_of : List ℕ → Column
+unfoldable pub read_of : List ℕ → Option ℕ
 read_of bytes =
     pick (ltb 0 (length bytes) && same bytes (natural (length bytes) (value_of bytes)) && ltb (value_of bytes) (2 ^ 64))
-    (Number (value_of bytes)) Other
+    (Some (value_of bytes)) None
 
 -- n with a digit after it, where there is room for it in 64 bits
-unfoldable pub digit_of : ℕ → ℕ → Column
-digit_of n c = pick (leb 48 c && leb c 57 && ltb (10 * n + (c - 48)) (2 ^ 64)) (Number (10 * n + (c - 48))) Other
+unfoldable pub digit_of : ℕ → ℕ → Option ℕ
+digit_of n c = pick (leb 48 c && leb c 57 && ltb (10 * n + (c - 48)) (2 ^ 64)) (Some (10 * n + (c - 48))) None
 
 -- what stands left of the units, a byte further: blanks, then a digit that is not 0, then digits
-abbrev pub step_of : Column → ℕ → Column
-step_of Other c = Other
-step_of (Number n) c = pick (eqb n 0 && eqb c 32) (Number 0) (pick (eqb n 0 && eqb c 48) Other (digit_of n c))
+abbrev pub step_of : Option ℕ → ℕ → Option ℕ
+step_of None c = None
+step_of (Some n) c = pick (eqb n 0 && eqb c 32) (Some 0) (pick (eqb n 0 && eqb c 48) None (digit_of n c))
 
 -- the units' digit
-abbrev pub last_of : Column → ℕ → Column
-last_of Other c = Other
-last_of (Number n) c = digit_of n c
+abbrev pub last_of : Option ℕ → ℕ → Option ℕ
+last_of None c = None
+last_of (Some n) c = digit_of n c

@@ -70,11 +70,9 @@ pub fn put(out: &mut [u8], at: usize, width: usize, negative: bool, n: u64) -> u
     ensures text { buffer result out.new ≡ appended (buffer at out.old) (column_of width negative n) }
     ensures end { result ≡ at + width }
 {
-    let mut i: usize = 0;
-    while i < width {
+    for i in 0..width {
         let byte = symbol(negative, n, width - 1 - i);
         out[at + i] = byte;
-        i += 1;
     }
     at + width
 }

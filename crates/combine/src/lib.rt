@@ -15,7 +15,7 @@ ghost use Rattle.combine.specs.Groups.{timed_group};
 ghost use Rattle.combine.specs.Settled.{Alike, settled, combined_of};
 
 use glass::Transfer;
-use waveform::{Drive, Driving, Levels, Until};
+use waveform::{Drive, Driving, Levels};
 
 // `from`, then `pass` so many times. `power` is `pass` once, twice, four times and so on, while the count is halved.
 fn repeated(from: Transfer, pass: Transfer, times: u16) -> Transfer
@@ -66,12 +66,10 @@ fn pass(
     ensures { result ≡ foldl (whole_step driving) transfer (four_in driving (timed_group setting.now frame_period.now group)) }
 {
     let mut moved = transfer;
-    let mut at: usize = 0;
-    while at < 4 {
+    for at in 0..4 {
         if groups::frames(setting, group, at) != 0 {
             moved = then_phase(setting, frame_period, driving, group, at, moved);
         }
-        at += 1;
     }
     moved
 }
@@ -141,12 +139,10 @@ pub fn transfer_whole(
         positive_drives_black,
     };
     let mut moved = Transfer::identity(swing);
-    let mut k: usize = 0;
-    while k < 10 {
+    for k in 0..10 {
         if !groups::idle(setting, k) {
             moved = group_combined(setting, frame_period, driving, k, moved);
         }
-        k += 1;
     }
     settle(moved)
 }
@@ -158,17 +154,15 @@ pub fn transfer(
     drive: Drive,
     swing: i64,
     positive_drives_black: bool,
-    until: Until,
+    until: Option<u64>,
 ) -> Transfer
     requires { Walkable (waveform_of setting.now frame_period.now) drive × (pos 1 ≤ℤ swing) }
     ensures value { result ≡ combined_of (waveform_of setting.now frame_period.now) drive swing positive_drives_black until }
     ensures alike { Alike result (transfer_of (waveform_of setting.now frame_period.now) drive swing positive_drives_black until) }
 {
     match until {
-        Until::Whole => {
-            transfer_whole(setting, frame_period, drive, swing, positive_drives_black)
-        }
-        Until::Cut(cut) => {
+        None => { transfer_whole(setting, frame_period, drive, swing, positive_drives_black) }
+        Some(cut) => {
             let decoded = setting::from_setting(setting, frame_period);
             walk::transfer_cut(decoded, drive, swing, positive_drives_black, cut)
         }

@@ -1,18 +1,16 @@
 -- The commands of the datasheet's Table 7-1, as mod.rs has them in `kind`: a row each, in the order of their numbers.
-use Rattle.std.specs.Prelude.{ℕ, Bool, true, false, List, [], ◌∷◌}
+use Rattle.std.specs.Prelude.{ℕ, Bool, true, false, List, [], ◌∷◌, Option, Some, None}
 use Rattle.numbers.specs.Rows.{TableRow, lookup}
 use Rattle.device.specs.declared.Kind.{Kind}
 use Rattle.device.specs.declared.Kind.TheVariants.{Write, Read, Unsupported, Reserved}
 use Rattle.device.specs.declared.Params.TheVariants.{Exactly, Between, Stream}
-use Rattle.command.specs.declared.Known.{Known}
-use Rattle.command.specs.declared.Known.TheVariants.{Of, Unknown}
 
 -- a row: a command and its kind
-abbrev pub row : ℕ → Kind → TableRow Known
-row command k = record { number = command; gives = Of k }
+abbrev pub row : ℕ → Kind → TableRow (Option Kind)
+row command k = record { number = command; gives = Some k }
 
 -- Table 7-1; 0x1A and 0x21 take one byte or two (docs/DIFFERENCES.md)
-unfoldable pub rows : List (TableRow Known)
+unfoldable pub rows : List (TableRow (Option Kind))
 rows =
     row 0x01 (Write (Exactly 3)) ∷
     row 0x03 (Write (Exactly 1)) ∷
@@ -69,13 +67,13 @@ rows =
     []
 
 -- what Table 7-1 has for a command byte: its row's kind, and no command where there is no row
-unfoldable pub kind_of : ℕ → Known
-kind_of command = lookup Unknown command rows
+unfoldable pub kind_of : ℕ → Option Kind
+kind_of command = lookup None command rows
 
 -- the kind is one that the MCU reads
-abbrev pub is_read : Known → Bool
-is_read Unknown = false
-is_read (Of (Write p)) = false
-is_read (Of Read) = true
-is_read (Of Unsupported) = false
-is_read (Of Reserved) = false
+abbrev pub is_read : Option Kind → Bool
+is_read None = false
+is_read (Some (Write p)) = false
+is_read (Some Read) = true
+is_read (Some Unsupported) = false
+is_read (Some Reserved) = false

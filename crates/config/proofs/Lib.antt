@@ -2,3 +2,4 @@
 pub mod Registers
 pub mod Lowest
 pub mod Answers
+pub mod Modes

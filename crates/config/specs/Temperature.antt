@@ -1,10 +1,8 @@
 -- Temperatures: a twelve-bit register in two's complement, in sixteenths of a degree Celsius (datasheet §6.8.3, as config.rs cites it).
-use Rattle.std.specs.Prelude.{◌&&◌, ℕ, ◌-◌, ◌%◌, ltb, ℤ, pos, negsuc, ◌-ℤ◌}
+use Rattle.std.specs.Prelude.{◌&&◌, ℕ, ◌-◌, ◌%◌, ltb, ℤ, pos, negsuc, ◌-ℤ◌, Option, Some, None}
 use Rattle.std.specs.Int.Signed.{le_z}
 use Rattle.numbers.specs.Choice.{pick}
 use Rattle.config.specs.declared.Temperature.{Temperature}
-use Rattle.config.specs.declared.FromSixteenths.{FromSixteenths}
-use Rattle.config.specs.declared.FromSixteenths.TheVariants.{Within, Outside}
 
 -- the lowest of the format, −128 °C
 abbrev pub coldest : Temperature
@@ -24,5 +22,5 @@ register_of (pos n) = n % 4096
 register_of (negsuc n) = 4095 - n % 4096
 
 -- the temperature of a number of sixteenths, where the format holds it (config.rs, `from_sixteenths`)
-abbrev pub from_sixteenths : ℤ → FromSixteenths
-from_sixteenths z = pick (le_z coldest.0 z && le_z z warmest.0) (Within (record { 0 = z })) Outside
+abbrev pub from_sixteenths : ℤ → Option Temperature
+from_sixteenths z = pick (le_z coldest.0 z && le_z z warmest.0) (Some (record { 0 = z })) None

@@ -4,10 +4,9 @@
 
 ghost use Rattle.std.specs.Prelude.{[], ◌∷◌, ◌≡◌, pos, ◌*ℤ◌};
 ghost use Rattle.config.specs.Temperature.{coldest, warmest, sixteenths_of, register_of, from_sixteenths};
-ghost use Rattle.config.specs.Answer.{is_accepted, first_of, answer_of};
+ghost use Rattle.config.specs.Answer.{first_of, answer_of};
 ghost use Rattle.config.specs.Tests.{geometry_tests, swing_test, periods_test, frequency_test, config_tests};
 ghost use Rattle.config.specs.Defaults.{default_gate_scan, default_timing};
-ghost use Rattle.config.specs.Mode.{mode_number};
 
 use glass::{Optics, Provenance};
 
@@ -31,10 +30,10 @@ pub struct GateScan {
     pub gd: bool,
 }
 
-impl GateScan {
-    pub fn default() -> GateScan
-        ensures { result ≡ default_gate_scan }
-    {
+impl Default for GateScan {
+    ghost is_default = { λ scan. scan ≡ default_gate_scan };
+
+    fn default() -> GateScan {
         GateScan {
             sm: false,
             gd: false,
@@ -87,10 +86,10 @@ pub struct Ssd1677Timing {
     pub frame_period: [u64; 16],
 }
 
-impl Ssd1677Timing {
-    pub fn default() -> Ssd1677Timing
-        ensures { result ≡ default_timing }
-    {
+impl Default for Ssd1677Timing {
+    ghost is_default = { λ timing. timing ≡ default_timing };
+
+    fn default() -> Ssd1677Timing {
         Ssd1677Timing {
             provenance: Provenance::Approximation,
             clock_on: 0,
@@ -112,13 +111,6 @@ impl Ssd1677Timing {
 #[derive(Clone, Copy)]
 pub struct Temperature(i16);
 
-// A temperature, where the format holds it.
-#[derive(Clone, Copy)]
-pub enum FromSixteenths {
-    Within(Temperature),
-    Outside,
-}
-
 impl Temperature {
     // The lowest value of the format, 800h, −128 °C.
     pub const MIN: Temperature = Temperature(-2048);
@@ -126,18 +118,18 @@ impl Temperature {
     // The highest value of the format, 7FFh, 127.9375 °C; the temperature register's reset value.
     pub const MAX: Temperature = Temperature(2047);
 
-    pub fn from_sixteenths(sixteenths: i16) -> FromSixteenths
+    pub fn from_sixteenths(sixteenths: i16) -> Option<Temperature>
         ensures { result ≡ from_sixteenths sixteenths }
     {
         let coldest = Temperature::MIN;
         let warmest = Temperature::MAX;
         if sixteenths < coldest.0 {
-            return FromSixteenths::Outside;
+            return None;
         }
         if warmest.0 < sixteenths {
-            return FromSixteenths::Outside;
+            return None;
         }
-        FromSixteenths::Within(Temperature(sixteenths))
+        Some(Temperature(sixteenths))
     }
 
     // A whole number of degrees Celsius. An i8 times 16 never leaves the format, so nothing saturates.
@@ -176,30 +168,13 @@ impl Temperature {
     }
 }
 
-// The two display modes of 0x22 bit 3 and of the waveform settings in OTP (0x37).
+// The two display modes of 0x22 bit 3 and of the waveform settings in OTP (0x37). As numbers, in a table and in the log, 0 and 1.
 #[derive(Clone, Copy)]
 pub enum DisplayMode {
     // Mode 1: the full waveforms on the X4 (0xF7, 0xD7).
     One,
     // Mode 2: the fast, differential waveform on the X4 (0xFC) and the custom-LUT one (0xCC).
     Two,
-}
-
-// The number of a display mode, in a table and in the log: 0 One, 1 Two (SCOPE, OTP table).
-pub fn mode_number(mode: DisplayMode) -> u8
-    ensures { result ≡ mode_number mode }
-{
-    match mode {
-        DisplayMode::One => 0,
-        DisplayMode::Two => 1,
-    }
-}
-
-// A sensor on the controller's own I2C, with the register it reads, of which the low twelve bits count.
-#[derive(Clone, Copy)]
-pub enum ExternalSensor {
-    Absent,
-    Reads(u16),
 }
 
 // Everything an SSD1677 model is built from but the table of waveforms.
@@ -212,7 +187,7 @@ pub struct Ssd1677Config {
     pub busy_active_high: bool,
     // The register that the internal sensor reads, of which the low twelve bits count.
     pub ambient: u16,
-    pub external_sensor: ExternalSensor,
+    pub external_sensor: Option<u16>,
     // The supply VCI, for the VCI detection (0x15).
     pub vci_millivolts: u32,
     // The user ID of the OTP, read by 0x2E and loaded into its register at reset.
@@ -224,7 +199,6 @@ pub struct Ssd1677Config {
 // Parameters an SSD1677 model cannot be built on.
 #[derive(Clone, Copy)]
 pub enum ConfigError {
-    Accepted,
     // The panel has no pixel.
     EmptyPanel,
     // The panel does not fit the controller's sources and gates.
@@ -243,87 +217,59 @@ pub enum ConfigError {
     OtpVoltage(usize),
 }
 
-pub fn is_accepted(error: ConfigError) -> bool
-    ensures { result ≡ is_accepted (answer_of error) }
-{
-    match error {
-        ConfigError::Accepted => true,
-        ConfigError::EmptyPanel => false,
-        ConfigError::PanelOutsideRam => false,
-        ConfigError::OddRowsWithGd => false,
-        ConfigError::ZeroSwing => false,
-        ConfigError::ZeroFramePeriod(_) => false,
-        ConfigError::ZeroFrequency => false,
-        ConfigError::BadTable => false,
-        ConfigError::OtpVoltage(_) => false,
-    }
-}
-
-pub fn geometry_error(panel: PanelGeometry) -> ConfigError
+pub fn check_geometry(panel: PanelGeometry) -> Result<(), ConfigError>
     ensures { answer_of result ≡ first_of (geometry_tests panel) }
 {
     let native = panel.native_scan;
     let sources = (panel.first_source as u32) + (panel.width as u32);
     if (panel.width == 0) | (panel.height == 0) {
-        return ConfigError::EmptyPanel;
+        return Err(ConfigError::EmptyPanel);
     }
     if ((RAM_SOURCES as u32) < sources) | (RAM_GATES < panel.height) {
-        return ConfigError::PanelOutsideRam;
+        return Err(ConfigError::PanelOutsideRam);
     }
     if native.gd & (panel.height % 2 == 1) {
-        return ConfigError::OddRowsWithGd;
+        return Err(ConfigError::OddRowsWithGd);
     }
-    ConfigError::Accepted
+    Ok(())
 }
 
-pub fn swing_error(optics: Optics) -> ConfigError
+pub fn check_swing(optics: Optics) -> Result<(), ConfigError>
     ensures { answer_of result ≡ first_of (swing_test optics ∷ []) }
 {
     if optics.full_swing == 0 {
-        return ConfigError::ZeroSwing;
+        return Err(ConfigError::ZeroSwing);
     }
-    ConfigError::Accepted
+    Ok(())
 }
 
-pub fn periods_error(periods: [u64; 16]) -> ConfigError
+pub fn check_periods(periods: [u64; 16]) -> Result<(), ConfigError>
     ensures { answer_of result ≡ first_of (periods_test periods ∷ []) }
 {
-    let mut code: usize = 0;
-    while code < 16 {
+    for code in 0..16 {
         if periods[code] == 0 {
-            return ConfigError::ZeroFramePeriod(code);
+            return Err(ConfigError::ZeroFramePeriod(code));
         }
-        code += 1;
     }
-    ConfigError::Accepted
+    Ok(())
 }
 
-fn frequency_error(frequency: u32) -> ConfigError
+fn check_frequency(frequency: u32) -> Result<(), ConfigError>
     ensures { answer_of result ≡ first_of (frequency_test frequency ∷ []) }
 {
     if frequency == 0 {
-        return ConfigError::ZeroFrequency;
+        return Err(ConfigError::ZeroFrequency);
     }
-    ConfigError::Accepted
+    Ok(())
 }
 
 // What is refused of a configuration whatever the table: 1 to 5, then 14.
-pub fn config_error(config: Ssd1677Config) -> ConfigError
+pub fn check(config: Ssd1677Config) -> Result<(), ConfigError>
     ensures { answer_of result ≡ first_of (config_tests config) }
 {
     let timing = config.timing;
-    let periods = timing.frame_period;
-    let geometry = geometry_error(config.panel);
-    if is_accepted(geometry) {
-        let swing = swing_error(config.optics);
-        if is_accepted(swing) {
-            let period = periods_error(periods);
-            if is_accepted(period) {
-                return frequency_error(config.frequency);
-            }
-            return period;
-        }
-        return swing;
-    }
-    geometry
+    check_geometry(config.panel)?;
+    check_swing(config.optics)?;
+    check_periods(timing.frame_period)?;
+    check_frequency(config.frequency)
 }

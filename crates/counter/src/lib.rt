@@ -30,11 +30,12 @@ impl Window {
         y_start: 0,
         y_end: RAM_GATES - 1,
     };
+}
 
-    // `RESET`, since a constant has no contract to say what it is.
-    pub fn reset() -> Window
-        ensures { result ≡ reset_window }
-    {
+impl Default for Window {
+    ghost is_default = { λ window. window ≡ reset_window };
+
+    fn default() -> Window {
         Window::RESET
     }
 }
@@ -46,13 +47,6 @@ pub struct Entry(pub u8);
 impl Entry {
     // The reset value 03h: X and Y increment, the counter moves in X.
     pub const RESET: Entry = Entry(0x03);
-
-    // `RESET`, since a constant has no contract to say what it is.
-    pub fn reset() -> Entry
-        ensures { result ≡ reset_entry }
-    {
-        Entry::RESET
-    }
 
     fn x_increments(self) -> bool
         ensures { result ≡ bit_of self.0 0 }
@@ -70,6 +64,14 @@ impl Entry {
         ensures { result ≡ bit_of self.0 2 }
     {
         self.0 & 0b100 != 0
+    }
+}
+
+impl Default for Entry {
+    ghost is_default = { λ entry. entry ≡ reset_entry };
+
+    fn default() -> Entry {
+        Entry::RESET
     }
 }
 

@@ -1,4 +1,5 @@
 -- What each return of the code hands over, over plain variables. Assumes nothing.
+use Rattle.std.specs.Prelude.{Option, Some, None}
 use Prim.Native.Nat.{ℕ, ◌≤◌, ◌<◌, zero-le}
 use mathlib.Core.Path.{◌≡◌, refl, sym, ap, ◌∙◌}
 use mathlib.Core.Bool.{Bool, true, false}
@@ -9,8 +10,6 @@ use borrow.Author.Tests.{lt-ltb, le-ltb, ltb-false}
 use Rattle.numbers.specs.Choice.{pick}
 use Rattle.numbers.proofs.Cases.{took, passed}
 use Rattle.counter.specs.declared.Counter.{Counter}
-use Rattle.ram.specs.declared.Place.{Place}
-use Rattle.ram.specs.declared.Place.TheVariants.{At, Outside}
 use Rattle.ram.specs.declared.Plane.TheVariants.{BlackWhite, Red}
 use Rattle.ram.specs.Plane.{plane_of, index_of, is_there, put_at, wrote_at, written_at}
 use Rattle.counter.specs.Counter.{advanced_of}
@@ -91,9 +90,9 @@ pub untouched : (p : List ℕ) (c : Counter) (byte : ℕ) → wrote_at p c ≡ f
 unfolding wrote_at written_at
 untouched p c byte h = by (index_of c) h
   where
-    by : (q : Place) → is_there p q ≡ false → put_at p q byte ≡ p
-    by (At i) h = set_out p i byte (ltb-false i _ h)
-    by Outside h = refl
+    by : (q : Option ℕ) → is_there p q ≡ false → put_at p q byte ≡ p
+    by (Some i) h = set_out p i byte (ltb-false i _ h)
+    by None h = refl
 
 -- a byte at the counter of the plane that the command writes
 module _ (byte : ℕ) (a : Active) (w : WithRam) (wrote : Bool) (b d : List ℕ)

@@ -73,7 +73,7 @@ fn most_of(kind: Kind) -> u16
 fn count(active: Active, extra: bool, range: bool) -> Active
     ensures { result ≡ one_byte_more active extra range }
 {
-    let received = numbers::saturating_add_u16(active.received, 1);
+    let received = active.received.saturating_add(1);
     let mut next = active;
     next.received = received;
     next.extra_reported = extra;

@@ -1,5 +1,6 @@
 -- What a data byte leaves: configuration, clock, glass and display; the planes' and the log's lengths, the log's count at most 1,024, registers
 -- within the bounds of 13, and of the current command all that `kind` goes by. Assumes nothing.
+use Rattle.std.specs.Prelude.{Option, Some, None}
 use Prim.Native.Nat.{ℕ, ◌≤◌}
 use mathlib.Core.Path.{◌≡◌, refl, subst, sym, ◌∙◌}
 use mathlib.Core.Bool.{Bool, true, false}
@@ -8,8 +9,6 @@ use lib.Dec.{ltb}
 use lib.ListN.{length, length-set}
 use Rattle.numbers.specs.Choice.{pick}
 use Rattle.counter.specs.declared.Counter.{Counter}
-use Rattle.ram.specs.declared.Place.{Place}
-use Rattle.ram.specs.declared.Place.TheVariants.{At, Outside}
 use Rattle.ram.specs.declared.Plane.{Plane}
 use Rattle.ram.specs.declared.Plane.TheVariants.{BlackWhite, Red}
 use Rattle.ram.specs.Plane.{index_of, put_at, written_at}
@@ -133,9 +132,9 @@ pub written_length : (p : List ℕ) (c : Counter) (byte : ℕ) → length (writt
 unfolding written_at
 written_length p c byte = by (index_of c)
   where
-    by : (q : Place) → length (put_at p q byte) ≡ length p
-    by (At i) = length-set p i byte
-    by Outside = refl
+    by : (q : Option ℕ) → length (put_at p q byte) ≡ length p
+    by (Some i) = length-set p i byte
+    by None = refl
 
 leaves_put : (plane : Plane) (byte : ℕ) (w : WithRam) → DataLeaves w (plane_written plane byte w)
 leaves_put BlackWhite byte w =

@@ -5,7 +5,7 @@ ghost use Rattle.std.specs.Prelude.{◌≡◌, ◌%◌, length};
 ghost use Rattle.world.specs.World.{with_ram};
 ghost use Rattle.acts.specs.Acts.{asleep, slept};
 
-use device::{Bus, Deadline, Power, Ssd1677, part};
+use device::{Bus, Power, Ssd1677, part};
 
 // Asleep: the supplies are off, and BUSY has no end.
 fn fall_asleep(state: Ssd1677) -> Ssd1677
@@ -16,7 +16,7 @@ fn fall_asleep(state: Ssd1677) -> Ssd1677
     let bus = Bus {
         power: Power::Asleep,
         current,
-        busy_until: Deadline::Never,
+        busy_until: None,
     };
     part::set_slept(state, bus, false, false)
 }

@@ -1,5 +1,5 @@
 -- A state with one part replaced.
-use Rattle.std.specs.Prelude.{ℕ, Bool, List}
+use Rattle.std.specs.Prelude.{ℕ, Bool, List, Option}
 use Rattle.config.specs.declared.Ssd1677Config.{Ssd1677Config}
 use Rattle.diagnostic.specs.declared.Journal.{Journal}
 use Rattle.panel.specs.declared.Display.{Display}
@@ -10,7 +10,6 @@ use Rattle.device.specs.declared.Registers.{Registers}
 use Rattle.device.specs.declared.Bus.{Bus}
 use Rattle.device.specs.declared.Status.{Status}
 use Rattle.device.specs.declared.Current.{Current}
-use Rattle.device.specs.declared.Deadline.{Deadline}
 
 -- another latest instant
 abbrev pub with_now : Ssd1677 → ℕ → Ssd1677
@@ -193,7 +192,7 @@ abbrev pub with_current : Bus → Current → Bus
 with_current b new = record { power = b.power; current = new; busy_until = b.busy_until }
 
 -- another end of BUSY
-abbrev pub with_until : Bus → Deadline → Bus
+abbrev pub with_until : Bus → Option ℕ → Bus
 with_until b new = record { power = b.power; current = b.current; busy_until = new }
 
 -- what the stages of an activation load into the registers

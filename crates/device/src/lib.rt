@@ -91,19 +91,12 @@ pub enum Current {
     Active(Active),
 }
 
-// When BUSY falls, if an operation runs.
-#[derive(Clone, Copy)]
-pub enum Deadline {
-    Never,
-    At(u64),
-}
-
 // What the bus sees.
 #[derive(Clone, Copy)]
 pub struct Bus {
     pub power: Power,
     pub current: Current,
-    pub busy_until: Deadline,
+    pub busy_until: Option<u64>,
 }
 
 // The detection flags of the status byte (0x2F), cleared by a reset.

@@ -2,7 +2,7 @@
 ghost use Rattle.std.specs.Prelude.{◌≡◌};
 ghost use Rattle.device.specs.Parts.{with_now, with_config, with_regs, with_bus, with_status, with_display, with_journal, with_panel_and_display, with_powers, with_slept, with_activated, with_current, with_until, with_loaded, with_counter, with_pointed};
 
-use crate::{Bus, Current, Deadline, Registers, Ssd1677, Status};
+use crate::{Bus, Current, Registers, Ssd1677, Status};
 use config::Ssd1677Config;
 use diagnostic::Journal;
 use panel::{Display, Panel};
@@ -146,7 +146,7 @@ pub fn set_current(bus: Bus, current: Current) -> Bus
 }
 
 // Another end of BUSY.
-pub fn set_until(bus: Bus, busy_until: Deadline) -> Bus
+pub fn set_until(bus: Bus, busy_until: Option<u64>) -> Bus
     ensures { result ≡ with_until bus busy_until }
 {
     let power = bus.power;

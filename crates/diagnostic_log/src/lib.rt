@@ -21,7 +21,7 @@ pub fn report(journal: Journal, log: &mut [u8], time: u64, kind: DiagnosticKind)
         after.count = count + 1;
         return after;
     }
-    after.dropped = numbers::saturating_add_u64(after.dropped, 1);
+    after.dropped = after.dropped.saturating_add(1);
     after
 }
 

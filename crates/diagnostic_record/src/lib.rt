@@ -4,8 +4,7 @@
 ghost use Rattle.std.specs.Prelude.{◌≡◌, ◌<◌};
 ghost use Rattle.diagnostic.specs.Record.{record_byte, stage_number, fields_of, record_of};
 
-use config::mode_number;
-use diagnostic::{DiagnosticKind, Fields, Stage};
+use diagnostic::{DiagnosticKind, Fields};
 
 // Byte k of a number, low byte first.
 fn byte_at(x: u64, k: u64) -> u8
@@ -13,20 +12,6 @@ fn byte_at(x: u64, k: u64) -> u8
     ensures { result ≡ record_byte x k }
 {
     ((x >> (8 * k)) & 0xFF) as u8
-}
-
-fn stage_number(stage: Stage) -> u8
-    ensures { result ≡ stage_number stage }
-{
-    match stage {
-        Stage::AnalogOn => 0,
-        Stage::TemperatureLoad => 1,
-        Stage::LutLoad => 2,
-        Stage::Display => 3,
-        Stage::HvReadyDetection => 4,
-        Stage::VciDetection => 5,
-        Stage::VcomSense => 6,
-    }
 }
 
 fn of(number: u8, a: u8, b: u16, c: u16) -> Fields
@@ -55,14 +40,9 @@ fn fields(kind: DiagnosticKind) -> Fields
         DiagnosticKind::ReservedValue { command, value } => of(30, command, value as u16, 0),
         DiagnosticKind::RamOutOfRange { command, x, y } => of(31, command, x, y),
         DiagnosticKind::CounterOutsideWindow { command, x, y } => of(32, command, x, y),
-        DiagnosticKind::WithoutClock { stage } => of(33, stage_number(stage), 0, 0),
-        DiagnosticKind::WithoutAnalog { stage } => of(34, stage_number(stage), 0, 0),
-        DiagnosticKind::NoWaveform { mode, temperature } => of(
-            35,
-            mode_number(mode),
-            temperature,
-            0,
-        ),
+        DiagnosticKind::WithoutClock { stage } => of(33, stage as u8, 0, 0),
+        DiagnosticKind::WithoutAnalog { stage } => of(34, stage as u8, 0, 0),
+        DiagnosticKind::NoWaveform { mode, temperature } => of(35, mode as u8, temperature, 0),
         DiagnosticKind::NoExternalSensor => of(36, 0, 0, 0),
         DiagnosticKind::RamPingPong => of(37, 0, 0, 0),
         DiagnosticKind::NothingToRead { command } => of(38, command, 0, 0),

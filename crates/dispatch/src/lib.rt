@@ -3,28 +3,22 @@
 
 ghost use Rattle.std.specs.Prelude.{◌≡◌};
 ghost use Rattle.guard.specs.Refusals.{refusal_number};
-ghost use Rattle.query.specs.Outcome.{outcome};
+ghost use Rattle.query.specs.Outcome.{outcome, answer_in};
 ghost use Rattle.counts.specs.Counts.{picture};
 ghost use Rattle.world.specs.World.{world};
+ghost use Rattle.driven.specs.Read.{reading_in};
 ghost use Rattle.dispatch.specs.Dispatch.{told, silent, dispatched};
 
 use device::Ssd1677;
 use event::Event;
-use query::CallAnswer;
-use ram::Byte;
-use ssd1677::ReadAnswer;
+use ssd1677::{Reading, Refused};
 
 // An event that is no read gives no byte.
-fn silent(answer: CallAnswer) -> ReadAnswer
+fn silent(answer: Result<Ssd1677, Refused>) -> Result<Reading, Refused>
     ensures { result ≡ silent answer }
 {
-    let refusal = answer.refusal;
-    let state = answer.state;
-    ReadAnswer {
-        refusal,
-        state,
-        byte: Byte::Nothing,
-    }
+    let state = answer?;
+    Ok(Reading { state, byte: None })
 }
 
 // The call that an event makes, over the buffers of the whole device.
@@ -40,8 +34,8 @@ pub fn dispatch(
     log: &mut [u8],
     otp: &[u8],
     event: Event,
-) -> ReadAnswer
-    ensures { outcome (refusal_number result.refusal) (told (world result.state states.new luts.new (picture pixels.new counts.new) black_white.new red.new gates.now log.new) result.byte) ≡ dispatched otp.now (world state states.old luts.old (picture pixels.old counts.old) black_white.old red.old gates.now log.old) event }
+) -> Result<Reading, Refused>
+    ensures { outcome (refusal_number (answer_in result)) (told (world (reading_in result).state states.new luts.new (picture pixels.new counts.new) black_white.new red.new gates.now log.new) (reading_in result).byte) ≡ dispatched otp.now (world state states.old luts.old (picture pixels.old counts.old) black_white.old red.old gates.now log.old) event }
 {
     match event {
         Event::Command(time, command) => silent(ssd1677::write_command(

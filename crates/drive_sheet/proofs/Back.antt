@@ -1,19 +1,18 @@
 -- A sheet that passes is read back from its bytes. Assumes nothing.
+use Rattle.std.specs.Prelude.{Option, Some, None, is_some, unwrap_or}
 use mathlib.Core.Path.{◌≡◌, refl, sym, ap, subst, ◌∙◌}
 use mathlib.Core.Bool.{Bool, true, false, false≢true}
 use mathlib.Core.List.{List, [], ◌∷◌}
 use Prim.Native.Nat.{ℕ, zero, suc, ◌+◌, ◌-◌, ◌*◌, ◌/◌, ◌%◌, ◌<◌}
 use native.Mathlib.Omega.{arith}
-use lib.Dec.{eqb}
+use lib.Dec.{eqb, ltb}
 use lib.IntN.{ℤ, pos}
 use lib.ListN.{length, get_or}
 use lib.Seq.{ext_get_or}
-use borrow.Author.Tests.{lt-ltb, le-ltb, eqb-true, eqb-false}
+use borrow.Author.Tests.{lt-ltb, le-ltb, ltb-true, eqb-true, eqb-false}
 use Rattle.numbers.specs.Choice.{pick}
 use Rattle.numbers.specs.Lists.{tab}
 use Rattle.numbers.proofs.Painted.{length_tab, get_d_tab}
-use Rattle.voltage.specs.declared.Millivolts.{Millivolts}
-use Rattle.voltage.specs.declared.Millivolts.TheVariants.{Listed, Unlisted}
 use Rattle.voltage.specs.Codes.{voltage}
 use Rattle.waveform.specs.declared.GroupCodes.{GroupCodes}
 use Rattle.waveform.specs.Voltages.{or_zero, levels_of}
@@ -22,7 +21,7 @@ use Rattle.config.specs.Lowest.{lowest}
 use Rattle.drive_sheet.specs.declared.Sheet.{Sheet}
 use Rattle.drive_sheet.specs.declared.Supply.{Supply}
 use Rattle.drive_sheet.specs.declared.Supply.TheVariants.{Vsh1, Vsh2, Vsl, Vcom}
-use Rattle.drive_sheet.specs.Supplies.{voltage_of, same_z, is_listed_as, absent_code, supply_code}
+use Rattle.drive_sheet.specs.Supplies.{voltage_of, same_z, is_listed_as, code_count, code_found, supply_code}
 use Rattle.drive_sheet.specs.Bytes.{no_group_codes, group_at, code_at, codes_byte, frames_byte, rates_byte, last_byte, sheet_byte, setting_of, sheet_of, Formed}
 use Rattle.drive_sheet.specs.Tests.{bad_codes, Writable}
 use Rattle.drive_sheet.proofs.Equal.{same_true}
@@ -91,10 +90,10 @@ codes_back g e lut phase l m =
     ∙ four_at g.codes (4 * lut) phase m
 
 -- ---- a voltage
-listed_back : (m : Millivolts) (z : ℤ) → is_listed_as m z ≡ true → or_zero m ≡ z
+listed_back : (m : Option ℤ) (z : ℤ) → is_listed_as m z ≡ true → or_zero m ≡ z
 unfolding is_listed_as
-listed_back (Listed v) z e = same_true v z e
-listed_back Unlisted z e = absurd (false≢true e)
+listed_back (Some v) z e = same_true v z e
+listed_back None z e = absurd (false≢true e)
 
 -- 00h reads 0 mV for every supply: VCOM's list has it, and of the others it is unlisted
 zero_back : (supply : Supply) → or_zero (voltage_of supply 0) ≡ pos 0
@@ -104,15 +103,25 @@ zero_back Vsh2 = refl
 zero_back Vsl = refl
 zero_back Vcom = refl
 
-pub voltage_back : (supply : Supply) (z : ℤ) → supply_code supply z < absent_code → or_zero (voltage_of supply (supply_code supply z)) ≡ z
+pub voltage_back : (supply : Supply) (z : ℤ) → is_some (supply_code supply z) ≡ true → or_zero (voltage_of supply (unwrap_or (supply_code supply z) 0)) ≡ z
 unfolding supply_code
 voltage_back supply z = by (same_z z (pos 0)) refl
   where
-    by : (b : Bool) → same_z z (pos 0) ≡ b
-        → pick b 0 (lowest (λ code. is_listed_as (voltage_of supply code) z) absent_code) < absent_code
-        → or_zero (voltage_of supply (pick b 0 (lowest (λ code. is_listed_as (voltage_of supply code) z) absent_code))) ≡ z
+    stood : ℕ → Bool
+    stood code = is_listed_as (voltage_of supply code) z
+
+    first : ℕ
+    first = lowest stood code_count
+
+    search : (b : Bool) → ltb first code_count ≡ b → is_some (pick b (Some first) None) ≡ true
+        → or_zero (voltage_of supply (unwrap_or (pick b (Some first) None) 0)) ≡ z
+    search true e l = listed_back _ z (found stood code_count (ltb-true first code_count e))
+    search false e l = absurd (false≢true l)
+
+    by : (b : Bool) → same_z z (pos 0) ≡ b → is_some (pick b (Some 0) (code_found first)) ≡ true
+        → or_zero (voltage_of supply (unwrap_or (pick b (Some 0) (code_found first)) 0)) ≡ z
     by true e l = zero_back supply ∙ sym (same_true z (pos 0) e)
-    by false e l = listed_back _ z (found (λ code. is_listed_as (voltage_of supply code) z) absent_code l)
+    by false e l = search (ltb first code_count) refl l
 
 -- ---- the sheet
 module _ (h : Sheet) (f : Formed h) (w : Writable h) where

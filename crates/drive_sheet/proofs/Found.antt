@@ -1,9 +1,8 @@
 -- A search from the front, seen from its answer: what it found passes, and where it found nothing, nothing passes. Assumes nothing.
 use mathlib.Core.Path.{◌≡◌, refl}
 use mathlib.Core.Bool.{Bool, true, false}
-use Prim.Native.Nat.{ℕ, zero, suc, ◌<◌, ◌≤◌}
+use Prim.Native.Nat.{ℕ, zero, suc, ◌<◌}
 use native.Mathlib.Nat.{not-suc-le-zero, le_of_suc-le-suc}
-use native.Mathlib.Omega.{arith}
 use Rattle.numbers.specs.Choice.{pick}
 use Rattle.config.specs.Lowest.{lowest}
 use Rattle.config.proofs.Lowest.{Passed}
@@ -28,13 +27,3 @@ before p (suc n) k l = by (p 0) refl (λ j m. before (λ k. p (suc k)) n j m) k 
     by true e more k l = absurd (not-suc-le-zero l)
     by false e more zero l = e
     by false e more (suc k) l = more k (le_of_suc-le-suc l)
-
--- it is n at most
-pub within : (p : ℕ → Bool) (n : ℕ) → lowest p n ≤ n
-unfolding lowest
-within p zero = omega arith
-within p (suc n) = by (p 0) (within (λ k. p (suc k)) n)
-  where
-    by : (b : Bool) {m : ℕ} → m ≤ n → pick b 0 (suc m) ≤ suc n
-    by true l = omega arith
-    by false l = omega arith

@@ -1,6 +1,6 @@
 -- The tests of a sheet in their order, and what `write` answers and leaves at each. Assumes nothing.
-use mathlib.Core.Path.{◌≡◌, refl, sym, ap, ◌∙◌}
-use mathlib.Core.Bool.{true, false, not, false≢true}
+use mathlib.Core.Path.{◌≡◌, refl, ap, ◌∙◌}
+use mathlib.Core.Bool.{true, false, not}
 use mathlib.Core.List.{List, [], ◌∷◌}
 use Prim.Native.Nat.{ℕ}
 use lib.ListN.{length}
@@ -9,15 +9,9 @@ use Rattle.config.specs.Answer.{Answer, accepted, is_accepted, Test, first_of}
 use Rattle.config.specs.Tests.{lent_test}
 use Rattle.config.proofs.Answers.{refuses, passes, none_left}
 use Rattle.drive_sheet.specs.declared.Sheet.{Sheet}
-use Rattle.drive_sheet.specs.declared.Written.{Written}
-use Rattle.drive_sheet.specs.declared.Written.TheVariants.{Whole, Length, NoCode, Repeats, Code}
+use Rattle.drive_sheet.specs.declared.SheetError.TheVariants.{Length, NoCode, Repeats, Code}
 use Rattle.drive_sheet.specs.Bytes.{setting_of}
-use Rattle.drive_sheet.specs.Tests.{setting_length, supplies_test, repeats_test, codes_test, sheet_tests, Writable, told_of, reply, replied, written_of}
-
--- of a refusal nothing is claimed beside
-pub not_whole : {A : Type 0} (r : Written) → is_accepted (told_of r) ≡ false → r ≡ Whole → A
-unfolding told_of
-not_whole r f e = absurd (false≢true (sym f ∙ ap (λ (w : Written). is_accepted (told_of w)) e))
+use Rattle.drive_sheet.specs.Tests.{setting_length, supplies_test, repeats_test, codes_test, sheet_tests, Writable, sheet_refusal, reply, replied, written_of}
 
 module _ (h : Sheet) (lent : List ℕ) where
   -- the tests after 11, after 61 and after 62
@@ -38,27 +32,27 @@ module _ (h : Sheet) (lent : List ℕ) where
   lent_passes : length lent ≡ setting_length → (x : Answer) → x ≡ first_of afterLent → x ≡ first_of (sheet_tests h lent)
   lent_passes n x e = passes (lent_test (length lent) setting_length) afterLent x (ap not (eq-eqb (length lent) setting_length n)) e
 
-  pub length_refused : (length lent ≡ setting_length → ⊥) → reply (told_of Length) lent ≡ written_of h lent
-  unfolding told_of
+  pub length_refused : (length lent ≡ setting_length → ⊥) → reply (sheet_refusal Length) lent ≡ written_of h lent
+  unfolding sheet_refusal
   length_refused n = keeps _ refl (refuses (lent_test (length lent) setting_length) afterLent _ (ap not (ne_eqb (length lent) setting_length n)) refl)
 
-  pub voltage_refused : length lent ≡ setting_length → (supplies_test h).refuses ≡ true → reply (told_of NoCode) lent ≡ written_of h lent
-  unfolding told_of
+  pub voltage_refused : length lent ≡ setting_length → (supplies_test h).refuses ≡ true → reply (sheet_refusal NoCode) lent ≡ written_of h lent
+  unfolding sheet_refusal
   voltage_refused n v = keeps _ refl (lent_passes n _ (refuses (supplies_test h) afterVoltages _ v refl))
 
   module _ (n : length lent ≡ setting_length) (v : (supplies_test h).refuses ≡ false) where
-    pub repeats_refused : (repeats_test h).refuses ≡ true → reply (told_of Repeats) lent ≡ written_of h lent
-    unfolding told_of
+    pub repeats_refused : (repeats_test h).refuses ≡ true → reply (sheet_refusal Repeats) lent ≡ written_of h lent
+    unfolding sheet_refusal
     repeats_refused r = keeps _ refl (lent_passes n _ (passes (supplies_test h) afterVoltages _ v (refuses (repeats_test h) afterRepeats _ r refl)))
 
-    pub codes_refused : (repeats_test h).refuses ≡ false → (codes_test h).refuses ≡ true → reply (told_of Code) lent ≡ written_of h lent
-    unfolding told_of
+    pub codes_refused : (repeats_test h).refuses ≡ false → (codes_test h).refuses ≡ true → reply (sheet_refusal Code) lent ≡ written_of h lent
+    unfolding sheet_refusal
     codes_refused r k =
         keeps _ refl
         (lent_passes n _ (passes (supplies_test h) afterVoltages _ v (passes (repeats_test h) afterRepeats _ r (refuses (codes_test h) [] _ k refl))))
 
-  pub all_written : (bytes : List ℕ) → length lent ≡ setting_length → Writable h → bytes ≡ setting_of h → reply (told_of Whole) bytes ≡ written_of h lent
-  unfolding told_of written_of
+  pub all_written : (bytes : List ℕ) → length lent ≡ setting_length → Writable h → bytes ≡ setting_of h → reply accepted bytes ≡ written_of h lent
+  unfolding written_of
   all_written bytes n w e =
       ap (reply accepted) e
       ∙ ap (replied h lent)

@@ -1,24 +1,21 @@
 -- What a sheet that 61, 62 and 63 let pass has: codes for its voltages, and groups whose numbers fit their bytes. Assumes nothing.
+use Rattle.std.specs.Prelude.{Option, Some, None, is_some}
 use mathlib.Core.Path.{◌≡◌, refl, ap, ◌∙◌}
-use mathlib.Core.Bool.{Bool, true, false, ◌||◌, true≢false}
+use mathlib.Core.Bool.{Bool, true, false, not, ◌||◌, true≢false}
 use mathlib.Core.Logic.{⊎_elim}
 use Prim.Native.Nat.{ℕ, zero, suc, ◌<◌, ◌≤◌}
 use native.Mathlib.Nat.{not-suc-le-zero, le_of_suc-le-suc, eq-or-lt_of_le}
 use native.Mathlib.Omega.{arith}
 use lib.Dec.{eqb, ltb}
-use lib.IntN.{ℤ, pos}
 use lib.ListN.{get_or}
 use borrow.Author.Tests.{eqb-false, ltb-false}
-use Rattle.numbers.specs.Choice.{pick}
 use Rattle.waveform.specs.declared.GroupCodes.{GroupCodes}
-use Rattle.config.specs.Lowest.{lowest}
 use Rattle.otp.specs.Search.{any_of}
 use Rattle.drive_sheet.specs.declared.Sheet.{Sheet}
-use Rattle.drive_sheet.specs.declared.Supply.{Supply}
-use Rattle.drive_sheet.specs.Supplies.{voltage_of, same_z, is_listed_as, absent_code, supply_code, supply_codes_of, lacks_code, Coded}
+use Rattle.drive_sheet.specs.declared.SupplyCodes.{SupplyCodes}
+use Rattle.drive_sheet.specs.Supplies.{supply_codes_of, lacks_code}
 use Rattle.drive_sheet.specs.Bytes.{group_at}
 use Rattle.drive_sheet.specs.Tests.{bad_repeats, high_code, bad_codes, Writable}
-use Rattle.drive_sheet.proofs.Found.{within}
 
 -- neither of two tests refuses
 pub neither : (a b : Bool) → a || b ≡ false → (a ≡ false) × (b ≡ false)
@@ -60,28 +57,26 @@ module _ (h : Sheet) (w : Writable h) where
   group_codes = none_of (λ group. bad_codes (group_at h group)) 10 w.coded
 
 -- ---- its voltages
-code_within : (supply : Supply) (z : ℤ) → supply_code supply z ≤ absent_code
-unfolding supply_code
-code_within supply z = by (same_z z (pos 0))
-  where
-    by : (b : Bool) → pick b 0 (lowest (λ code. is_listed_as (voltage_of supply code) z) absent_code) ≤ absent_code
-    by true = omega arith
-    by false = within (λ code. is_listed_as (voltage_of supply code) z) absent_code
+is_there : (o : Option ℕ) → not (is_some o) ≡ false → is_some o ≡ true
+is_there (Some code) e = refl
+is_there None e = absurd (true≢false e)
 
-has_code : (supply : Supply) (z : ℤ) → eqb (supply_code supply z) absent_code ≡ false → supply_code supply z < absent_code
-has_code supply z e =
-    let f : supply_code supply z ≡ 256 → ⊥ = eqb-false (supply_code supply z) absent_code e in
-    omega (arith, code_within supply z)
+-- none of the four is missing
+pub record Coded (c : SupplyCodes) : Type 0 where
+  pub vsh1_code : is_some c.vsh1 ≡ true
+  pub vsh2_code : is_some c.vsh2 ≡ true
+  pub vsl_code : is_some c.vsl ≡ true
+  pub vcom_code : is_some c.vcom ≡ true
 
 pub all_coded : (h : Sheet) → lacks_code (supply_codes_of h) ≡ false → Coded (supply_codes_of h)
 all_coded h e =
     let c = supply_codes_of h in
-    let abc = neither (eqb c.vsh1 absent_code || eqb c.vsh2 absent_code || eqb c.vsl absent_code) (eqb c.vcom absent_code) e in
-    let ab = neither (eqb c.vsh1 absent_code || eqb c.vsh2 absent_code) (eqb c.vsl absent_code) abc.0 in
-    let a = neither (eqb c.vsh1 absent_code) (eqb c.vsh2 absent_code) ab.0 in
+    let abc = neither (not (is_some c.vsh1) || not (is_some c.vsh2) || not (is_some c.vsl)) (not (is_some c.vcom)) e in
+    let ab = neither (not (is_some c.vsh1) || not (is_some c.vsh2)) (not (is_some c.vsl)) abc.0 in
+    let a = neither (not (is_some c.vsh1)) (not (is_some c.vsh2)) ab.0 in
     record {
-      vsh1_code = has_code _ h.vsh1 a.0;
-      vsh2_code = has_code _ h.vsh2 a.1;
-      vsl_code = has_code _ h.vsl ab.1;
-      vcom_code = has_code _ h.vcom abc.1;
+      vsh1_code = is_there c.vsh1 a.0;
+      vsh2_code = is_there c.vsh2 a.1;
+      vsl_code = is_there c.vsl ab.1;
+      vcom_code = is_there c.vcom abc.1;
     }

@@ -1,5 +1,5 @@
 -- The 112 bytes of a sheet, and the sheet of 112 bytes (datasheet Figure 6-6; SCOPE, Settings; #104).
-use Rattle.std.specs.Prelude.{◌≡◌, List, [], ◌∷◌, ℕ, ◌+◌, ◌-◌, ◌*◌, ◌/◌, ◌%◌, ◌<◌, ltb, length, get_or}
+use Rattle.std.specs.Prelude.{◌≡◌, List, [], ◌∷◌, ℕ, ◌+◌, ◌-◌, ◌*◌, ◌/◌, ◌%◌, ◌<◌, ltb, length, get_or, unwrap_or}
 use Rattle.numbers.specs.Choice.{pick}
 use Rattle.numbers.specs.Lists.{tab}
 use Rattle.voltage.specs.Codes.{vcom_voltage}
@@ -36,7 +36,7 @@ rates_byte even odd = 16 * even.frame_rate + odd.frame_rate
 
 -- bytes 105 to 111: the gate voltage, VSH1, VSH2, VSL, VCOM, and two that are 0
 unfoldable pub last_byte : ℕ → SupplyCodes → ℕ → ℕ
-last_byte gate c place = get_or (gate ∷ c.vsh1 ∷ c.vsh2 ∷ c.vsl ∷ c.vcom ∷ 0 ∷ 0 ∷ []) place 0
+last_byte gate c place = get_or (gate ∷ unwrap_or c.vsh1 0 ∷ unwrap_or c.vsh2 0 ∷ unwrap_or c.vsl 0 ∷ unwrap_or c.vcom 0 ∷ 0 ∷ 0 ∷ []) place 0
 
 -- byte i: 10 × lut + group has codes, 50 + 5 × group on have frames and repeats, 100 to 104 have two groups' rates each
 unfoldable pub sheet_byte : Sheet → ℕ → ℕ

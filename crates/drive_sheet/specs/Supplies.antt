@@ -1,9 +1,7 @@
 -- The codes of the four voltages of a sheet (#104): the voltage lists of waveform.rs, read from the millivolts to the code.
-use Rattle.std.specs.Prelude.{Bool, false, ◌&&◌, ◌||◌, ℕ, ◌<◌, eqb, ℤ, pos}
+use Rattle.std.specs.Prelude.{Bool, false, not, ◌&&◌, ◌||◌, ℕ, ltb, ℤ, pos, Option, Some, None, is_some}
 use Rattle.std.specs.Int.Signed.{le_z}
 use Rattle.numbers.specs.Choice.{pick}
-use Rattle.voltage.specs.declared.Millivolts.{Millivolts}
-use Rattle.voltage.specs.declared.Millivolts.TheVariants.{Listed, Unlisted}
 use Rattle.voltage.specs.Codes.{source_voltage, vsl_voltage, vcom_voltage}
 use Rattle.config.specs.Lowest.{lowest}
 use Rattle.drive_sheet.specs.declared.Supply.{Supply}
@@ -12,7 +10,7 @@ use Rattle.drive_sheet.specs.declared.SupplyCodes.{SupplyCodes}
 use Rattle.drive_sheet.specs.declared.Sheet.{Sheet}
 
 -- what a code of a supply stands for
-abbrev pub voltage_of : Supply → ℕ → Millivolts
+abbrev pub voltage_of : Supply → ℕ → Option ℤ
 voltage_of Vsh1 code = source_voltage code
 voltage_of Vsh2 code = source_voltage code
 voltage_of Vsl code = vsl_voltage code
@@ -23,17 +21,22 @@ abbrev pub same_z : ℤ → ℤ → Bool
 same_z a b = le_z a b && le_z b a
 
 -- the code is listed, with these millivolts
-unfoldable pub is_listed_as : Millivolts → ℤ → Bool
-is_listed_as (Listed listed) millivolts = same_z listed millivolts
-is_listed_as Unlisted millivolts = false
+unfoldable pub is_listed_as : Option ℤ → ℤ → Bool
+is_listed_as (Some listed) millivolts = same_z listed millivolts
+is_listed_as None millivolts = false
 
--- in place of a code, where none of 00h to FFh is found
-abbrev pub absent_code : ℕ
-absent_code = 256
+-- how many codes there are: 00h to FFh
+abbrev pub code_count : ℕ
+code_count = 256
+
+-- what a search through all codes has found, if anything
+abbrev pub code_found : ℕ → Option ℕ
+code_found code = pick (ltb code code_count) (Some code) None
 
 -- the code of a supply's millivolts: 00h of 0 mV, else the one that the datasheet lists with them
-unfoldable pub supply_code : Supply → ℤ → ℕ
-supply_code supply millivolts = pick (same_z millivolts (pos 0)) 0 (lowest (λ code. is_listed_as (voltage_of supply code) millivolts) absent_code)
+unfoldable pub supply_code : Supply → ℤ → Option ℕ
+supply_code supply millivolts =
+    pick (same_z millivolts (pos 0)) (Some 0) (code_found (lowest (λ code. is_listed_as (voltage_of supply code) millivolts) code_count))
 
 -- those of a sheet
 abbrev pub supply_codes_of : Sheet → SupplyCodes
@@ -47,11 +50,4 @@ supply_codes_of h =
 
 -- one of the four is missing
 abbrev pub lacks_code : SupplyCodes → Bool
-lacks_code c = eqb c.vsh1 absent_code || eqb c.vsh2 absent_code || eqb c.vsl absent_code || eqb c.vcom absent_code
-
--- none is
-pub record Coded (c : SupplyCodes) : Type 0 where
-  pub vsh1_code : c.vsh1 < absent_code
-  pub vsh2_code : c.vsh2 < absent_code
-  pub vsl_code : c.vsl < absent_code
-  pub vcom_code : c.vcom < absent_code
+lacks_code c = not (is_some c.vsh1) || not (is_some c.vsh2) || not (is_some c.vsl) || not (is_some c.vcom)

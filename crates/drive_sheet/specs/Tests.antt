@@ -1,5 +1,5 @@
 -- What is refused of a sheet: 11, 61, 62, 63, and what a call of `write` answers and leaves (SCOPE, Drive sheets; #104).
-use Rattle.std.specs.Prelude.{◌≡◌, Bool, false, ◌||◌, List, [], ◌∷◌, ℕ, eqb, ltb, length, get_or}
+use Rattle.std.specs.Prelude.{◌≡◌, Bool, false, ◌||◌, List, [], ◌∷◌, ℕ, Result, Ok, Err, eqb, ltb, length, get_or}
 use Rattle.numbers.specs.Choice.{pick}
 use Rattle.waveform.specs.declared.GroupCodes.{GroupCodes}
 use Rattle.config.specs.Answer.{Answer, accepted, refused, is_accepted, Test, first_of}
@@ -7,8 +7,8 @@ use Rattle.config.specs.Tests.{lent_test}
 use Rattle.otp.specs.Search.{any_of}
 use Rattle.drive_sheet.specs.declared.Sheet.{Sheet}
 use Rattle.drive_sheet.specs.declared.SupplyCodes.{SupplyCodes}
-use Rattle.drive_sheet.specs.declared.Written.{Written}
-use Rattle.drive_sheet.specs.declared.Written.TheVariants.{Whole, Length, NoCode, Repeats, Code}
+use Rattle.drive_sheet.specs.declared.SheetError.{SheetError}
+use Rattle.drive_sheet.specs.declared.SheetError.TheVariants.{Length, NoCode, Repeats, Code}
 use Rattle.drive_sheet.specs.Supplies.{supply_codes_of, lacks_code}
 use Rattle.drive_sheet.specs.Bytes.{group_at, setting_of}
 
@@ -55,13 +55,17 @@ pub record Prepared (h : Sheet) (codes : SupplyCodes) : Type 0 where
   pub passes : Writable h
   pub found : codes ≡ supply_codes_of h
 
--- the number of each case; none has a value
-unfoldable pub told_of : Written → Answer
-told_of Whole = accepted
-told_of Length = refused 11 0
-told_of NoCode = refused 61 0
-told_of Repeats = refused 62 0
-told_of Code = refused 63 0
+-- the number of each error; none has a value
+unfoldable pub sheet_refusal : SheetError → Answer
+sheet_refusal Length = refused 11 0
+sheet_refusal NoCode = refused 61 0
+sheet_refusal Repeats = refused 62 0
+sheet_refusal Code = refused 63 0
+
+-- what `write` answers
+unfoldable pub told_of : {A : Type 0} → Result A SheetError → Answer
+told_of (Ok value) = accepted
+told_of (Err error) = sheet_refusal error
 
 -- the number of an answer, 0 where nothing is refused
 abbrev pub number_in : Answer → ℕ

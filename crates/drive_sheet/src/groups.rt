@@ -17,12 +17,10 @@ fn bad_repeats(group: GroupCodes) -> bool
 pub(crate) fn any_bad_repeats(sheet: Sheet) -> bool
     ensures { result ≡ (repeats_test sheet).refuses }
 {
-    let mut k: usize = 0;
     let mut bad = false;
-    while k < 10 {
+    for k in 0..10 {
         let one = bad_repeats(sheet.groups[k]);
         bad = bad | one;
-        k += 1;
     }
     bad
 }
@@ -30,12 +28,10 @@ pub(crate) fn any_bad_repeats(sheet: Sheet) -> bool
 fn any_high_code(codes: [u8; 20]) -> bool
     ensures { result ≡ any_of (high_code codes) 20 }
 {
-    let mut k: usize = 0;
     let mut high = false;
-    while k < 20 {
+    for k in 0..20 {
         let one = 3 < codes[k];
         high = high | one;
-        k += 1;
     }
     high
 }
@@ -50,12 +46,10 @@ fn bad_codes(group: GroupCodes) -> bool
 pub(crate) fn any_bad_codes(sheet: Sheet) -> bool
     ensures { result ≡ (codes_test sheet).refuses }
 {
-    let mut k: usize = 0;
     let mut bad = false;
-    while k < 10 {
+    for k in 0..10 {
         let one = bad_codes(sheet.groups[k]);
         bad = bad | one;
-        k += 1;
     }
     bad
 }

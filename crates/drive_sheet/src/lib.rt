@@ -5,16 +5,14 @@
 mod groups;
 mod supplies;
 
-ghost use Rattle.std.specs.Prelude.{◌≡◌, ◌<◌, length, replicate};
+ghost use Rattle.std.specs.Prelude.{◌≡◌, ◌<◌, length, replicate, OnOk};
 ghost use Rattle.numbers.specs.Lists.{tab};
 ghost use Rattle.voltage.specs.Codes.{vcom_voltage};
 ghost use Rattle.waveform.specs.Voltages.{or_zero};
 ghost use Rattle.waveform.specs.Setting.{group_codes_of, waveform_of};
-ghost use Rattle.drive_sheet.specs.Supplies.{Coded};
 ghost use Rattle.drive_sheet.specs.Bytes.{setting_of, sheet_byte, last_byte, sheet_of};
-ghost use Rattle.drive_sheet.specs.Tests.{Prepared, told_of, number_in, reply, written_of};
+ghost use Rattle.drive_sheet.specs.Tests.{Prepared, sheet_refusal, told_of, number_in, reply, written_of};
 
-use voltage::Millivolts;
 use waveform::{GroupCodes, Levels, Waveform};
 
 const SETTING_BYTES: usize = 112;
@@ -41,20 +39,18 @@ pub enum Supply {
     Vcom,
 }
 
-// The codes of a sheet's voltages, 256 for one that has none.
+// The codes of a sheet's voltages, as far as they have one.
 #[derive(Clone, Copy)]
 pub struct SupplyCodes {
-    pub vsh1: usize,
-    pub vsh2: usize,
-    pub vsl: usize,
-    pub vcom: usize,
+    pub vsh1: Option<u8>,
+    pub vsh2: Option<u8>,
+    pub vsl: Option<u8>,
+    pub vcom: Option<u8>,
 }
 
-// What `write` answers.
+// Why a sheet is not written.
 #[derive(Clone, Copy)]
-pub enum Written {
-    // The lent bytes are the sheet's setting.
-    Whole,
+pub enum SheetError {
     // The lent bytes are not 112.
     Length,
     // A voltage has no code.
@@ -65,30 +61,28 @@ pub enum Written {
     Code,
 }
 
-// The number of a refusal, 0 for none.
-pub fn number(written: Written) -> u8
-    ensures { result ≡ number_in (told_of written) }
+// The number of a refusal.
+pub fn number(error: SheetError) -> u8
+    ensures { result ≡ number_in (sheet_refusal error) }
 {
-    match written {
-        Written::Whole => 0,
-        Written::Length => 11,
-        Written::NoCode => 61,
-        Written::Repeats => 62,
-        Written::Code => 63,
+    match error {
+        SheetError::Length => 11,
+        SheetError::NoCode => 61,
+        SheetError::Repeats => 62,
+        SheetError::Code => 63,
     }
 }
 
-// Bytes 105 to 111.
+// Bytes 105 to 111, of voltages that have a code.
 fn last_byte(gate: u8, codes: SupplyCodes, place: usize) -> u8
-    requires { Coded codes }
     ensures { result ≡ last_byte gate codes place }
 {
     match place {
         0 => gate,
-        1 => codes.vsh1 as u8,
-        2 => codes.vsh2 as u8,
-        3 => codes.vsl as u8,
-        4 => codes.vcom as u8,
+        1 => codes.vsh1.unwrap_or(0),
+        2 => codes.vsh2.unwrap_or(0),
+        3 => codes.vsl.unwrap_or(0),
+        4 => codes.vcom.unwrap_or(0),
         _ => 0,
     }
 }
@@ -123,28 +117,28 @@ fn fill(sheet: Sheet, codes: SupplyCodes, out: &mut [u8])
 }
 
 // The setting of a sheet, into the lent bytes; refused, they stay as they were. What was written is decoded to the sheet again.
-pub fn write(sheet: Sheet, out: &mut [u8]) -> Written
+pub fn write(sheet: Sheet, out: &mut [u8]) -> Result<(), SheetError>
     ensures bytes { reply (told_of result) out.new ≡ written_of sheet out.old }
-    ensures back { result ≡ Written.Whole → sheet_of out.new ≡ sheet }
+    ensures back { OnOk result (sheet_of out.new ≡ sheet) }
 {
     let codes = supplies::find_codes(sheet);
     let no_code = supplies::lacks_code(codes);
     let bad_repeats = groups::any_bad_repeats(sheet);
     let bad_codes = groups::any_bad_codes(sheet);
     if out.len() != SETTING_BYTES {
-        return Written::Length;
+        return Err(SheetError::Length);
     }
     if no_code {
-        return Written::NoCode;
+        return Err(SheetError::NoCode);
     }
     if bad_repeats {
-        return Written::Repeats;
+        return Err(SheetError::Repeats);
     }
     if bad_codes {
-        return Written::Code;
+        return Err(SheetError::Code);
     }
     fill(sheet, codes, out);
-    Written::Whole
+    Ok(())
 }
 
 // ---- back
@@ -153,10 +147,7 @@ pub fn write(sheet: Sheet, out: &mut [u8]) -> Written
 fn vcom_of(code: u8) -> i64
     ensures { result ≡ or_zero (vcom_voltage code) }
 {
-    match voltage::vcom_millivolts(code) {
-        Millivolts::Listed(listed) => listed,
-        Millivolts::Unlisted => 0,
-    }
+    voltage::vcom_millivolts(code).unwrap_or(0)
 }
 
 // A group of a setting as it is decoded for a refresh, with the code of its frame rate for a period.

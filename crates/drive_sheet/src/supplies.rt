@@ -4,12 +4,11 @@ ghost use Rattle.drive_sheet.specs.Bytes.{Formed};
 ghost use Rattle.drive_sheet.specs.Supplies.{voltage_of, is_listed_as, supply_code, supply_codes_of, lacks_code};
 
 use crate::{Sheet, Supply, SupplyCodes};
-use voltage::Millivolts;
 
-// Where a search through all codes has found none.
-const NO_CODE: usize = 256;
+// 00h to FFh.
+const CODES: usize = 256;
 
-fn millivolts_of(supply: Supply, code: u8) -> Millivolts
+fn millivolts_of(supply: Supply, code: u8) -> Option<i64>
     ensures { result ≡ voltage_of supply code }
 {
     match supply {
@@ -20,12 +19,12 @@ fn millivolts_of(supply: Supply, code: u8) -> Millivolts
     }
 }
 
-fn is_listed_as(listed: Millivolts, millivolts: i64) -> bool
+fn is_listed_as(listed: Option<i64>, millivolts: i64) -> bool
     ensures { result ≡ is_listed_as listed millivolts }
 {
     match listed {
-        Millivolts::Listed(value) => value == millivolts,
-        Millivolts::Unlisted => false,
+        Some(value) => value == millivolts,
+        None => false,
     }
 }
 
@@ -37,20 +36,18 @@ fn stands_for(supply: Supply, code: usize, millivolts: i64) -> bool
 }
 
 // 0 mV is 00h for every supply (#104); only VCOM's list has it.
-fn find_code(supply: Supply, millivolts: i64) -> usize
+fn find_code(supply: Supply, millivolts: i64) -> Option<u8>
     ensures { result ≡ supply_code supply millivolts }
 {
     if millivolts == 0 {
-        return 0;
+        return Some(0);
     }
-    let mut code: usize = 0;
-    while code < NO_CODE {
+    for code in 0..CODES {
         if stands_for(supply, code, millivolts) {
-            return code;
+            return Some(code as u8);
         }
-        code += 1;
     }
-    NO_CODE
+    None
 }
 
 // A struct whose signed fields are read tells the lengths of its arrays too, which no other step of `write` does.
@@ -69,8 +66,5 @@ pub(crate) fn find_codes(sheet: Sheet) -> SupplyCodes
 pub(crate) fn lacks_code(codes: SupplyCodes) -> bool
     ensures { result ≡ lacks_code codes }
 {
-    (codes.vsh1 == NO_CODE)
-        | (codes.vsh2 == NO_CODE)
-        | (codes.vsl == NO_CODE)
-        | (codes.vcom == NO_CODE)
+    codes.vsh1.is_none() | codes.vsh2.is_none() | codes.vsl.is_none() | codes.vcom.is_none()
 }

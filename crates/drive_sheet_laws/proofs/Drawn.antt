@@ -1,4 +1,5 @@
 -- What is written from a sheet is decoded to it, and equal sheets are exactly those with equal bytes. Assumes nothing.
+use Rattle.std.specs.Prelude.{Option, Some, unwrap_or}
 use mathlib.Core.Path.{◌≡◌, sym, ap, ◌∙◌}
 use mathlib.Core.List.{List}
 use Prim.Native.Nat.{ℕ}
@@ -17,7 +18,7 @@ use Rattle.drive_sheet.proofs.Back.{sheet_back, group_back, byte_is}
 use Rattle.drive_sheet_laws.specs.Drawn.{Accepts, drawn_of, Drawn, Exactly}
 use Rattle.drive_sheet_laws.proofs.Accepted.{writable, bytes_are}
 
-zero_code : (supply : Supply) (z : ℤ) → z ≡ pos 0 → supply_code supply z ≡ 0
+zero_code : (supply : Supply) (z : ℤ) → z ≡ pos 0 → supply_code supply z ≡ Some 0
 unfolding supply_code
 zero_code supply z e = rw (same_is z (pos 0) e)
 
@@ -44,10 +45,10 @@ module _ (h : Sheet) (f : Formed h) (w : Writable h) where
         long = length_tab 112 (sheet_byte h);
         byte_110 = byte_is h 110 (omega arith);
         byte_111 = byte_is h 111 (omega arith);
-        vsh1_zero = λ e. byte_is h 106 (omega arith) ∙ zero_code Vsh1 h.vsh1 e;
-        vsh2_zero = λ e. byte_is h 107 (omega arith) ∙ zero_code Vsh2 h.vsh2 e;
-        vsl_zero = λ e. byte_is h 108 (omega arith) ∙ zero_code Vsl h.vsl e;
-        vcom_is_zero = λ e. byte_is h 109 (omega arith) ∙ zero_code Vcom h.vcom e;
+        vsh1_zero = λ e. byte_is h 106 (omega arith) ∙ ap (λ (o : Option ℕ). unwrap_or o 0) (zero_code Vsh1 h.vsh1 e);
+        vsh2_zero = λ e. byte_is h 107 (omega arith) ∙ ap (λ (o : Option ℕ). unwrap_or o 0) (zero_code Vsh2 h.vsh2 e);
+        vsl_zero = λ e. byte_is h 108 (omega arith) ∙ ap (λ (o : Option ℕ). unwrap_or o 0) (zero_code Vsl h.vsl e);
+        vcom_is_zero = λ e. byte_is h 109 (omega arith) ∙ ap (λ (o : Option ℕ). unwrap_or o 0) (zero_code Vcom h.vcom e);
       }
 
 -- what `write` leaves where it accepts

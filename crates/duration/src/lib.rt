@@ -38,11 +38,8 @@ pub fn duration_ns(waveform: Waveform) -> u64
     ensures { result ≡ duration_of waveform }
 {
     let mut total: u64 = 0;
-    let mut k: usize = 0;
-    while k < 10 {
-        let group = waveform.groups[k];
-        total = numbers::saturating_add_u64(total, group_ns(group));
-        k += 1;
+    for group in waveform.groups {
+        total = total.saturating_add(group_ns(group));
     }
     total
 }

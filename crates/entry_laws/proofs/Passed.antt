@@ -1,7 +1,8 @@
 -- What a call that is accepted has: what its callees ask. Assumes nothing.
+use Rattle.std.specs.Prelude.{Option, Some, Ok}
 use Prim.Native.Nat.{ℕ, ◌≤◌, ◌<◌, ◌^◌}
-use mathlib.Core.Path.{◌≡◌, refl, sym, ◌∙◌}
-use mathlib.Core.Bool.{Bool, true, false}
+use mathlib.Core.Path.{◌≡◌, sym, ◌∙◌}
+use mathlib.Core.Bool.{true}
 use mathlib.Core.List.{List}
 use native.Mathlib.Nat.{mul-le-mul}
 use native.Mathlib.Omega.{arith}
@@ -10,26 +11,12 @@ use lib.ListN.{length}
 use Rattle.clock.specs.Advance.{Ready}
 use Rattle.device.specs.declared.Ssd1677.{Ssd1677}
 use Rattle.guard_lengths.specs.declared.Lengths.{Lengths}
-use Rattle.guard_lengths.specs.declared.LentLength.{LentLength}
-use Rattle.guard_lengths.specs.declared.LentLength.TheVariants.{Of}
-use Rattle.guard.specs.declared.Refusal.{Refusal}
-use Rattle.guard.specs.declared.Refusal.TheVariants.{Accepted, Buffer, Table, State, Counts}
 use Rattle.guard_lengths.specs.Lengths.{lengths_fit, lengths_of}
 use Rattle.guard_state.specs.State.{state_fine}
-use Rattle.guard.specs.Refusals.{accepts, guarded, guarded_with_table}
+use Rattle.guard.specs.Refusals.{guarded, guarded_with_table}
 use Rattle.guard_laws.proofs.Accepted.{accepted_state, accepted_lengths, accepted_counts, table_state, table_lengths, table_counts, fine_state, fine_lengths}
 
-never : false ≡ true → ⊥
-never e = let z : ◌≡◌ {A = ℕ} 0 1 = cc in omega arith
-
-pub only_accepted : (r : Refusal) → accepts r ≡ true → r ≡ Accepted
-only_accepted Accepted e = refl
-only_accepted Buffer e = absurd (never e)
-only_accepted Table e = absurd (never e)
-only_accepted State e = absurd (never e)
-only_accepted Counts e = absurd (never e)
-
-module _ (d : Ssd1677) (states : List ℤ) (luts pixels counts : List ℕ) (log black red gates : LentLength)
+module _ (d : Ssd1677) (states : List ℤ) (luts pixels counts : List ℕ) (log black red gates : Option ℕ)
     (fine : state_fine d ≡ true)
     (fit : lengths_fit d.config.panel (lengths_of (length states) (length luts) (length pixels) (length counts) log black red gates) ≡ true) where
   abbrev lengths : Lengths
@@ -58,25 +45,25 @@ module _ (d : Ssd1677) (states : List ℤ) (luts pixels counts : List ℕ) (log 
       }
 
   -- the log has its length
-  pub log_fine : (n : ℕ) → log ≡ Of n → n ≡ 16384
+  pub log_fine : (n : ℕ) → log ≡ Some n → n ≡ 16384
   log_fine n e = (fine_lengths d.config.panel lengths fit).log n e
 
-module _ (d : Ssd1677) (l : Lengths) (r : Refusal) (b : Bool) (is : r ≡ guarded d l) (t : b ≡ accepts r) (h : b ≡ true) where
+module _ (d : Ssd1677) (l : Lengths) (passes : Ok tt ≡ guarded d l) where
   pub state_passed : state_fine d ≡ true
-  state_passed = accepted_state d l (sym is ∙ only_accepted r (sym t ∙ h))
+  state_passed = accepted_state d l (sym passes)
 
   pub lengths_passed : lengths_fit d.config.panel l ≡ true
-  lengths_passed = accepted_lengths d l (sym is ∙ only_accepted r (sym t ∙ h))
+  lengths_passed = accepted_lengths d l (sym passes)
 
   pub counts_passed : l.counts ≡ 256
-  counts_passed = accepted_counts d l (sym is ∙ only_accepted r (sym t ∙ h))
+  counts_passed = accepted_counts d l (sym passes)
 
-module _ (d : Ssd1677) (l : Lengths) (otp : List ℕ) (r : Refusal) (b : Bool) (is : r ≡ guarded_with_table d l otp) (t : b ≡ accepts r) (h : b ≡ true) where
+module _ (d : Ssd1677) (l : Lengths) (otp : List ℕ) (passes : Ok tt ≡ guarded_with_table d l otp) where
   pub table_state_passed : state_fine d ≡ true
-  table_state_passed = table_state d l otp (sym is ∙ only_accepted r (sym t ∙ h))
+  table_state_passed = table_state d l otp (sym passes)
 
   pub table_lengths_passed : lengths_fit d.config.panel l ≡ true
-  table_lengths_passed = table_lengths d l otp (sym is ∙ only_accepted r (sym t ∙ h))
+  table_lengths_passed = table_lengths d l otp (sym passes)
 
   pub table_counts_passed : l.counts ≡ 256
-  table_counts_passed = table_counts d l otp (sym is ∙ only_accepted r (sym t ∙ h))
+  table_counts_passed = table_counts d l otp (sym passes)

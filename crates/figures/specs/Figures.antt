@@ -1,11 +1,9 @@
 -- The ★ figures (SCOPE, Figures): what the definitions that the contracts cite compute, beside what SCOPE states.
 -- An entry is a list of numbers, empty for none.
-use Rattle.std.specs.Prelude.{ℕ, true, false, List, [], ◌∷◌, ℤ, pos, negsuc, replicate}
+use Rattle.std.specs.Prelude.{ℕ, true, false, List, [], ◌∷◌, ℤ, pos, negsuc, replicate, Option, Some, None}
 use Rattle.glass.specs.declared.Transfer.{Transfer}
 use Rattle.glass.specs.Transfers.{apply_t}
 use Rattle.glass.specs.Greys.{gray_z}
-use Rattle.voltage.specs.declared.Millivolts.{Millivolts}
-use Rattle.voltage.specs.declared.Millivolts.TheVariants.{Listed, Unlisted}
 use Rattle.voltage.specs.Codes.{source_voltage, vsl_voltage, vcom_voltage}
 use Rattle.waveform.specs.declared.Drive.TheVariants.{Lut}
 use Rattle.waveform.specs.Walks.{whole_transfer, cut_transfer}
@@ -13,14 +11,12 @@ use Rattle.config.specs.Temperature.{sixteenths_of}
 use Rattle.counter.specs.declared.Counter.{Counter}
 use Rattle.counter.specs.Counter.{reset_entry, advanced_of}
 use Rattle.counter.specs.Registers.{ten_bits}
-use Rattle.gates.specs.declared.Row.{Row}
-use Rattle.gates.specs.declared.Row.TheVariants.{Is, Nothing}
 use Rattle.gates.specs.Gates.{row_of_gate}
 
 -- the millivolts of a code, if it is listed
-abbrev pub millivolts : Millivolts → List ℤ
-millivolts (Listed v) = v ∷ []
-millivolts Unlisted = []
+abbrev pub millivolts : Option ℤ → List ℤ
+millivolts (Some v) = v ∷ []
+millivolts None = []
 
 -- a natural number
 abbrev pub number : ℕ → List ℤ
@@ -31,9 +27,9 @@ abbrev pub place : Counter → List ℤ
 place c = pos c.x ∷ pos c.y ∷ []
 
 -- the row of a gate, if it has one
-abbrev pub row : Row → List ℤ
-row (Is r) = pos r ∷ []
-row Nothing = []
+abbrev pub row : Option ℕ → List ℤ
+row (Some r) = pos r ∷ []
+row None = []
 
 -- 20,000,000 ns for every frame-rate code, asked for by name: the default is another (#105)
 abbrev pub periods : List ℕ

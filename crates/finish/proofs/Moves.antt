@@ -1,4 +1,5 @@
 -- The table of moves: it does what the four transfers do, and these have upper bounds from 0 on, as it asks. Assumes nothing.
+use Rattle.std.specs.Prelude.{Option, Some, None}
 use mathlib.Core.Path.{◌≡◌, refl, sym, ap, subst, ◌∙◌}
 use mathlib.Core.Bool.{Bool, true, false}
 use mathlib.Core.List.{List, [], ◌∷◌, foldl}
@@ -21,8 +22,6 @@ use Rattle.waveform.specs.declared.Drive.{Drive}
 use Rattle.waveform.specs.declared.Driving.{Driving}
 use Rattle.waveform.specs.declared.Phase.{Phase}
 use Rattle.waveform.specs.declared.Progress.{Progress}
-use Rattle.waveform.specs.declared.Until.{Until}
-use Rattle.waveform.specs.declared.Until.TheVariants.{Whole, Cut}
 use Rattle.waveform.specs.declared.Waveform.{Waveform}
 use Rattle.waveform.specs.Phases.{phases_of}
 use Rattle.waveform.specs.Walks.{driving_of, saturated_drive, pushed, whole_step, phase_end, run_on, phase_cut, cut_step, walk_start, whole_of, transfer_of}
@@ -109,23 +108,23 @@ module _ (d : Driving) (some : pos 1 ≤ℤ d.swing) where
       by false false = pushed_high p _ w.transfer
 
 -- a walk's upper bound
-walked_high : (w : Waveform) (drive : Drive) (swing : ℤ) (black : Bool) → pos 1 ≤ℤ swing → (until : Until) → pos 0 ≤ℤ (transfer_of w drive swing black until).hi
-walked_high w drive swing black some Whole =
+walked_high : (w : Waveform) (drive : Drive) (swing : ℤ) (black : Bool) → pos 1 ≤ℤ swing → (until : Option ℕ) → pos 0 ≤ℤ (transfer_of w drive swing black until).hi
+walked_high w drive swing black some None =
     let d = driving_of w drive swing black in
     folds (λ (t : Transfer). pos 0 ≤ℤ t.hi) (whole_step d) (λ t p h. pushed_high d some p p.frames t) (phases_of w drive) (identity_t swing) (let n = le_out some in le_in _ _ (omega whole))
-walked_high w drive swing black some (Cut until) =
+walked_high w drive swing black some (Some until) =
     let d = driving_of w drive swing black in
     folds (λ (q : Progress). pos 0 ≤ℤ q.transfer.hi) (cut_step d until) (cut_high d some until) (phases_of w drive) (walk_start swing) (let n = le_out some in le_in _ _ (omega whole))
 
 -- a combined transfer has the walk's upper bound
-pub combined_high : (w : Waveform) (drive : Drive) (swing : ℤ) (black : Bool) → pos 1 ≤ℤ swing → (until : Until) → pos 0 ≤ℤ (combined_of w drive swing black until).hi
+pub combined_high : (w : Waveform) (drive : Drive) (swing : ℤ) (black : Bool) → pos 1 ≤ℤ swing → (until : Option ℕ) → pos 0 ≤ℤ (combined_of w drive swing black until).hi
 unfolding settled
-combined_high w drive swing black some Whole = by (le_z t.hi t.lo)
+combined_high w drive swing black some None = by (le_z t.hi t.lo)
   where
     t : Transfer
     t = whole_of w drive swing black
 
     by : (b : Bool) → pos 0 ≤ℤ (pick b (record { add = pos 0; lo = t.lo; hi = t.hi }) t).hi
-    by true = walked_high w drive swing black some Whole
-    by false = walked_high w drive swing black some Whole
-combined_high w drive swing black some (Cut until) = walked_high w drive swing black some (Cut until)
+    by true = walked_high w drive swing black some None
+    by false = walked_high w drive swing black some None
+combined_high w drive swing black some (Some until) = walked_high w drive swing black some (Some until)

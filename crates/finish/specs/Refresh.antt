@@ -1,10 +1,9 @@
 -- What the parts of a display's end share (panel.rs, `Panel::finish`).
-use Rattle.std.specs.Prelude.{◌≡◌, Bool, List, ℕ, ◌<◌, ℤ, pos, ◌≤ℤ◌, length, get_or}
+use Rattle.std.specs.Prelude.{◌≡◌, Bool, List, ℕ, ◌<◌, ℤ, pos, ◌≤ℤ◌, length, get_or, Option}
 use Rattle.glass.specs.declared.Transfer.{Transfer}
 use Rattle.glass.specs.Transfers.{identity_t}
 use Rattle.waveform.specs.declared.Drive.{Drive}
 use Rattle.waveform.specs.declared.Drive.TheVariants.{Lut}
-use Rattle.waveform.specs.declared.Until.{Until}
 use Rattle.waveform.specs.declared.Waveform.{Waveform}
 use Rattle.waveform.specs.Setting.{waveform_of}
 use Rattle.waveform.specs.Phases.{Takes}
@@ -17,7 +16,7 @@ abbrev pub AllWalkable : Waveform → Type 0
 AllWalkable w = (drive : Drive) → Takes drive → Walkable w drive
 
 -- a display of a setting, by the period of each frame-rate code, the swing, the sign and how much of it counts
-abbrev pub display_drive : List ℕ → List ℕ → ℤ → Bool → Until → DisplayDrive
+abbrev pub display_drive : List ℕ → List ℕ → ℤ → Bool → Option ℕ → DisplayDrive
 display_drive s p swing black until = record { setting = s; frame_period = p; swing = swing; positive_drives_black = black; until = until }
 
 -- its waveform

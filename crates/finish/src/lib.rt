@@ -3,7 +3,6 @@
 
 use glass::PanelImage;
 use panel::{Display, Panel};
-use waveform::Until;
 
 pub mod refresh;
 
@@ -12,23 +11,23 @@ ghost use Rattle.counts.specs.Counts.{picture};
 ghost use Rattle.panel.specs.Finish.{Finishable, glass, ending, was_cut, published, finished};
 
 // A hardware reset cut the display short.
-fn is_cut(until: Until) -> bool
+fn is_cut(until: Option<u64>) -> bool
     ensures { result ≡ was_cut until }
 {
     match until {
-        Until::Whole => false,
-        Until::Cut(_) => true,
+        None => false,
+        Some(_) => true,
     }
 }
 
 // The image that a display leaves behind, dated `at`.
-fn publish(panel: Panel, display: Display, at: u64, until: Until) -> Panel
+fn publish(panel: Panel, display: Display, at: u64, until: Option<u64>) -> Panel
     requires { pos 1 ≤ℤ panel.swing }
     ensures { result ≡ published display at until panel }
 {
     let old = panel.image;
     let border = glass::gray(panel.border, panel.swing);
-    let generation = numbers::saturating_add_u64(old.generation, 1);
+    let generation = old.generation.saturating_add(1);
     let interrupted = is_cut(until);
     let kind = display.kind;
     let image = PanelImage {
@@ -53,7 +52,7 @@ pub fn finish(
     positive_drives_black: bool,
     frame_period: [u64; 16],
     at: u64,
-    until: Until,
+    until: Option<u64>,
     states: &mut [i64],
     luts: &[u8],
     pixels: &mut [u8],

@@ -10,8 +10,8 @@ ghost use Rattle.finish.specs.Moves.{Movable, MovesOf};
 
 use glass::Transfer;
 use glass_tables::{Move, greys};
-use panel::{Border, Display, Panel};
-use waveform::{Drive, Until};
+use panel::{Display, Panel};
+use waveform::Drive;
 
 // What the transfers of a display are made from.
 #[derive(Clone, Copy)]
@@ -20,7 +20,7 @@ pub struct DisplayDrive {
     pub frame_period: [u64; 16],
     pub swing: i64,
     pub positive_drives_black: bool,
-    pub until: Until,
+    pub until: Option<u64>,
 }
 
 // The display's 112 setting bytes, with the frame period of each frame-rate code.
@@ -29,7 +29,7 @@ pub(crate) fn display_drive(
     display: Display,
     positive_drives_black: bool,
     frame_period: [u64; 16],
-    until: Until,
+    until: Option<u64>,
 ) -> DisplayDrive
     ensures { result ≡ display_drive display.setting frame_period panel.swing positive_drives_black until }
 {
@@ -149,13 +149,13 @@ pub(crate) fn drive_border(refresh: DisplayDrive, border: u8, panel: Panel) -> P
 {
     let drives = panel::border_drive(border);
     match drives {
-        Border::Driven(drive) => {
+        Some(drive) => {
             let transfer = transfer(refresh, drive);
             let state = transfer.apply(panel.border);
             let mut moved = panel;
             moved.border = state;
             moved
         }
-        Border::Left => panel,
+        None => panel,
     }
 }

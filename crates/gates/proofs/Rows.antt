@@ -1,5 +1,6 @@
 -- Laws of the row of a gate that the functions' proofs cite: a pair exchanged by one bit, and the bounds of a row.
 -- Assumes nothing.
+use Rattle.std.specs.Prelude.{Some, None}
 use mathlib.Core.Path.{◌≡◌, refl, ap, ◌∙◌}
 use mathlib.Core.Bool.{Bool, true, false}
 use Prim.Native.Nat.{ℕ, ◌+◌, ◌-◌, ◌*◌, ◌/◌, ◌%◌, ◌<◌}
@@ -9,7 +10,6 @@ use lib.Dec.{ltb, eqb}
 use borrow.Author.Tests.{eqb-true, eqb-false, ltb-true}
 use Rattle.numbers.specs.Choice.{pick}
 use Rattle.config.specs.declared.GateScan.{GateScan}
-use Rattle.gates.specs.declared.Row.TheVariants.{Is, Nothing}
 use Rattle.gates.specs.Gates.{row_of, row_of_gate, row_or, native_row}
 
 -- `gate ^ 1`
@@ -33,7 +33,7 @@ row_in_ram gate scan lines =
     let row = row_of scan.sm scan.gd gate lines in
     by row (ltb gate lines) (ltb row lines) (ltb row 680) (ltb-true row 680)
   where
-    by : (row : ℕ) (s t u : Bool) → (u ≡ true → row < 680) → row_or (pick s (pick t (pick u (Is row) Nothing) Nothing) Nothing) 0 < 680
+    by : (row : ℕ) (s t u : Bool) → (u ≡ true → row < 680) → row_or (pick s (pick t (pick u (Some row) None) None) None) 0 < 680
     by row true true true h = h refl
     by row true true false h = omega arith
     by row true false u h = omega arith
@@ -46,7 +46,7 @@ native_lt gate scan height k =
     let row = row_of scan.sm scan.gd gate height in
     by row (ltb gate height) (ltb row height) (ltb row 680) (ltb-true row height)
   where
-    by : (row : ℕ) (s t u : Bool) → (t ≡ true → row < height) → row_or (pick s (pick t (pick u (Is row) Nothing) Nothing) Nothing) gate < height
+    by : (row : ℕ) (s t u : Bool) → (t ≡ true → row < height) → row_or (pick s (pick t (pick u (Some row) None) None) None) gate < height
     by row true true true h = h refl
     by row true true false h = k
     by row true false u h = k

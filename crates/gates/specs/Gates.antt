@@ -1,10 +1,8 @@
 -- Which row of the RAM each gate shows (datasheet Table 8-2, as panel.rs cites it), and which gate drives each row of the glass.
-use Rattle.std.specs.Prelude.{Bool, true, false, List, ℕ, zero, suc, ◌+◌, ◌-◌, ◌/◌, ◌%◌, ltb, eqb, set}
+use Rattle.std.specs.Prelude.{Bool, true, false, List, ℕ, zero, suc, ◌+◌, ◌-◌, ◌/◌, ◌%◌, ltb, eqb, set, Option, Some, None}
 use Rattle.numbers.specs.Choice.{pick}
 use Rattle.config.specs.declared.GateScan.{GateScan}
 use Rattle.config.specs.declared.PanelGeometry.{PanelGeometry}
-use Rattle.gates.specs.declared.Row.{Row}
-use Rattle.gates.specs.declared.Row.TheVariants.{Is, Nothing}
 
 -- how many of the gates 0 to lines − 1 have an even number (Table 8-2)
 abbrev pub even_gates : ℕ → ℕ
@@ -18,17 +16,17 @@ row_of true false gate lines = pick (eqb (gate % 2) 0) (gate / 2) (even_gates li
 row_of true true gate lines = pick (eqb (gate % 2) 0) (even_gates lines + gate / 2) (gate / 2)
 
 -- a row, where it is one of the lines scanned and one of the RAM's 680 (panel.rs, `ram_row_of_gate`)
-abbrev pub row_shown : ℕ → ℕ → Row
-row_shown row lines = pick (ltb row lines) (pick (ltb row 680) (Is row) Nothing) Nothing
+abbrev pub row_shown : ℕ → ℕ → Option ℕ
+row_shown row lines = pick (ltb row lines) (pick (ltb row 680) (Some row) None) None
 
 -- the row that a gate shows: none where the gate is not scanned (panel.rs, `ram_row_of_gate`)
-unfoldable pub row_of_gate : ℕ → GateScan → ℕ → Row
-row_of_gate gate scan lines = pick (ltb gate lines) (row_shown (row_of scan.sm scan.gd gate lines) lines) Nothing
+unfoldable pub row_of_gate : ℕ → GateScan → ℕ → Option ℕ
+row_of_gate gate scan lines = pick (ltb gate lines) (row_shown (row_of scan.sm scan.gd gate lines) lines) None
 
 -- a row, or another number where there is none
-abbrev pub row_or : Row → ℕ → ℕ
-row_or (Is row) other = row
-row_or Nothing other = other
+abbrev pub row_or : Option ℕ → ℕ → ℕ
+row_or (Some row) other = row
+row_or None other = other
 
 -- the row of a gate under the native scan; one that has none counts as its own (panel.rs, `Panel::new`)
 unfoldable pub native_row : ℕ → GateScan → ℕ → ℕ

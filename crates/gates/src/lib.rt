@@ -6,13 +6,6 @@ ghost use Rattle.gates.specs.Gates.{row_of, row_of_gate, native_row, physical_ro
 
 use config::{GateScan, PanelGeometry};
 
-// The RAM row that a gate shows.
-#[derive(Clone, Copy)]
-pub enum Row {
-    Is(u16),
-    Nothing,
-}
-
 // The row of a gate that is scanned, in the RAM or past it.
 fn row_of(gate: u16, scan: GateScan, lines: u16) -> u16
     requires { gate < lines }
@@ -41,19 +34,19 @@ fn row_of(gate: u16, scan: GateScan, lines: u16) -> u16
 // The RAM row that `gate` shows when `lines` gates are scanned with `scan` (Table 8-2): none when the gate is not scanned, or when
 // it would show a row past the RAM (a MUX the firmware set beyond 680 lines with SM = 1 sends the upper half of the gates there):
 // such a gate is not driven.
-pub fn ram_row_of_gate(gate: u16, scan: GateScan, lines: u16) -> Row
+pub fn ram_row_of_gate(gate: u16, scan: GateScan, lines: u16) -> Option<u16>
     ensures { result ≡ row_of_gate gate scan lines }
 {
     if lines <= gate {
-        return Row::Nothing;
+        return None;
     }
     let row = row_of(gate, scan, lines);
     if row < lines {
         if row < config::RAM_GATES {
-            return Row::Is(row);
+            return Some(row);
         }
     }
-    Row::Nothing
+    None
 }
 
 // The native row of a gate; a gate that has none counts as its own row.
@@ -61,8 +54,8 @@ fn native_row(gate: u16, scan: GateScan, height: u16) -> u16
     ensures { result ≡ native_row gate scan height }
 {
     match ram_row_of_gate(gate, scan, height) {
-        Row::Is(row) => row,
-        Row::Nothing => gate,
+        Some(row) => row,
+        None => gate,
     }
 }
 

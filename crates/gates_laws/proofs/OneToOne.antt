@@ -2,6 +2,7 @@
 -- one row and each row one gate. The native scan of a geometry that start accepts is an instance, so that the list which `gate_of_row` fills is the table
 -- of the inverse, in both row orders; and no order that 0x01 sets, with GD off or an even height, loses a line of such a glass.
 -- Assumes nothing.
+use Rattle.std.specs.Prelude.{Some}
 use mathlib.Core.Path.{◌≡◌, refl, sym, ap, ◌∙◌}
 use mathlib.Core.Bool.{Bool, true, false}
 use mathlib.Core.List.{List}
@@ -15,7 +16,6 @@ use Rattle.numbers.specs.Lists.{tab}
 use Rattle.numbers.proofs.Scattered.{scatter_tab}
 use Rattle.config.specs.declared.GateScan.{GateScan}
 use Rattle.config.specs.declared.PanelGeometry.{PanelGeometry}
-use Rattle.gates.specs.declared.Row.TheVariants.{Is}
 use Rattle.gates.specs.Gates.{even_gates, row_of, row_of_gate, row_or, native_row, physical_row, gates_stored}
 use Rattle.gates.proofs.Stored.{stored_is}
 use Rattle.gates_laws.specs.OneToOne.{gate_of, gate_of_row, Scanned, OneToOne, ShownOnce}
@@ -87,7 +87,7 @@ module _ (scan : GateScan) (lines : ℕ) (asked : Scanned scan lines) where
   even : scan.gd ≡ true → lines % 2 ≡ 0
   even gd = let e = asked.even gd in omega (arith, e)
 
-  there : (gate : ℕ) → gate < lines → row_of_gate gate scan lines ≡ Is (row_of scan.sm scan.gd gate lines)
+  there : (gate : ℕ) → gate < lines → row_of_gate gate scan lines ≡ Some (row_of scan.sm scan.gd gate lines)
   unfolding row_of_gate
   there gate l =
       let row = row_of scan.sm scan.gd gate lines in
@@ -103,7 +103,7 @@ module _ (scan : GateScan) (lines : ℕ) (asked : Scanned scan lines) where
         row_lt = λ gate l. row_below scan.sm scan.gd gate lines even l;
         has_gate = λ row l.
             there (gate_of scan.sm scan.gd row lines) (gate_below scan.sm scan.gd row lines even l)
-            ∙ ap Is (row_gate scan.sm scan.gd row lines even l);
+            ∙ ap Some (row_gate scan.sm scan.gd row lines even l);
         gate_lt = λ row l. gate_below scan.sm scan.gd row lines even l;
         gate_again = λ gate l. gate_row scan.sm scan.gd gate lines even l;
         row_again = λ row l. row_gate scan.sm scan.gd row lines even l;
@@ -168,11 +168,11 @@ module _ (g : PanelGeometry) (asked : Scanned g.native_scan g.height) where
       by false = paired.row_lt gate l
 
   -- under the native scan the RAM's rows lie on the glass in sequence, from the top or from the bottom
-  pub in_sequence : (y : ℕ) → y < h → row_of_gate (gate_of_row g y) scan h ≡ Is (pick g.rows_reversed (h - 1 - y) y)
+  pub in_sequence : (y : ℕ) → y < h → row_of_gate (gate_of_row g y) scan h ≡ Some (pick g.rows_reversed (h - 1 - y) y)
   unfolding gate_of_row
   in_sequence y l = by g.rows_reversed
     where
-      by : (b : Bool) → row_of_gate (gate_of scan.sm scan.gd (pick b (h - 1 - y) y) h) scan h ≡ Is (pick b (h - 1 - y) y)
+      by : (b : Bool) → row_of_gate (gate_of scan.sm scan.gd (pick b (h - 1 - y) y) h) scan h ≡ Some (pick b (h - 1 - y) y)
       by true = paired.has_gate (h - 1 - y) (flipped y l)
       by false = paired.has_gate y l
 

@@ -1,9 +1,8 @@
 -- The gate of a row, and what it is for gates and rows to be one to one (#113; datasheet Table 8-2, read from the row to the gate).
-use Rattle.std.specs.Prelude.{◌≡◌, Bool, true, false, ℕ, ◌+◌, ◌-◌, ◌*◌, ◌%◌, ◌≤◌, ◌<◌, ltb, eqb}
+use Rattle.std.specs.Prelude.{◌≡◌, Bool, true, false, ℕ, ◌+◌, ◌-◌, ◌*◌, ◌%◌, ◌≤◌, ◌<◌, ltb, eqb, Some}
 use Rattle.numbers.specs.Choice.{pick}
 use Rattle.config.specs.declared.GateScan.{GateScan}
 use Rattle.config.specs.declared.PanelGeometry.{PanelGeometry}
-use Rattle.gates.specs.declared.Row.TheVariants.{Is}
 use Rattle.gates.specs.Gates.{even_gates, row_of, row_of_gate}
 
 -- the gate of a row by SM and GD: Table 8-2 read the other way
@@ -26,9 +25,9 @@ pub record Scanned (scan : GateScan) (lines : ℕ) : Type 0 where
 -- what it is for gates and rows to be one to one under a scan of so many lines
 pub record OneToOne (scan : GateScan) (lines : ℕ) : Type 0 where
   -- every gate that is scanned has a row, and every row is one of a gate
-  pub has_row : (gate : ℕ) → gate < lines → row_of_gate gate scan lines ≡ Is (row_of scan.sm scan.gd gate lines)
+  pub has_row : (gate : ℕ) → gate < lines → row_of_gate gate scan lines ≡ Some (row_of scan.sm scan.gd gate lines)
   pub row_lt : (gate : ℕ) → gate < lines → row_of scan.sm scan.gd gate lines < lines
-  pub has_gate : (row : ℕ) → row < lines → row_of_gate (gate_of scan.sm scan.gd row lines) scan lines ≡ Is row
+  pub has_gate : (row : ℕ) → row < lines → row_of_gate (gate_of scan.sm scan.gd row lines) scan lines ≡ Some row
   pub gate_lt : (row : ℕ) → row < lines → gate_of scan.sm scan.gd row lines < lines
   -- from a gate to its row and back, and from a row to its gate and back
   pub gate_again : (gate : ℕ) → gate < lines → gate_of scan.sm scan.gd (row_of scan.sm scan.gd gate lines) lines ≡ gate
@@ -39,6 +38,6 @@ pub record ShownOnce (gate : ℕ → ℕ) (lines : ℕ) (scan : GateScan) (row :
   -- a row of the glass whose gate shows the RAM's row
   pub place : ℕ
   pub within : place < lines
-  pub shows : row_of_gate (gate place) scan lines ≡ Is row
+  pub shows : row_of_gate (gate place) scan lines ≡ Some row
   -- and no other
-  pub alone : (y : ℕ) → y < lines → row_of_gate (gate y) scan lines ≡ Is row → y ≡ place
+  pub alone : (y : ℕ) → y < lines → row_of_gate (gate y) scan lines ≡ Some row → y ≡ place

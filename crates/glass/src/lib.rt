@@ -28,10 +28,10 @@ pub struct Optics {
     pub initial_gray: u8,
 }
 
-impl Optics {
-    pub fn default() -> Optics
-        ensures { result ≡ default_optics }
-    {
+impl Default for Optics {
+    ghost is_default = { λ optics. optics ≡ default_optics };
+
+    fn default() -> Optics {
         Optics {
             provenance: Provenance::Approximation,
             full_swing: 6_000_000_000_000,

@@ -8,14 +8,12 @@ fn shift_of(swing: u64) -> u64
     requires { swing < 9223372036854775808 }
     ensures { Steps swing result }
 {
-    let mut shift = 0;
-    while shift < 54 {
+    for shift in 0..54 {
         if swing >> shift < 512 {
             return shift;
         }
-        shift += 1;
     }
-    shift
+    54
 }
 
 // How long a step is: 2^shift states.

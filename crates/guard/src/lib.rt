@@ -2,7 +2,7 @@
 #![tactic(auto)]
 
 ghost use Rattle.std.specs.Prelude.{◌≡◌};
-ghost use Rattle.guard.specs.Refusals.{accepts, refusal_number, guarded, guarded_with_table};
+ghost use Rattle.guard.specs.Refusals.{number_of, guarded, guarded_with_table};
 
 use device::Ssd1677;
 use guard_lengths::Lengths;
@@ -10,7 +10,6 @@ use guard_lengths::Lengths;
 // Why a call was refused.
 #[derive(Clone, Copy)]
 pub enum Refusal {
-    Accepted,
     // 11: a buffer's length.
     Buffer,
     // 12: the table of waveforms.
@@ -21,33 +20,29 @@ pub enum Refusal {
     Counts,
 }
 
-pub fn is_accepted(refusal: Refusal) -> bool
-    ensures { result ≡ accepts refusal }
-{
-    match refusal {
-        Refusal::Accepted => true,
-        Refusal::Buffer => false,
-        Refusal::Table => false,
-        Refusal::State => false,
-        Refusal::Counts => false,
+// The refusal's number.
+impl From<Refusal> for u8 {
+    ghost from_gives = { λ refusal number. number ≡ number_of refusal };
+
+    fn from(refusal: Refusal) -> u8 {
+        match refusal {
+            Refusal::Buffer => 11,
+            Refusal::Table => 12,
+            Refusal::State => 13,
+            Refusal::Counts => 15,
+        }
     }
 }
 
-// The refusal's number, 0 for none.
-pub fn number(refusal: Refusal) -> u8
-    ensures { result ≡ refusal_number refusal }
-{
-    match refusal {
-        Refusal::Accepted => 0,
-        Refusal::Buffer => 11,
-        Refusal::Table => 12,
-        Refusal::State => 13,
-        Refusal::Counts => 15,
-    }
+// What a refused call hands back: the state as it was given.
+#[derive(Clone, Copy)]
+pub struct Refused {
+    pub refusal: Refusal,
+    pub state: Ssd1677,
 }
 
 // For a call that is lent no table.
-pub fn check(state: Ssd1677, lengths: Lengths) -> Refusal
+pub fn check(state: Ssd1677, lengths: Lengths) -> Result<(), Refusal>
     ensures { result ≡ guarded state lengths }
 {
     let config = state.config;
@@ -55,29 +50,25 @@ pub fn check(state: Ssd1677, lengths: Lengths) -> Refusal
     let fit = guard_lengths::lengths_fit(config.panel, lengths);
     let counted = guard_lengths::counts_fit(lengths);
     if !fine {
-        return Refusal::State;
+        return Err(Refusal::State);
     }
     if !fit {
-        return Refusal::Buffer;
+        return Err(Refusal::Buffer);
     }
     if !counted {
-        return Refusal::Counts;
+        return Err(Refusal::Counts);
     }
-    Refusal::Accepted
+    Ok(())
 }
 
 // For a call that is lent a table.
-pub fn check_with_table(state: Ssd1677, lengths: Lengths, otp: &[u8]) -> Refusal
+pub fn check_with_table(state: Ssd1677, lengths: Lengths, otp: &[u8]) -> Result<(), Refusal>
     ensures { result ≡ guarded_with_table state lengths otp.now }
 {
-    let refusal = check(state, lengths);
-    let accepted = is_accepted(refusal);
     let bad = otp::is_bad_table(otp);
-    if !accepted {
-        return refusal;
-    }
+    check(state, lengths)?;
     if bad {
-        return Refusal::Table;
+        return Err(Refusal::Table);
     }
-    Refusal::Accepted
+    Ok(())
 }

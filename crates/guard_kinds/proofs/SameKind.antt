@@ -1,4 +1,5 @@
 -- Two kinds whose numbers agree are equal, and what that says of an active command. Assumes nothing.
+use Rattle.std.specs.Prelude.{Option, Some, None}
 use mathlib.Core.Path.{◌≡◌, refl, sym, ap, ◌∙◌}
 use mathlib.Core.Bool.{Bool, true, false, ◌&&◌}
 use lib.Dec.{eqb}
@@ -11,8 +12,6 @@ use Rattle.device.specs.declared.Params.TheVariants.{Exactly, Between, Stream}
 use Rattle.device.specs.declared.Active as the
 use Rattle.device.specs.declared.Current.{Current}
 use Rattle.device.specs.declared.Current.TheVariants.{Active}
-use Rattle.command.specs.declared.Known.{Known}
-use Rattle.command.specs.declared.Known.TheVariants.{Of, Unknown}
 use Rattle.command.specs.Table.{kind_of}
 use Rattle.guard_kinds.specs.declared.Code.{Code}
 use Rattle.guard_kinds.specs.Kinds.{code_of, same_code, same_kind, gives, current_fine}
@@ -21,14 +20,14 @@ pub same : (a b : Kind) (x y : Code) → x ≡ code_of a → y ≡ code_of b →
 unfolding same_kind
 same a b x y e f = rw (e, f)
 
-module _ (current : Current) (a : the.Active) (known : Known) (is : current ≡ Active a) (given : known ≡ kind_of a.command) where
-  pub of_kind : (k : Kind) (r : Bool) → known ≡ Of k → r ≡ same_kind k a.kind → r ≡ current_fine current
+module _ (current : Current) (a : the.Active) (known : Option Kind) (is : current ≡ Active a) (given : known ≡ kind_of a.command) where
+  pub of_kind : (k : Kind) (r : Bool) → known ≡ Some k → r ≡ same_kind k a.kind → r ≡ current_fine current
   unfolding current_fine
-  of_kind k r e f = f ∙ ap (λ (x : Known). gives x a.kind) (sym e ∙ given) ∙ ap current_fine (sym is)
+  of_kind k r e f = f ∙ ap (λ (x : Option Kind). gives x a.kind) (sym e ∙ given) ∙ ap current_fine (sym is)
 
-  pub of_none : known ≡ Unknown → false ≡ current_fine current
+  pub of_none : known ≡ None → false ≡ current_fine current
   unfolding current_fine
-  of_none e = ap (λ (x : Known). gives x a.kind) (sym e ∙ given) ∙ ap current_fine (sym is)
+  of_none e = ap (λ (x : Option Kind). gives x a.kind) (sym e ∙ given) ∙ ap current_fine (sym is)
 
 -- ---- the numbers of a kind name it
 kind_from : Code → Kind
@@ -68,6 +67,6 @@ unfolding same_kind
 same_as_itself k = agrees (code_of k)
 
 -- an active command that has the kind that `kind` gives it passes 13
-pub active_fine : (a : the.Active) → kind_of a.command ≡ Of a.kind → current_fine (Active a) ≡ true
+pub active_fine : (a : the.Active) → kind_of a.command ≡ Some a.kind → current_fine (Active a) ≡ true
 unfolding current_fine
-active_fine a e = ap (λ (x : Known). gives x a.kind) e ∙ same_as_itself a.kind
+active_fine a e = ap (λ (x : Option Kind). gives x a.kind) e ∙ same_as_itself a.kind

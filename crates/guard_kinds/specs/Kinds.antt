@@ -1,12 +1,10 @@
 -- When an active command has the kind that `kind` gives it (13; SCOPE, Refusals).
-use Rattle.std.specs.Prelude.{Bool, true, false, ◌&&◌, eqb}
+use Rattle.std.specs.Prelude.{Bool, true, false, ◌&&◌, eqb, Option, Some, None}
 use Rattle.device.specs.declared.Kind.{Kind}
 use Rattle.device.specs.declared.Kind.TheVariants.{Write, Read, Unsupported, Reserved}
 use Rattle.device.specs.declared.Params.TheVariants.{Exactly, Between, Stream}
 use Rattle.device.specs.declared.Current.{Current}
 use Rattle.device.specs.declared.Current.TheVariants.{Idle, Ignoring, Active}
-use Rattle.command.specs.declared.Known.{Known}
-use Rattle.command.specs.declared.Known.TheVariants.{Of, Unknown}
 use Rattle.command.specs.Table.{kind_of}
 use Rattle.guard_kinds.specs.declared.Code.{Code}
 
@@ -28,9 +26,9 @@ unfoldable pub same_kind : Kind → Kind → Bool
 same_kind a b = same_code (code_of a) (code_of b)
 
 -- Table 7-1 has the kind
-abbrev pub gives : Known → Kind → Bool
-gives Unknown k = false
-gives (Of given) k = same_kind given k
+abbrev pub gives : Option Kind → Kind → Bool
+gives None k = false
+gives (Some given) k = same_kind given k
 
 -- an active command's kind is the one that `kind` gives it
 unfoldable pub current_fine : Current → Bool

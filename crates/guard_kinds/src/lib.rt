@@ -4,7 +4,6 @@
 ghost use Rattle.std.specs.Prelude.{◌≡◌};
 ghost use Rattle.guard_kinds.specs.Kinds.{code_of, same_kind, current_fine};
 
-use command::Known;
 use device::{Current, Kind, Params};
 
 // A kind in numbers, so that two are compared without going through every pair of cases.
@@ -72,8 +71,8 @@ pub fn current_is_fine(current: Current) -> bool
             let kind = active.kind;
             let known = command::kind(active.command);
             match known {
-                Known::Of(given) => same_kind(given, kind),
-                Known::Unknown => false,
+                Some(given) => same_kind(given, kind),
+                None => false,
             }
         }
     }

@@ -1,4 +1,5 @@
 -- What a call that is not refused knows of what it was handed. Assumes nothing.
+use Rattle.std.specs.Prelude.{Option, Some, Result, Ok, Err}
 use Prim.Native.Nat.{ℕ, zero, suc, ◌+◌, ◌%◌, ◌≤◌, ◌<◌}
 use mathlib.Core.Path.{◌≡◌, refl, sym, ap, ◌∙◌, subst}
 use mathlib.Core.Bool.{Bool, true, false, ◌&&◌, not}
@@ -19,15 +20,13 @@ use Rattle.otp.specs.Table.{bad_table}
 use Rattle.device.specs.declared.Registers.{Registers}
 use Rattle.device.specs.declared.Ssd1677.{Ssd1677}
 use Rattle.registers.proofs.Bounds.{Bounded}
-use Rattle.guard_lengths.specs.declared.LentLength.{LentLength}
-use Rattle.guard_lengths.specs.declared.LentLength.TheVariants.{Of}
 use Rattle.guard_lengths.specs.declared.Lengths.{Lengths}
 use Rattle.guard.specs.declared.Refusal.{Refusal}
-use Rattle.guard.specs.declared.Refusal.TheVariants.{Accepted, Buffer, Table, State, Counts}
+use Rattle.guard.specs.declared.Refusal.TheVariants.{Buffer, Table, State, Counts}
 use Rattle.guard_kinds.specs.Kinds.{current_fine}
 use Rattle.guard_state.specs.State.{panel_fine, swing_fine, periods_fine, registers_fine, count_fine, frequency_fine, state_fine}
 use Rattle.guard_lengths.specs.Lengths.{plane_bytes, log_bytes, pixels_of, fits, lengths_fit, counts_fit}
-use Rattle.guard.specs.Refusals.{accepts, guarded, guarded_with_table}
+use Rattle.guard.specs.Refusals.{guarded, guarded_with_table}
 use Rattle.guard_laws.proofs.Joined.{each}
 use Rattle.guard_state.proofs.Periods.{none_of, each_above_zero}
 
@@ -35,24 +34,28 @@ use Rattle.guard_state.proofs.Periods.{none_of, each_above_zero}
 never : false ≡ true → ⊥
 never e = let z : ◌≡◌ {A = ℕ} 0 1 = cc in omega arith
 
-not_accepted : (r : Refusal) → accepts r ≡ false → r ≡ Accepted → ⊥
-not_accepted r h e = never (sym h ∙ ap accepts e)
+abbrev let_pass : Result Unit Refusal
+let_pass = Ok tt
 
-three : (a b k : Bool) → pick (not a) State (pick (not b) Buffer (pick (not k) Counts Accepted)) ≡ Accepted → (a ≡ true) × (b ≡ true) × (k ≡ true)
+refused_not : (r : Refusal) → Err r ≡ let_pass → ⊥
+refused_not r e = cc
+
+three : (a b k : Bool) → pick (not a) (Err State) (pick (not b) (Err Buffer) (pick (not k) (Err Counts) (let_pass))) ≡ let_pass
+    → (a ≡ true) × (b ≡ true) × (k ≡ true)
 three true true true e = (refl, refl, refl)
-three true true false e = absurd (not_accepted Counts refl e)
-three true false k e = absurd (not_accepted Buffer refl e)
-three false b k e = absurd (not_accepted State refl e)
+three true true false e = absurd (refused_not Counts e)
+three true false k e = absurd (refused_not Buffer e)
+three false b k e = absurd (refused_not State e)
 
-four : (a b k c : Bool) → pick (not a) State (pick (not b) Buffer (pick (not k) Counts (pick c Table Accepted))) ≡ Accepted
+four : (a b k c : Bool) → pick (not a) (Err State) (pick (not b) (Err Buffer) (pick (not k) (Err Counts) (pick c (Err Table) (let_pass)))) ≡ let_pass
     → (a ≡ true) × (b ≡ true) × (k ≡ true) × (c ≡ false)
-four true true true true e = absurd (not_accepted Table refl e)
+four true true true true e = absurd (refused_not Table e)
 four true true true false e = (refl, refl, refl, refl)
-four true true false c e = absurd (not_accepted Counts refl e)
-four true false k c e = absurd (not_accepted Buffer refl e)
-four false b k c e = absurd (not_accepted State refl e)
+four true true false c e = absurd (refused_not Counts e)
+four true false k c e = absurd (refused_not Buffer e)
+four false b k c e = absurd (refused_not State e)
 
-module _ (d : Ssd1677) (l : Lengths) (passes : guarded d l ≡ Accepted) where
+module _ (d : Ssd1677) (l : Lengths) (passes : guarded d l ≡ Ok tt) where
   passed : (state_fine d ≡ true) × (lengths_fit d.config.panel l ≡ true) × (counts_fit l ≡ true)
   unfolding guarded
   passed = three (state_fine d) (lengths_fit d.config.panel l) (counts_fit l) passes
@@ -66,7 +69,7 @@ module _ (d : Ssd1677) (l : Lengths) (passes : guarded d l ≡ Accepted) where
   pub accepted_counts : l.counts ≡ 256
   accepted_counts = eqb-true l.counts 256 passed.2
 
-module _ (d : Ssd1677) (l : Lengths) (otp : List ℕ) (passes : guarded_with_table d l otp ≡ Accepted) where
+module _ (d : Ssd1677) (l : Lengths) (otp : List ℕ) (passes : guarded_with_table d l otp ≡ Ok tt) where
   passed_table : (state_fine d ≡ true) × (lengths_fit d.config.panel l ≡ true) × (counts_fit l ≡ true) × (bad_table otp ≡ false)
   unfolding guarded_with_table
   passed_table = four (state_fine d) (lengths_fit d.config.panel l) (counts_fit l) (bad_table otp) passes
@@ -95,9 +98,6 @@ pub none_refuses : (t : Test) (ts : List Test) → is_accepted (first_of (t ∷ 
 unfolding first_of
 none_refuses t ts e = by t.refuses e
   where
-    never : false ≡ true → ⊥
-    never f = let z : ◌≡◌ {A = ℕ} 0 1 = cc in omega arith
-
     by : (r : Bool) → is_accepted (pick r (refused t.number t.value) (first_of ts)) ≡ true → (r ≡ false) × (is_accepted (first_of ts) ≡ true)
     by true f = absurd (never f)
     by false f = (refl, f)
@@ -189,14 +189,14 @@ pub record FineLengths (p : PanelGeometry) (l : Lengths) : Type 0 where
   pub states : l.states ≡ pixels_of p
   pub luts : l.luts ≡ pixels_of p
   pub pixels : l.pixels ≡ pixels_of p
-  pub log : (n : ℕ) → l.log ≡ Of n → n ≡ 16384
-  pub black_white : (n : ℕ) → l.black_white ≡ Of n → n ≡ 81600
-  pub red : (n : ℕ) → l.red ≡ Of n → n ≡ 81600
-  pub gates : (n : ℕ) → l.gates ≡ Of n → n ≡ p.height
+  pub log : (n : ℕ) → l.log ≡ Some n → n ≡ 16384
+  pub black_white : (n : ℕ) → l.black_white ≡ Some n → n ≡ 81600
+  pub red : (n : ℕ) → l.red ≡ Some n → n ≡ 81600
+  pub gates : (n : ℕ) → l.gates ≡ Some n → n ≡ p.height
 
-right_length : (b : LentLength) (size : ℕ) → fits b size ≡ true → (n : ℕ) → b ≡ Of n → n ≡ size
+right_length : (b : Option ℕ) (size : ℕ) → fits b size ≡ true → (n : ℕ) → b ≡ Some n → n ≡ size
 unfolding fits
-right_length b size e n f = eqb-true n size (ap (λ (x : LentLength). fits x size) (sym f) ∙ e)
+right_length b size e n f = eqb-true n size (ap (λ (x : Option ℕ). fits x size) (sym f) ∙ e)
 
 pub fine_lengths : (p : PanelGeometry) (l : Lengths) → lengths_fit p l ≡ true → FineLengths p l
 unfolding lengths_fit

@@ -13,13 +13,6 @@ const LOG_BYTES: usize = 16_384;
 // A count for each grey.
 const GREYS: usize = 256;
 
-// A buffer that only some calls are lent.
-#[derive(Clone, Copy)]
-pub enum LentLength {
-    Nothing,
-    Of(usize),
-}
-
 // Every call is lent the buffers of the glass.
 #[derive(Clone, Copy)]
 pub struct Lengths {
@@ -27,10 +20,10 @@ pub struct Lengths {
     pub luts: usize,
     pub pixels: usize,
     pub counts: usize,
-    pub log: LentLength,
-    pub black_white: LentLength,
-    pub red: LentLength,
-    pub gates: LentLength,
+    pub log: Option<usize>,
+    pub black_white: Option<usize>,
+    pub red: Option<usize>,
+    pub gates: Option<usize>,
 }
 
 fn lengths_of(
@@ -38,10 +31,10 @@ fn lengths_of(
     luts: usize,
     pixels: usize,
     counts: usize,
-    log: LentLength,
-    black_white: LentLength,
-    red: LentLength,
-    gates: LentLength,
+    log: Option<usize>,
+    black_white: Option<usize>,
+    red: Option<usize>,
+    gates: Option<usize>,
 ) -> Lengths
     ensures { result ≡ lengths_of states luts pixels counts log black_white red gates }
 {
@@ -61,7 +54,7 @@ fn lengths_of(
 pub fn glass_lent(states: usize, luts: usize, pixels: usize, counts: usize) -> Lengths
     ensures { result ≡ glass_lent states luts pixels counts }
 {
-    let none = LentLength::Nothing;
+    let none = None;
     lengths_of(states, luts, pixels, counts, none, none, none, none)
 }
 
@@ -75,8 +68,8 @@ pub fn glass_log_lent(
 ) -> Lengths
     ensures { result ≡ glass_log_lent states luts pixels counts log }
 {
-    let none = LentLength::Nothing;
-    let log = LentLength::Of(log);
+    let none = None;
+    let log = Some(log);
     lengths_of(states, luts, pixels, counts, log, none, none, none)
 }
 
@@ -92,10 +85,10 @@ pub fn planes_log_lent(
 ) -> Lengths
     ensures { result ≡ planes_log_lent states luts pixels counts log black_white red }
 {
-    let none = LentLength::Nothing;
-    let log = LentLength::Of(log);
-    let black_white = LentLength::Of(black_white);
-    let red = LentLength::Of(red);
+    let none = None;
+    let log = Some(log);
+    let black_white = Some(black_white);
+    let red = Some(red);
     lengths_of(states, luts, pixels, counts, log, black_white, red, none)
 }
 
@@ -112,19 +105,19 @@ pub fn all_lent(
 ) -> Lengths
     ensures { result ≡ all_lent states luts pixels counts log black_white red gates }
 {
-    let log = LentLength::Of(log);
-    let black_white = LentLength::Of(black_white);
-    let red = LentLength::Of(red);
-    let gates = LentLength::Of(gates);
+    let log = Some(log);
+    let black_white = Some(black_white);
+    let red = Some(red);
+    let gates = Some(gates);
     lengths_of(states, luts, pixels, counts, log, black_white, red, gates)
 }
 
-fn fits(lent: LentLength, right: usize) -> bool
+fn fits(lent: Option<usize>, right: usize) -> bool
     ensures { result ≡ fits lent right }
 {
     match lent {
-        LentLength::Nothing => true,
-        LentLength::Of(length) => length == right,
+        None => true,
+        Some(length) => length == right,
     }
 }
 

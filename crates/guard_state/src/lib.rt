@@ -22,8 +22,7 @@ const MOST_SWING: i64 = 9_223_372_036_854_775_807;
 fn panel_is_fine(panel: PanelGeometry) -> bool
     ensures { result ≡ panel_fine panel }
 {
-    let error = config::geometry_error(panel);
-    config::is_accepted(error)
+    config::check_geometry(panel).is_ok()
 }
 
 fn swing_is_fine(glass: Panel) -> bool

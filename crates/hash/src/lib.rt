@@ -17,10 +17,8 @@ pub fn of_bytes(bytes: &[u8]) -> u64
     ensures { result ≡ hash_of bytes.now }
 {
     let mut h: u64 = 0;
-    let mut i: usize = 0;
-    while i < bytes.len() {
-        h = step(h, bytes[i]);
-        i += 1;
+    for byte in bytes {
+        h = step(h, *byte);
     }
     h
 }
@@ -39,10 +37,8 @@ pub fn of_words(words: &[u16]) -> u64
     ensures { result ≡ hash_of (word_bytes words.now) }
 {
     let mut h: u64 = 0;
-    let mut i: usize = 0;
-    while i < words.len() {
-        h = word(h, words[i]);
-        i += 1;
+    for next in words {
+        h = word(h, *next);
     }
     h
 }
@@ -79,10 +75,8 @@ pub fn of_counts(counts: &[u32]) -> u64
     ensures { result ≡ hash_of (count_bytes counts.now) }
 {
     let mut h: u64 = 0;
-    let mut i: usize = 0;
-    while i < counts.len() {
-        h = four(h, counts[i] as u64);
-        i += 1;
+    for count in counts {
+        h = four(h, u64::from(*count));
     }
     h
 }
@@ -101,10 +95,8 @@ pub fn of_states(states: &[i64]) -> u64
     ensures { result ≡ hash_of (state_bytes states.now) }
 {
     let mut h: u64 = 0;
-    let mut i: usize = 0;
-    while i < states.len() {
-        h = state(h, states[i]);
-        i += 1;
+    for next in states {
+        h = state(h, *next);
     }
     h
 }

@@ -3,13 +3,13 @@
 
 ghost use Rattle.std.specs.Prelude.{◌≡◌};
 ghost use Rattle.guard.specs.Refusals.{refusal_number};
-ghost use Rattle.query.specs.Outcome.{outcome};
+ghost use Rattle.query.specs.Outcome.{outcome, answer_in, state_in};
 ghost use Rattle.counts.specs.Counts.{picture};
 ghost use Rattle.world.specs.World.{with_planes};
 ghost use Rattle.high.specs.Data.{data_written};
 
 use device::{Ssd1677, part};
-use query::CallAnswer;
+use guard::Refused;
 
 // A byte with D/C# high, written by the MCU. A byte of RAM data, of which a frame has 48,000, is done here at once.
 pub fn write_data(
@@ -23,8 +23,8 @@ pub fn write_data(
     log: &mut [u8],
     time: u64,
     byte: u8,
-) -> CallAnswer
-    ensures { outcome (refusal_number result.refusal) (with_planes result.state states.new (picture pixels.new counts.new) black_white.new red.new log.new) ≡ data_written luts.now time byte (with_planes state states.old (picture pixels.old counts.old) black_white.old red.old log.old) }
+) -> Result<Ssd1677, Refused>
+    ensures { outcome (refusal_number (answer_in result)) (with_planes (state_in result) states.new (picture pixels.new counts.new) black_white.new red.new log.new) ≡ data_written luts.now time byte (with_planes state states.old (picture pixels.old counts.old) black_white.old red.old log.old) }
 {
     let lengths = guard_lengths::planes_log_lent(
         states.len(),
@@ -35,21 +35,17 @@ pub fn write_data(
         black_white.len(),
         red.len(),
     );
-    let refusal = guard::check(state, lengths);
-    if guard::is_accepted(refusal) {
-        let moved = clock::move_clock(state, time);
-        if clock::is_quiet(moved) {
-            let step = data::stream(moved, black_white, red, byte);
-            if step.done {
-                let state = part::set_pointed(moved, step.counter, step.bus);
-                return CallAnswer { refusal, state };
-            }
-            let state = data::write_other(moved, black_white, red, log, byte);
-            return CallAnswer { refusal, state };
-        }
-        let present = clock::advance(state, states, luts, pixels, counts, time);
-        let state = data::write(present, black_white, red, log, byte);
-        return CallAnswer { refusal, state };
+    if let Err(refusal) = guard::check(state, lengths) {
+        return Err(Refused { refusal, state });
     }
-    CallAnswer { refusal, state }
+    let moved = clock::move_clock(state, time);
+    if clock::is_quiet(moved) {
+        let step = data::stream(moved, black_white, red, byte);
+        if step.done {
+            return Ok(part::set_pointed(moved, step.counter, step.bus));
+        }
+        return Ok(data::write_other(moved, black_white, red, log, byte));
+    }
+    let present = clock::advance(state, states, luts, pixels, counts, time);
+    Ok(data::write(present, black_white, red, log, byte))
 }

@@ -1,5 +1,6 @@
 -- All else leaves the picture alone (#108): a call that ends no refresh and cuts none leaves every pixel and every grey count as it was,
 -- whatever they were. A refresh that a fall of RES# drops is neither ended nor cut. Assumes nothing.
+use Rattle.std.specs.Prelude.{None}
 use Prim.Native.Nat.{ℕ, ◌-◌, max}
 use mathlib.Core.Path.{◌≡◌, refl, sym, ap, subst, ◌∙◌}
 use mathlib.Core.Bool.{Bool, true, false, ◌&&◌, not}
@@ -10,7 +11,6 @@ use lib.ListN.{length}
 use borrow.Author.Tests.{eqb-true}
 use Rattle.numbers.specs.Choice.{pick}
 use Rattle.numbers.specs.Rows.{lookup}
-use Rattle.waveform.specs.declared.Until.TheVariants.{Whole}
 use Rattle.panel.specs.Finish.{finished}
 use Rattle.diagnostic.specs.declared.DiagnosticKind.TheVariants.{ResetDuringDisplay, WhileBusy, WhileAsleep, WhileInReset}
 use Rattle.device.specs.declared.Kind.TheVariants.{Write}
@@ -64,7 +64,7 @@ advance_leaves luts time g = by (is_over (clocked time g).device)
     x = clocked time g
 
     by : (b : Bool) → pick b (refresh luts g.device.display all ∷ []) [] ≡ []
-        → (quieted (pick b (glass_published x (finished (ending_of x.device x.device.display.ends Whole) luts (glass_of x))) x)).picture ≡ g.picture
+        → (quieted (pick b (glass_published x (finished (ending_of x.device x.device.display.ends None) luts (glass_of x))) x)).picture ≡ g.picture
     by true e = absurd (some_none (refresh luts g.device.display all) [] e)
     by false e = refl
 

@@ -1,5 +1,6 @@
 -- The clock's move and a command's start: what the core keeps of them does not look at the glass, the journal or the log, and a command
 -- other than 0x20 leaves the glass. Assumes nothing.
+use Rattle.std.specs.Prelude.{Option, Some, None}
 use Prim.Native.Nat.{ℕ}
 use mathlib.Core.Path.{◌≡◌, refl, sym, ap, ◌∙◌}
 use mathlib.Core.Bool.{Bool, true, false, ◌||◌}
@@ -13,11 +14,8 @@ use Rattle.device.specs.declared.Kind.TheVariants.{Write, Read, Unsupported, Res
 use Rattle.device.specs.declared.Power.{Power}
 use Rattle.device.specs.declared.Power.TheVariants.{Running, Asleep, InReset}
 use Rattle.world.specs.World.{WithLog, with_log, WithGlass, with_glass, WithBuffers, with_buffers, Lent, on, device_in_buffers, log_in_buffers}
-use Rattle.command.specs.declared.Known.{Known}
-use Rattle.command.specs.declared.Known.TheVariants.{Of, Unknown}
 use Rattle.command.specs.Table.{kind_of}
 use Rattle.clock.specs.Advance.{is_over, clocked, quieted, glass_published, ending_of, glass_of, ended, advanced}
-use Rattle.waveform.specs.declared.Until.TheVariants.{Whole}
 use Rattle.panel.specs.Finish.{finished}
 use Rattle.chip.specs.Report.{logged}
 use Rattle.reset.specs.Reset.{restored}
@@ -36,7 +34,7 @@ unfolding advanced ended
 blind_advanced luts time g = by (is_over (clocked time g).device)
   where
     over : WithGlass → WithGlass
-    over x = glass_published x (finished (ending_of x.device x.device.display.ends Whole) luts (glass_of x))
+    over x = glass_published x (finished (ending_of x.device x.device.display.ends None) luts (glass_of x))
 
     by : (b : Bool)
         → plain_glass (quieted (pick b (over (clocked time g)) (clocked time g)))
@@ -111,23 +109,23 @@ module _ (k : Lent) (command : ℕ) where
       by false false true = (quiet_log (pointed command) (quiet_pointed command)).still w
       by false false false = refl
 
-  blind_kind : (known : Known) → Blind plain_buffers plain_buffers (λ (w : WithBuffers). command_by_kind k command w known)
+  blind_kind : (known : Option Kind) → Blind plain_buffers plain_buffers (λ (w : WithBuffers). command_by_kind k command w known)
   unfolding command_by_kind
-  blind_kind Unknown = (quiet_told (UnknownCommand command)).blind
-  blind_kind (Of Reserved) = (quiet_told (ReservedCommand command)).blind
-  blind_kind (Of Unsupported) = (quiet_told (UnsupportedCommand command)).blind
-  blind_kind (Of (Write params)) =
+  blind_kind None = (quiet_told (UnknownCommand command)).blind
+  blind_kind (Some Reserved) = (quiet_told (ReservedCommand command)).blind
+  blind_kind (Some Unsupported) = (quiet_told (UnsupportedCommand command)).blind
+  blind_kind (Some (Write params)) =
       blind_then plain_buffers plain_buffers plain_buffers (on device_in_buffers (command_made command (Write params))) (run k command) (quiet_made command (Write params)).blind blind_run
-  blind_kind (Of Read) =
+  blind_kind (Some Read) =
       blind_then plain_buffers plain_buffers plain_buffers (on device_in_buffers (command_made command Read)) (run k command) (quiet_made command Read).blind blind_run
 
-  still_kind : eqb command 0x20 ≡ false → (known : Known) (w : WithBuffers) → seen_buffers (command_by_kind k command w known) ≡ seen_buffers w
+  still_kind : eqb command 0x20 ≡ false → (known : Option Kind) (w : WithBuffers) → seen_buffers (command_by_kind k command w known) ≡ seen_buffers w
   unfolding command_by_kind
-  still_kind e Unknown w = (quiet_told (UnknownCommand command)).still w
-  still_kind e (Of Reserved) w = (quiet_told (ReservedCommand command)).still w
-  still_kind e (Of Unsupported) w = (quiet_told (UnsupportedCommand command)).still w
-  still_kind e (Of (Write params)) w = still_run e (on device_in_buffers (command_made command (Write params)) w) ∙ (quiet_made command (Write params)).still w
-  still_kind e (Of Read) w = still_run e (on device_in_buffers (command_made command Read) w) ∙ (quiet_made command Read).still w
+  still_kind e None w = (quiet_told (UnknownCommand command)).still w
+  still_kind e (Some Reserved) w = (quiet_told (ReservedCommand command)).still w
+  still_kind e (Some Unsupported) w = (quiet_told (UnsupportedCommand command)).still w
+  still_kind e (Some (Write params)) w = still_run e (on device_in_buffers (command_made command (Write params)) w) ∙ (quiet_made command (Write params)).still w
+  still_kind e (Some Read) w = still_run e (on device_in_buffers (command_made command Read) w) ∙ (quiet_made command Read).still w
 
   pub blind_begun : (power : Power) → Blind plain_buffers plain_buffers (λ (w : WithBuffers). begun k command w power)
   unfolding begun

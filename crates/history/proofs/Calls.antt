@@ -1,12 +1,13 @@
 -- What an answer tells of a call, by the contract of its entry point: one that is accepted leaves what its definition says; one that is
 -- refused leaves every part that it was handed, so that a run beside it stays as it was. Assumes nothing.
+use Rattle.std.specs.Prelude.{None, Result, Ok, Err}
 use Prim.Native.Nat.{ℕ, suc}
 use mathlib.Core.Path.{◌≡◌, sym, ap, ◌∙◌}
 use mathlib.Core.List.{List}
 use native.Mathlib.Omega.{arith}
 use lib.ListN.{length}
 use Rattle.guard.specs.declared.Refusal.{Refusal}
-use Rattle.guard.specs.declared.Refusal.TheVariants.{Accepted, Buffer, Table, State, Counts}
+use Rattle.guard.specs.declared.Refusal.TheVariants.{Buffer, Table, State, Counts}
 use Rattle.guard_lengths.specs.Lengths.{glass_lent, glass_log_lent, planes_log_lent}
 use Rattle.guard.specs.Refusals.{guarded, guarded_with_table}
 use Rattle.clock.specs.Advance.{advanced}
@@ -17,7 +18,6 @@ use Rattle.query.specs.Queries.{with_ambient, ambient_set, WithCount, with_count
 use Rattle.wait.specs.Wait.{clock_moved}
 use Rattle.res.specs.Line.{line_taken, line_moved}
 use Rattle.low.specs.Command.{command_taken, command_written}
-use Rattle.ram.specs.declared.Byte.TheVariants.{Nothing}
 use Rattle.high.specs.Data.{data_in, data_written}
 use Rattle.driven.specs.Read.{WithRead, with_read, read_in, data_read}
 use Rattle.calls.specs.World.{Call, advance, set_reset, write_command, write_data, read_data, set_ambient, take_diagnostics, back, called, taken}
@@ -29,19 +29,19 @@ nought : (n : ℕ) → 0 ≡ suc n → ⊥
 nought n e = omega arith
 
 module _ {A : Type 0} (put : A → World) (given done : A) where
-  decides : (r : Refusal) (v : World) → outcome 0 v ≡ back put (unless r given done) → v ≡ put done
-  decides Accepted v e = ap (λ (o : Outcome World). o.held) e
-  decides Buffer v e = absurd (nought 10 (ap (λ (o : Outcome World). o.number) e))
-  decides Table v e = absurd (nought 11 (ap (λ (o : Outcome World). o.number) e))
-  decides State v e = absurd (nought 12 (ap (λ (o : Outcome World). o.number) e))
-  decides Counts v e = absurd (nought 14 (ap (λ (o : Outcome World). o.number) e))
+  decides : (r : Result Unit Refusal) (v : World) → outcome 0 v ≡ back put (unless r given done) → v ≡ put done
+  decides (Ok value) v e = ap (λ (o : Outcome World). o.held) e
+  decides (Err Buffer) v e = absurd (nought 10 (ap (λ (o : Outcome World). o.number) e))
+  decides (Err Table) v e = absurd (nought 11 (ap (λ (o : Outcome World). o.number) e))
+  decides (Err State) v e = absurd (nought 12 (ap (λ (o : Outcome World). o.number) e))
+  decides (Err Counts) v e = absurd (nought 14 (ap (λ (o : Outcome World). o.number) e))
 
-  declines : (r : Refusal) (number : ℕ) (v : World) → (number ≡ 0 → ⊥) → outcome number v ≡ back put (unless r given done) → v ≡ put given
-  declines Accepted number v n e = absurd (n (ap (λ (o : Outcome World). o.number) e))
-  declines Buffer number v n e = ap (λ (o : Outcome World). o.held) e
-  declines Table number v n e = ap (λ (o : Outcome World). o.held) e
-  declines State number v n e = ap (λ (o : Outcome World). o.held) e
-  declines Counts number v n e = ap (λ (o : Outcome World). o.held) e
+  declines : (r : Result Unit Refusal) (number : ℕ) (v : World) → (number ≡ 0 → ⊥) → outcome number v ≡ back put (unless r given done) → v ≡ put given
+  declines (Ok value) number v n e = absurd (n (ap (λ (o : Outcome World). o.number) e))
+  declines (Err Buffer) number v n e = ap (λ (o : Outcome World). o.held) e
+  declines (Err Table) number v n e = ap (λ (o : Outcome World). o.held) e
+  declines (Err State) number v n e = ap (λ (o : Outcome World). o.held) e
+  declines (Err Counts) number v n e = ap (λ (o : Outcome World). o.held) e
 
 -- ---- by call
 pub accepted_taken : (otp : List ℕ) (w v : World) (call : Call) → outcome 0 v ≡ called otp w call → v ≡ taken otp w call
@@ -59,7 +59,7 @@ accepted_taken otp w v (write_data time byte) e =
     decides (planes_in_world.put w) (planes_in_world.get w) (data_in w.luts time byte (planes_in_world.get w))
     (guarded w.device (planes_log_lent (length w.states) (length w.luts) (length w.picture.pixels) (length w.picture.counts) (length w.log) (length w.black_white) (length w.red))) v e
 accepted_taken otp w v (read_data time) e =
-    decides (λ (r : WithRead). glass_log_in_world.put w r.left) (with_read (glass_log_in_world.get w) Nothing) (read_in w.luts w.black_white w.red time (glass_log_in_world.get w))
+    decides (λ (r : WithRead). glass_log_in_world.put w r.left) (with_read (glass_log_in_world.get w) None) (read_in w.luts w.black_white w.red time (glass_log_in_world.get w))
     (guarded w.device (planes_log_lent (length w.states) (length w.luts) (length w.picture.pixels) (length w.picture.counts) (length w.log) (length w.black_white) (length w.red))) v e
 accepted_taken otp w v (set_ambient register) e =
     decides (device_in_world.put w) w.device (with_config w.device (with_ambient w.device.config register))
@@ -83,7 +83,7 @@ refused_same otp w v number (write_data time byte) n e =
     declines (planes_in_world.put w) (planes_in_world.get w) (data_in w.luts time byte (planes_in_world.get w))
     (guarded w.device (planes_log_lent (length w.states) (length w.luts) (length w.picture.pixels) (length w.picture.counts) (length w.log) (length w.black_white) (length w.red))) number v n e
 refused_same otp w v number (read_data time) n e =
-    declines (λ (r : WithRead). glass_log_in_world.put w r.left) (with_read (glass_log_in_world.get w) Nothing) (read_in w.luts w.black_white w.red time (glass_log_in_world.get w))
+    declines (λ (r : WithRead). glass_log_in_world.put w r.left) (with_read (glass_log_in_world.get w) None) (read_in w.luts w.black_white w.red time (glass_log_in_world.get w))
     (guarded w.device (planes_log_lent (length w.states) (length w.luts) (length w.picture.pixels) (length w.picture.counts) (length w.log) (length w.black_white) (length w.red))) number v n e
 refused_same otp w v number (set_ambient register) n e =
     declines (device_in_world.put w) w.device (with_config w.device (with_ambient w.device.config register))

@@ -1,5 +1,6 @@
 -- The reset line beside the whole numbers: a fall works in what the cut let the refresh under way finish, and nothing of one whose driving
 -- had not begun. Assumes nothing.
+use Rattle.std.specs.Prelude.{Option, Some, None}
 use Prim.Native.Nat.{ℕ, ◌<◌, ◌-◌, max}
 use mathlib.Core.Path.{◌≡◌, refl, sym, ap, subst, ◌∙◌}
 use mathlib.Core.Bool.{Bool, true, false, ◌&&◌}
@@ -9,12 +10,9 @@ use lib.Dec.{leb}
 use borrow.Author.Tests.{leb-true, leb-false}
 use Rattle.numbers.specs.Choice.{pick}
 use Rattle.numbers.proofs.Cases.{left, right}
-use Rattle.waveform.specs.declared.Until.TheVariants.{Whole}
 use Rattle.panel.specs.Finish.{finished}
 use Rattle.diagnostic.specs.declared.DiagnosticKind.TheVariants.{ResetDuringDisplay}
 use Rattle.device.specs.declared.Bus.{Bus}
-use Rattle.device.specs.declared.Deadline.{Deadline}
-use Rattle.device.specs.declared.Deadline.TheVariants.{Never, At}
 use Rattle.device.specs.declared.Power.{Power}
 use Rattle.device.specs.declared.Power.TheVariants.{Running, Asleep, InReset}
 use Rattle.device.specs.declared.Ssd1677.{Ssd1677}
@@ -40,7 +38,7 @@ not_over luts time g = by (is_over (clocked time g).device) refl
     x = clocked time g
 
     y : Bool → WithGlass
-    y b = quieted (pick b (glass_published x (finished (ending_of x.device x.device.display.ends Whole) luts (glass_of x))) x)
+    y b = quieted (pick b (glass_published x (finished (ending_of x.device x.device.display.ends None) luts (glass_of x))) x)
 
     gone : false ≡ true → ⊥
     gone e = let z : ◌≡◌ {A = ℕ} 0 1 = cc in omega arith
@@ -56,7 +54,7 @@ now_moved luts time g = by (is_over (clocked time g).device)
     x : WithGlass
     x = clocked time g
 
-    by : (b : Bool) → (quieted (pick b (glass_published x (finished (ending_of x.device x.device.display.ends Whole) luts (glass_of x))) x)).device.now ≡ max g.device.now time
+    by : (b : Bool) → (quieted (pick b (glass_published x (finished (ending_of x.device x.device.display.ends None) luts (glass_of x))) x)).device.now ≡ max g.device.now time
     by true = refl
     by false = refl
 
@@ -67,15 +65,15 @@ config_moved luts time g = by (is_over (clocked time g).device)
     x : WithGlass
     x = clocked time g
 
-    by : (b : Bool) → (quieted (pick b (glass_published x (finished (ending_of x.device x.device.display.ends Whole) luts (glass_of x))) x)).device.config ≡ g.device.config
+    by : (b : Bool) → (quieted (pick b (glass_published x (finished (ending_of x.device x.device.display.ends None) luts (glass_of x))) x)).device.config ≡ g.device.config
     by true = refl
     by false = refl
 
-lowered_power : (until : Deadline) (bus : Bus) (t : ℕ) → (lowered until bus t).power ≡ bus.power
-lowered_power Never bus t = refl
-lowered_power (At until) bus t = by (leb until t)
+lowered_power : (until : Option ℕ) (bus : Bus) (t : ℕ) → (lowered until bus t).power ≡ bus.power
+lowered_power None bus t = refl
+lowered_power (Some until) bus t = by (leb until t)
   where
-    by : (b : Bool) → (pick b (record { power = bus.power; current = bus.current; busy_until = Never }) bus).power ≡ bus.power
+    by : (b : Bool) → (pick b (record { power = bus.power; current = bus.current; busy_until = None }) bus).power ≡ bus.power
     by true = refl
     by false = refl
 
@@ -87,7 +85,7 @@ bus_moved luts time g = by (is_over (clocked time g).device)
     x : WithGlass
     x = clocked time g
 
-    by : (b : Bool) → (quieted (pick b (glass_published x (finished (ending_of x.device x.device.display.ends Whole) luts (glass_of x))) x)).device.bus
+    by : (b : Bool) → (quieted (pick b (glass_published x (finished (ending_of x.device x.device.display.ends None) luts (glass_of x))) x)).device.bus
         ≡ lowered g.device.bus.busy_until g.device.bus (max g.device.now time)
     by true = refl
     by false = refl

@@ -1,4 +1,5 @@
 -- What the reckoning says of a moment, told of the state before the clock moved and of the state after it. Assumes nothing.
+use Rattle.std.specs.Prelude.{Option, Some, None}
 use Prim.Native.Nat.{ℕ, ◌-◌, max}
 use mathlib.Core.Path.{◌≡◌, refl, sym, ap, ◌∙◌}
 use mathlib.Core.Bool.{Bool, true, false, ◌&&◌}
@@ -7,11 +8,8 @@ use lib.Dec.{leb, ltb}
 use borrow.Author.Tests.{leb-true, leb-false, lt-ltb, le-ltb}
 use Rattle.numbers.specs.Choice.{pick}
 use Rattle.numbers.proofs.Cases.{right}
-use Rattle.waveform.specs.declared.Until.TheVariants.{Whole}
 use Rattle.panel.specs.Finish.{finished}
 use Rattle.device.specs.declared.Bus.{Bus}
-use Rattle.device.specs.declared.Deadline.{Deadline}
-use Rattle.device.specs.declared.Deadline.TheVariants.{Never, At}
 use Rattle.device.specs.declared.Ssd1677.{Ssd1677}
 use Rattle.world.specs.World.{WithGlass}
 use Rattle.busy.specs.Busy.{pending}
@@ -52,7 +50,7 @@ cut_moved luts time g = by (is_over (clocked time g).device) refl
     t = max g.device.now time
 
     y : Bool → WithGlass
-    y b = quieted (pick b (glass_published x (finished (ending_of x.device x.device.display.ends Whole) luts (chip.glass_of x))) x)
+    y b = quieted (pick b (glass_published x (finished (ending_of x.device x.device.display.ends None) luts (chip.glass_of x))) x)
 
     cuts : Bool → List Worked
     cuts b = pick b (refresh luts d.display (up_to (lasted d.config.frequency (t - d.display.started))) ∷ []) []
@@ -70,15 +68,15 @@ cut_moved luts time g = by (is_over (clocked time g).device) refl
         (λ early. lt-ltb t d.display.ends (leb-false d.display.ends t early)))
 
 -- ---- BUSY, before and after the clock's move
-pending_lowered : (until : Deadline) (bus : Bus) (t : ℕ) → bus.busy_until ≡ until → pending (lowered until bus t).busy_until t ≡ pending until t
+pending_lowered : (until : Option ℕ) (bus : Bus) (t : ℕ) → bus.busy_until ≡ until → pending (lowered until bus t).busy_until t ≡ pending until t
 unfolding pending
-pending_lowered Never bus t e = ap (λ (u : Deadline). pending u t) e
-pending_lowered (At until) bus t e = by (leb until t) refl
+pending_lowered None bus t e = ap (λ (u : Option ℕ). pending u t) e
+pending_lowered (Some until) bus t e = by (leb until t) refl
   where
     by : (b : Bool) → leb until t ≡ b
-        → pending (pick b (record { power = bus.power; current = bus.current; busy_until = Never }) bus).busy_until t ≡ ltb t until
+        → pending (pick b (record { power = bus.power; current = bus.current; busy_until = None }) bus).busy_until t ≡ ltb t until
     by true o = sym (le-ltb t until (leb-true until t o))
-    by false o = ap (λ (u : Deadline). pending u t) e
+    by false o = ap (λ (u : Option ℕ). pending u t) e
 
 pub pending_moved : (luts : List ℕ) (time : ℕ) (g : WithGlass)
     → pending (advanced luts time g).device.bus.busy_until (advanced luts time g).device.now ≡ pending g.device.bus.busy_until (max g.device.now time)

@@ -1,12 +1,11 @@
 -- A read: what it does to the core does not look at the glass, the journal or the log, and it leaves the glass. Assumes nothing.
+use Rattle.std.specs.Prelude.{Option, Some, None}
 use Prim.Native.Nat.{ℕ}
 use mathlib.Core.Path.{refl}
 use mathlib.Core.Bool.{Bool, true, false}
 use mathlib.Core.List.{List}
 use lib.Dec.{eqb}
 use Rattle.numbers.specs.Choice.{pick}
-use Rattle.ram.specs.declared.Byte.{Byte}
-use Rattle.ram.specs.declared.Byte.TheVariants.{Is, Nothing}
 use Rattle.ram.specs.Plane.{plane_of, read_at}
 use Rattle.diagnostic.specs.declared.DiagnosticKind.TheVariants.{NothingToRead}
 use Rattle.device.specs.declared.Active.{Active}
@@ -53,14 +52,14 @@ module _ (a : Active) where
   quiet_moved : (range : Bool) → QuietLog (λ k. reading_on a range a.nothing_reported (moved k))
   quiet_moved range = record { blind = λ k. refl; still = λ k. refl }
 
-  quiet_found : (byte : Byte) → QuietRead (λ k. ram_found a k byte)
+  quiet_found : (byte : Option ℕ) → QuietRead (λ k. ram_found a k byte)
   unfolding ram_found
-  quiet_found (Is b) = quiet_moved a.range_reported
-  quiet_found Nothing = quiet_then plain_log seen_log (out_of_range a) (λ k. reading_on a true a.nothing_reported (moved k)) (quiet_range a) (quiet_moved true)
+  quiet_found (Some b) = quiet_moved a.range_reported
+  quiet_found None = quiet_then plain_log seen_log (out_of_range a) (λ k. reading_on a true a.nothing_reported (moved k)) (quiet_range a) (quiet_moved true)
 
   module _ (black_white red : List ℕ) where
     -- the byte at the counter, which the core has
-    abbrev at : WithLog → Byte
+    abbrev at : WithLog → Option ℕ
     at k = read_at (plane_of black_white red (chosen k.device)) k.device.regs.counter
 
     quiet_at : QuietRead (λ k. ram_found a k (at k))
@@ -69,7 +68,7 @@ module _ (a : Active) where
     quiet_ram : QuietRead (ram_read black_white red a)
     unfolding ram_read
     quiet_ram =
-        either (eqb a.read 0) (λ k. with_byte (reading_on a a.range_reported a.nothing_reported k) (Is 0)) (λ k. ram_found a k (at k))
+        either (eqb a.read 0) (λ k. with_byte (reading_on a a.range_reported a.nothing_reported k) (Some 0)) (λ k. ram_found a k (at k))
         (quiet_going a.range_reported a.nothing_reported) quiet_at
 
     quiet_byte : QuietRead (byte_read black_white red a)

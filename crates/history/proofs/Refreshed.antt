@@ -1,5 +1,6 @@
 -- What the clock's move, the reset line and 0x20 make of the refresh that the display shows: none goes on past its end or a fall of RES#, and
 -- an end that was reached is not reached again. Assumes nothing.
+use Rattle.std.specs.Prelude.{Option, Some, None}
 use Prim.Native.Nat.{ℕ, max, ◌-◌}
 use mathlib.Core.Path.{◌≡◌, refl, ap, ◌∙◌}
 use mathlib.Core.Bool.{Bool, true, false, ◌&&◌, ◌||◌, not}
@@ -8,7 +9,6 @@ use native.Mathlib.Omega.{arith}
 use lib.Dec.{eqb, leb, ltb}
 use Rattle.numbers.specs.Choice.{pick}
 use Rattle.numbers.specs.Rows.{lookup}
-use Rattle.waveform.specs.declared.Until.TheVariants.{Whole}
 use Rattle.panel.specs.declared.Display.{Display}
 use Rattle.panel.specs.Finish.{finished}
 use Rattle.diagnostic.specs.declared.DiagnosticKind.TheVariants.{ResetDuringDisplay, WhileBusy, WithoutClock, WithoutAnalog}
@@ -20,8 +20,6 @@ use Rattle.device.specs.declared.Power.TheVariants.{Running, Asleep, InReset}
 use Rattle.device.specs.declared.Ssd1677.{Ssd1677}
 use Rattle.device.specs.Parts.{with_display}
 use Rattle.world.specs.World.{World, WithGlass, with_glass, WithGlassLog, WithBuffers, Lent, lent_of, on, device_in_glass_log, log_in_glass_log, glass_in_glass_log, device_in_buffers, log_in_buffers}
-use Rattle.command.specs.declared.Known.{Known}
-use Rattle.command.specs.declared.Known.TheVariants.{Of, Unknown}
 use Rattle.command.specs.Table.{rows, kind_of}
 use Rattle.busy.specs.Busy.{pending}
 use Rattle.clock.specs.Advance.{stopped, is_over, clocked, quieted, glass_published, ending_of, glass_of, ended, advanced}
@@ -40,6 +38,7 @@ use Rattle.history.proofs.Display.{during_plain}
 use Rattle.history.proofs.Begun.{told}
 use Rattle.history.proofs.Shows.{refresh}
 use Rattle.history.proofs.Once.{reaches}
+use Rattle.device.specs.declared.Kind.{Kind}
 
 -- ---- what the end and the cut make of the display's refresh
 module _ (luts : List ℕ) (t : ℕ) (d : Display) where
@@ -91,7 +90,7 @@ moved_is by luts time g =
     x = clocked time g
 
     goes : (b : Bool)
-        → (quieted (pick b (glass_published x (finished (ending_of x.device x.device.display.ends Whole) by (glass_of x))) x)).device.display
+        → (quieted (pick b (glass_published x (finished (ending_of x.device x.device.display.ends None) by (glass_of x))) x)).device.display
         ≡ pick b (stopped g.device.display) g.device.display
     goes true = refl
     goes false = refl
@@ -263,13 +262,13 @@ module _ (k : Lent) (command : ℕ) (e : eqb command 0x20 ≡ false) where
       by false false true = refl
       by false false false = refl
 
-  luts_kind : (w : WithBuffers) (known : Known) → (begin.command_by_kind k command w known).luts ≡ w.luts
+  luts_kind : (w : WithBuffers) (known : Option Kind) → (begin.command_by_kind k command w known).luts ≡ w.luts
   unfolding begin.command_by_kind
-  luts_kind w Unknown = refl
-  luts_kind w (Of Reserved) = refl
-  luts_kind w (Of Unsupported) = refl
-  luts_kind w (Of (Write params)) = luts_run (on device_in_buffers (begin.command_made command (Write params)) w)
-  luts_kind w (Of Read) = luts_run (on device_in_buffers (begin.command_made command Read) w)
+  luts_kind w None = refl
+  luts_kind w (Some Reserved) = refl
+  luts_kind w (Some Unsupported) = refl
+  luts_kind w (Some (Write params)) = luts_run (on device_in_buffers (begin.command_made command (Write params)) w)
+  luts_kind w (Some Read) = luts_run (on device_in_buffers (begin.command_made command Read) w)
 
   pub luts_begun : (w : WithBuffers) (power : Power) → (begin.begun k command w power).luts ≡ w.luts
   unfolding begin.begun

@@ -1,5 +1,6 @@
 -- What a call leaves of the glass: each lent state is its pixel's whole number with the refreshes that ended or were cut worked in, and each
 -- pixel shows the grey of it. Here the end of one refresh, the clock's move and the reset line. Assumes nothing.
+use Rattle.std.specs.Prelude.{Option, Some, None}
 use Prim.Native.Nat.{ℕ, ◌≤◌, ◌<◌, ◌+◌, ◌-◌, max, min}
 use mathlib.Core.Path.{◌≡◌, refl, ap, ◌∙◌}
 use mathlib.Core.Bool.{Bool, true, false, ◌&&◌}
@@ -14,8 +15,6 @@ use Rattle.glass.specs.Exact.{drives}
 use Rattle.glass.specs.Greys.{gray_z}
 use Rattle.waveform.specs.declared.Drive.TheVariants.{Lut}
 use Rattle.waveform.specs.Exact.{setting_phases}
-use Rattle.waveform.specs.declared.Until.{Until}
-use Rattle.waveform.specs.declared.Until.TheVariants.{Whole, Cut}
 use Rattle.config.specs.declared.Ssd1677Config.{Ssd1677Config}
 use Rattle.counts.specs.Counts.{counts_of}
 use Rattle.panel.specs.declared.Display.{Display}
@@ -76,9 +75,9 @@ over_join c i x (u ∷ us) vs = over_join c i (number_after c i x u) us vs
 abbrev pub refresh : List ℕ → Display → Part → Worked
 refresh luts d part = record { luts = luts; setting = d.setting; part = part }
 
-abbrev until_of : Part → Until
-until_of all = Whole
-until_of (up_to cut) = Cut cut
+abbrev until_of : Part → Option ℕ
+until_of all = None
+until_of (up_to cut) = Some cut
 
 module _ (luts : List ℕ) (g : WithGlass) (at : ℕ) (part : Part) (number : Marks) (below : CutBelowLargest (until_of part)) (h : Shows (seen_glass g) number) where
   abbrev S : ℕ
@@ -151,7 +150,7 @@ advance_shows luts time g number h = by (is_over (clocked time g).device)
     x = clocked time g
 
     by : (b : Bool)
-        → Shows (seen_glass (quieted (pick b (glass_published x (finish.finished (ending_of x.device x.device.display.ends Whole) luts (glass_of x))) x)))
+        → Shows (seen_glass (quieted (pick b (glass_published x (finish.finished (ending_of x.device x.device.display.ends None) luts (glass_of x))) x)))
         (over g.device.config (pick b (refresh luts g.device.display all ∷ []) []) number)
     by true = let r = finish_shows luts x x.device.display.ends all number tt h in
         r

@@ -1,5 +1,6 @@
 -- The stages of 0x20: the display, the chosen LUTs and all else that the core keeps do not look at the glass, the journal or the log, and the
 -- display and the LUTs not at the bus either. Assumes nothing.
+use Rattle.std.specs.Prelude.{Option, Some, None}
 use Prim.Native.Nat.{ℕ, ◌%◌}
 use mathlib.Core.Path.{◌≡◌, refl}
 use mathlib.Core.Bool.{Bool, true, false, ◌&&◌, not}
@@ -9,13 +10,10 @@ use lib.ListN.{length}
 use Rattle.numbers.specs.Choice.{pick}
 use Rattle.config.specs.declared.Ssd1677Config.{Ssd1677Config}
 use Rattle.config.specs.declared.DisplayMode.{DisplayMode}
-use Rattle.config.specs.declared.ExternalSensor.{ExternalSensor}
-use Rattle.config.specs.declared.ExternalSensor.TheVariants.{Absent, Reads}
 use Rattle.diagnostic.specs.declared.DiagnosticKind.{DiagnosticKind}
 use Rattle.diagnostic.specs.declared.DiagnosticKind.TheVariants.{WithoutClock, NoWaveform, NoExternalSensor}
 use Rattle.diagnostic.specs.declared.Stage.TheVariants.{AnalogOn, TemperatureLoad, LutLoad}
 use Rattle.device.specs.declared.Current.TheVariants.{Ignoring}
-use Rattle.device.specs.declared.Deadline.TheVariants.{Never}
 use Rattle.device.specs.declared.Power.TheVariants.{InReset}
 use Rattle.device.specs.declared.Ssd1677.{Ssd1677}
 use Rattle.device.specs.Parts.{with_bus}
@@ -43,7 +41,7 @@ plain_luts s = with_luts (plain s.device) s.luts []
 
 -- what the display's start looks at
 abbrev pub unbused : Ssd1677 → Ssd1677
-unbused d = with_bus (plain d) (record { power = InReset; current = Ignoring; busy_until = Never })
+unbused d = with_bus (plain d) (record { power = InReset; current = Ignoring; busy_until = None })
 
 -- ---- one stage after the other
 abbrev BlindStep : (Step → Step) → Type 0
@@ -85,13 +83,13 @@ blind_waited : (ns : ℕ) → BlindStep (through (waited ns))
 unfolding waited
 blind_waited ns s = refl
 
-blind_external : (time ns : ℕ) (external : ExternalSensor) → BlindStep (by_external time ns external)
+blind_external : (time ns : ℕ) (external : Option ℕ) → BlindStep (by_external time ns external)
 unfolding waited
-blind_external time ns (Reads register) s = refl
-blind_external time ns Absent s =
+blind_external time ns (Some register) s = refl
+blind_external time ns None s =
     then_step (noted time NoExternalSensor) (through (waited ns)) (blind_noted time (λ _. NoExternalSensor)) (blind_waited ns) s
 
-blind_sensed : (time sensor : ℕ) (config : Ssd1677Config) (external : ExternalSensor) → BlindStep (sensed time sensor config external)
+blind_sensed : (time sensor : ℕ) (config : Ssd1677Config) (external : Option ℕ) → BlindStep (sensed time sensor config external)
 unfolding sensed waited
 blind_sensed time sensor config external =
     pick_step (λ _. eqb sensor 0x80)

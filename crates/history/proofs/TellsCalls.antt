@@ -1,4 +1,5 @@
 -- The reports of every call, by what it is lent. Assumes nothing.
+use Rattle.std.specs.Prelude.{Option, Some, None}
 use Prim.Native.Nat.{ℕ, ◌+◌, ◌≤◌}
 use mathlib.Core.Path.{◌≡◌, refl, ap, ◌∙◌}
 use mathlib.Core.Bool.{Bool, true, false, ◌||◌}
@@ -6,7 +7,6 @@ use mathlib.Core.List.{List, []}
 use native.Mathlib.Omega.{arith}
 use lib.Dec.{eqb}
 use Rattle.numbers.specs.Choice.{pick}
-use Rattle.waveform.specs.declared.Until.TheVariants.{Whole}
 use Rattle.panel.specs.Finish.{finished}
 use Rattle.diagnostic.specs.declared.DiagnosticKind.{DiagnosticKind}
 use Rattle.diagnostic.specs.declared.DiagnosticKind.TheVariants.{UnknownCommand, ReservedCommand, UnsupportedCommand, WhileBusy, WhileAsleep, WhileInReset, ResetDuringDisplay}
@@ -16,8 +16,6 @@ use Rattle.device.specs.declared.Kind.TheVariants.{Write, Read, Unsupported, Res
 use Rattle.device.specs.declared.Power.{Power}
 use Rattle.device.specs.declared.Power.TheVariants.{Running, Asleep, InReset}
 use Rattle.world.specs.World.{WithLog, with_log, WithGlass, with_glass, WithGlassLog, with_glass_log, WithRam, with_ram, WithBuffers, with_buffers, Lent, WithPlanes, with_planes, on, device_in_glass_log, log_in_glass_log, glass_in_glass_log, device_in_buffers, log_in_buffers}
-use Rattle.command.specs.declared.Known.{Known}
-use Rattle.command.specs.declared.Known.TheVariants.{Of, Unknown}
 use Rattle.command.specs.Table.{kind_of}
 use Rattle.clock.specs.Advance.{is_over, clocked, quieted, glass_published, ending_of, glass_of, ended, advanced}
 use Rattle.chip.specs.Close.{closed}
@@ -58,7 +56,7 @@ unfolding advanced ended
 advanced_same luts time g = by (is_over (clocked time g).device)
   where
     over : WithGlass → WithGlass
-    over x = glass_published x (finished (ending_of x.device x.device.display.ends Whole) luts (glass_of x))
+    over x = glass_published x (finished (ending_of x.device x.device.display.ends None) luts (glass_of x))
 
     by : (b : Bool) → (quieted (pick b (over (clocked time g)) (clocked time g))).device.journal ≡ g.device.journal
     by true = refl
@@ -228,13 +226,13 @@ module _ (k : Lent) (command : ℕ) where
   tells_told : (kind : DiagnosticKind) → TellsBuffers 8 (on log_in_buffers (logged kind))
   tells_told kind = up 1 (on log_in_buffers (logged kind)) (omega arith) (buffers_log 1 (logged kind) (tells_logged kind))
 
-  tells_kind : (known : Known) → TellsBuffers 8 (λ (w : WithBuffers). command_by_kind k command w known)
+  tells_kind : (known : Option Kind) → TellsBuffers 8 (λ (w : WithBuffers). command_by_kind k command w known)
   unfolding command_by_kind
-  tells_kind Unknown = tells_told (UnknownCommand command)
-  tells_kind (Of Reserved) = tells_told (ReservedCommand command)
-  tells_kind (Of Unsupported) = tells_told (UnsupportedCommand command)
-  tells_kind (Of (Write params)) = then_buffers 0 8 (on device_in_buffers (command_made command (Write params))) (run k command) (tells_made (Write params)) tells_run
-  tells_kind (Of Read) = then_buffers 0 8 (on device_in_buffers (command_made command Read)) (run k command) (tells_made Read) tells_run
+  tells_kind None = tells_told (UnknownCommand command)
+  tells_kind (Some Reserved) = tells_told (ReservedCommand command)
+  tells_kind (Some Unsupported) = tells_told (UnsupportedCommand command)
+  tells_kind (Some (Write params)) = then_buffers 0 8 (on device_in_buffers (command_made command (Write params))) (run k command) (tells_made (Write params)) tells_run
+  tells_kind (Some Read) = then_buffers 0 8 (on device_in_buffers (command_made command Read)) (run k command) (tells_made Read) tells_run
 
   tells_begun : (power : Power) → TellsBuffers 16 (λ (w : WithBuffers). begun k command w power)
   unfolding begun

@@ -1,4 +1,5 @@
 -- The reports of the steps that concern the state and the log, and of a read. Assumes nothing.
+use Rattle.std.specs.Prelude.{Option, Some, None}
 use Prim.Native.Nat.{ℕ, ◌+◌, ◌*◌, ◌/◌, ◌%◌}
 use mathlib.Core.Path.{◌≡◌, refl, ap}
 use mathlib.Core.Bool.{Bool, true, false, ◌&&◌}
@@ -6,8 +7,6 @@ use mathlib.Core.List.{List}
 use native.Mathlib.Omega.{arith}
 use lib.Dec.{eqb, ltb, leb}
 use Rattle.numbers.specs.Choice.{pick}
-use Rattle.ram.specs.declared.Byte.{Byte}
-use Rattle.ram.specs.declared.Byte.TheVariants.{Is, Nothing}
 use Rattle.counter.specs.Counter.{within_of}
 use Rattle.ram.specs.Plane.{plane_of, read_at}
 use Rattle.diagnostic.specs.declared.Stage.{Stage}
@@ -215,15 +214,15 @@ module _ (a : Active) where
   tells_moved : (range : Bool) → TellsLog 0 (λ k. reading_on a range a.nothing_reported (moved k))
   tells_moved range = tells_none in_log in_log (λ k. reading_on a range a.nothing_reported (moved k)) (λ k. refl) (λ k. refl)
 
-  tells_found : (byte : Byte) → TellsRead 1 (λ k. ram_found a k byte)
+  tells_found : (byte : Option ℕ) → TellsRead 1 (λ k. ram_found a k byte)
   unfolding ram_found
-  tells_found (Is b) =
+  tells_found (Some b) =
       tells_more in_log in_log 0 1 (λ k. reading_on a a.range_reported a.nothing_reported (moved k)) (omega arith) (tells_moved a.range_reported)
-  tells_found Nothing = then_log 1 0 (out_of_range a) (λ k. reading_on a true a.nothing_reported (moved k)) tells_range (tells_moved true)
+  tells_found None = then_log 1 0 (out_of_range a) (λ k. reading_on a true a.nothing_reported (moved k)) tells_range (tells_moved true)
 
   module _ (black_white red : List ℕ) where
     -- the byte at the counter, which the core has
-    abbrev at : WithLog → Byte
+    abbrev at : WithLog → Option ℕ
     at k = read_at (plane_of black_white red (chosen k.device)) k.device.regs.counter
 
     tells_at : TellsRead 1 (λ k. ram_found a k (at k))
@@ -237,7 +236,7 @@ module _ (a : Active) where
     unfolding ram_read
     tells_ram =
         let next = reading_on a a.range_reported a.nothing_reported in
-        either (eqb a.read 0) (λ k. with_byte (next k) (Is 0)) (λ k. ram_found a k (at k))
+        either (eqb a.read 0) (λ k. with_byte (next k) (Some 0)) (λ k. ram_found a k (at k))
         (tells_more in_log in_log 0 1 next (omega arith) (tells_going a.range_reported a.nothing_reported)) tells_at
 
     tells_byte : TellsRead 1 (byte_read black_white red a)

@@ -1,4 +1,5 @@
 -- The reports of the stages of 0x20. Assumes nothing.
+use Rattle.std.specs.Prelude.{Option, Some, None}
 use Prim.Native.Nat.{ℕ, ◌+◌, ◌%◌}
 use mathlib.Core.Path.{◌≡◌, refl}
 use mathlib.Core.Bool.{Bool, true, false, ◌&&◌, not}
@@ -9,8 +10,6 @@ use lib.ListN.{length}
 use Rattle.numbers.specs.Choice.{pick}
 use Rattle.config.specs.declared.Ssd1677Config.{Ssd1677Config}
 use Rattle.config.specs.declared.DisplayMode.{DisplayMode}
-use Rattle.config.specs.declared.ExternalSensor.{ExternalSensor}
-use Rattle.config.specs.declared.ExternalSensor.TheVariants.{Absent, Reads}
 use Rattle.diagnostic.specs.declared.DiagnosticKind.{DiagnosticKind}
 use Rattle.diagnostic.specs.declared.DiagnosticKind.TheVariants.{WithoutClock, NoWaveform, NoExternalSensor}
 use Rattle.diagnostic.specs.declared.Stage.TheVariants.{AnalogOn, TemperatureLoad, LutLoad}
@@ -72,15 +71,15 @@ tells_waited : (ns : ℕ) → TellsStep 0 (through (waited ns))
 unfolding waited
 tells_waited ns = tells_none in_step in_step (through (waited ns)) (λ s. refl) (λ s. refl)
 
-tells_external : (time ns : ℕ) (external : ExternalSensor) → TellsStep 1 (by_external time ns external)
+tells_external : (time ns : ℕ) (external : Option ℕ) → TellsStep 1 (by_external time ns external)
 unfolding waited
-tells_external time ns (Reads register) =
+tells_external time ns (Some register) =
     let read = through (λ (r : Run). waited ns (with_temperature (register % 4096) r)) in
     tells_more in_step in_step 0 1 read (omega arith) (tells_none in_step in_step read (λ s. refl) (λ s. refl))
-tells_external time ns Absent =
+tells_external time ns None =
     then_step 1 0 (noted time NoExternalSensor) (through (waited ns)) (tells_noted time (λ _. NoExternalSensor)) (tells_waited ns)
 
-tells_sensed : (time sensor : ℕ) (config : Ssd1677Config) (external : ExternalSensor) → TellsStep 1 (sensed time sensor config external)
+tells_sensed : (time sensor : ℕ) (config : Ssd1677Config) (external : Option ℕ) → TellsStep 1 (sensed time sensor config external)
 unfolding sensed waited
 tells_sensed time sensor config external =
     let inside = through (λ (r : Run). waited config.timing.temperature_internal (with_temperature (config.ambient % 4096) r)) in

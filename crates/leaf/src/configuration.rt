@@ -1,224 +1,183 @@
 // The choice of a waveform, and the conditions of a start.
-use crate::{question, take, text};
-use config::{
-    ConfigError, DisplayMode, ExternalSensor, GateScan, PanelGeometry, Ssd1677Config, Ssd1677Timing,
-};
+ghost use Rattle.std.specs.Prelude.{◌<◌};
+
+use crate::answers::Answers;
+use crate::question::{NUMBERS, Question};
+use config::{ConfigError, DisplayMode, GateScan, PanelGeometry, Ssd1677Config, Ssd1677Timing};
 use glass::{Optics, Provenance};
-use otp::FoundEntry;
 
-// Bytes of a table at most: what a question holds after the fields and the length.
-const TABLE: usize = question::NUMBERS - 55;
+// Where the bytes of a table begin in a question, and how many there are at most.
+const TABLE_AT: usize = 55;
 
-fn set(table: &mut [u8; TABLE], at: usize, byte: u8) {
-    if at < TABLE {
-        table[at] = byte;
-    }
+const TABLE: usize = NUMBERS - TABLE_AT;
+
+// Entries of a table in a question at most, and the bytes of each.
+const ENTRIES: usize = 65;
+
+const ENTRY_BYTES: usize = 118;
+
+// An entry of a question, its mode, lower and upper bound, in the table: a register takes two bytes, high byte first.
+fn entry(table: &mut [u8; TABLE], i: usize, question: &Question)
+    requires { i < 65 }
+{
+    let at = ENTRY_BYTES * i;
+    let lower = question.word(4 + 3 * i);
+    let upper = question.word(5 + 3 * i);
+    table[at] = question.byte(3 + 3 * i);
+    table[at + 2] = (lower / 256) as u8;
+    table[at + 3] = (lower % 256) as u8;
+    table[at + 4] = (upper / 256) as u8;
+    table[at + 5] = (upper % 256) as u8;
 }
 
-// A register in two bytes, high byte first.
-fn bound(table: &mut [u8; TABLE], at: usize, register: u64) {
-    if at < TABLE {
-        set(table, at, take::low(register / 256));
-        set(table, at + 1, take::low(register));
+fn mode(question: &Question) -> DisplayMode {
+    if question.truth(0) {
+        DisplayMode::Two
+    } else {
+        DisplayMode::One
     }
-}
-
-// An entry of a question: mode, lower and upper bound.
-fn entry(table: &mut [u8; TABLE], i: usize, numbers: &[u64]) {
-    if i < 65 {
-        set(table, 118 * i, take::low(take::after(numbers, 3, 3 * i)));
-        bound(table, 118 * i + 2, take::after(numbers, 4, 3 * i));
-        bound(table, 118 * i + 4, take::after(numbers, 5, 3 * i));
-    }
-}
-
-fn entries(table: &mut [u8; TABLE], count: usize, numbers: &[u64]) {
-    let mut i: usize = 0;
-    while i < count {
-        entry(table, i, numbers);
-        i += 1;
-    }
-}
-
-fn mode(numbers: &[u64]) -> DisplayMode {
-    if take::truth(numbers, 0) {
-        return DisplayMode::Two;
-    }
-    DisplayMode::One
 }
 
 // The place that is told beside a part that holds an entry.
-fn found_in(table: &[u8], length: usize, mode: DisplayMode, register: u16) -> FoundEntry {
-    if length <= table.len() {
-        let mut place: u8 = 255;
-        let part = otp::find_waveform(&table[0..length], mode, register, &mut place);
-        if 0 < part.len() {
-            return FoundEntry::At(place as usize);
+fn found(table: &[u8], mode: DisplayMode, register: u16) -> Option<u64> {
+    let mut place: u8 = 255;
+    let part = otp::find_waveform(table, mode, register, &mut place);
+    if part.is_empty() {
+        None
+    } else {
+        Some(u64::from(place))
+    }
+}
+
+fn find_waveform(answers: &mut Answers, question: &Question) {
+    let count = question.byte(2) as usize;
+    if count <= ENTRIES {
+        let mut table = [0u8; TABLE];
+        for i in 0..count {
+            entry(&mut table, i, question);
         }
-    }
-    FoundEntry::Nothing
-}
-
-fn found(table: &[u8; TABLE], length: usize, mode: DisplayMode, register: u16) -> FoundEntry {
-    found_in(table, length, mode, register)
-}
-
-fn find_waveform(text: &mut [u8; text::ROOM], at: usize, numbers: &[u64]) -> usize {
-    let count = take::byte(numbers, 2) as usize;
-    let mut table = [0u8; TABLE];
-    if 65 < count {
-        return at;
-    }
-    entries(&mut table, count, numbers);
-    let mode = mode(numbers);
-    match found(&table, 118 * count, mode, take::word(numbers, 1)) {
-        FoundEntry::At(entry) => {
-            let next = text::there(text, at);
-            text::number(text, next, entry as u64)
-        }
-        FoundEntry::Nothing => text::none(text, at),
+        let entries = &table[..ENTRY_BYTES * count];
+        answers.option(found(entries, mode(question), question.word(1)));
     }
 }
 
-fn provenance(numbers: &[u64], i: usize) -> Provenance {
-    if take::truth(numbers, i) {
-        return Provenance::Measured;
+fn provenance(question: &Question, i: usize) -> Provenance {
+    if question.truth(i) {
+        Provenance::Measured
+    } else {
+        Provenance::Approximation
     }
-    Provenance::Approximation
 }
 
 // The geometry of the first seven numbers.
-pub fn geometry(numbers: &[u64]) -> PanelGeometry {
-    let native_scan = GateScan {
-        sm: take::truth(numbers, 4),
-        gd: take::truth(numbers, 5),
-    };
+pub fn geometry(question: &Question) -> PanelGeometry {
     PanelGeometry {
-        width: take::word(numbers, 0),
-        height: take::word(numbers, 1),
-        first_source: take::word(numbers, 2),
-        columns_reversed: take::truth(numbers, 3),
-        native_scan,
-        rows_reversed: take::truth(numbers, 6),
+        width: question.word(0),
+        height: question.word(1),
+        first_source: question.word(2),
+        columns_reversed: question.truth(3),
+        native_scan: GateScan {
+            sm: question.truth(4),
+            gd: question.truth(5),
+        },
+        rows_reversed: question.truth(6),
     }
 }
 
-fn optics(numbers: &[u64]) -> Optics {
-    let provenance = provenance(numbers, 7);
+fn optics(question: &Question) -> Optics {
     Optics {
-        provenance,
-        full_swing: take::number(numbers, 8),
-        positive_drives_black: take::truth(numbers, 9),
-        initial_gray: take::byte(numbers, 10),
+        provenance: provenance(question, 7),
+        full_swing: question.number(8),
+        positive_drives_black: question.truth(9),
+        initial_gray: question.byte(10),
     }
 }
 
-fn timing(numbers: &[u64]) -> Ssd1677Timing {
-    let provenance = provenance(numbers, 11);
-    let frame_period = take::periods(numbers, 22);
+fn timing(question: &Question) -> Ssd1677Timing {
     Ssd1677Timing {
-        provenance,
-        clock_on: take::number(numbers, 12),
-        analog_on: take::number(numbers, 13),
-        analog_off: take::number(numbers, 14),
-        temperature_internal: take::number(numbers, 15),
-        temperature_external: take::number(numbers, 16),
-        lut_load: take::number(numbers, 17),
-        soft_reset: take::number(numbers, 18),
-        hardware_reset: take::number(numbers, 19),
-        auto_write: take::number(numbers, 20),
-        vci_detection: take::number(numbers, 21),
-        frame_period,
+        provenance: provenance(question, 11),
+        clock_on: question.number(12),
+        analog_on: question.number(13),
+        analog_off: question.number(14),
+        temperature_internal: question.number(15),
+        temperature_external: question.number(16),
+        lut_load: question.number(17),
+        soft_reset: question.number(18),
+        hardware_reset: question.number(19),
+        auto_write: question.number(20),
+        vci_detection: question.number(21),
+        frame_period: question.periods(22),
     }
 }
 
-fn sensor(numbers: &[u64]) -> ExternalSensor {
-    if take::truth(numbers, 40) {
-        return ExternalSensor::Reads(take::word(numbers, 41));
+fn external_sensor(question: &Question) -> Option<u16> {
+    if question.truth(40) {
+        Some(question.word(41))
+    } else {
+        None
     }
-    ExternalSensor::Absent
 }
 
-fn user_id(numbers: &[u64]) -> [u8; 10] {
-    let mut id = [0u8; 10];
-    let mut i: usize = 0;
-    while i < 10 {
-        let byte = take::low(take::after(numbers, 43, i));
-        id[i] = byte;
-        i += 1;
-    }
-    id
+fn user_id(question: &Question) -> [u8; 10] {
+    let mut user_id = [0u8; 10];
+    question.bytes(43, &mut user_id);
+    user_id
 }
 
-fn config(numbers: &[u64]) -> Ssd1677Config {
-    let panel = geometry(numbers);
-    let optics = optics(numbers);
-    let timing = timing(numbers);
-    let external_sensor = sensor(numbers);
-    let user_id = user_id(numbers);
+fn config(question: &Question) -> Ssd1677Config {
     Ssd1677Config {
-        panel,
-        optics,
-        timing,
-        busy_active_high: take::truth(numbers, 38),
-        ambient: take::word(numbers, 39),
-        external_sensor,
-        vci_millivolts: (take::number(numbers, 42) % 4294967296) as u32,
-        user_id,
-        frequency: (take::number(numbers, 53) % 4294967296) as u32,
+        panel: geometry(question),
+        optics: optics(question),
+        timing: timing(question),
+        busy_active_high: question.truth(38),
+        ambient: question.word(39),
+        external_sensor: external_sensor(question),
+        vci_millivolts: question.double_word(42),
+        user_id: user_id(question),
+        frequency: question.double_word(53),
     }
 }
 
-// The bytes of a table from number 55 on.
-fn table_of(table: &mut [u8; TABLE], numbers: &[u64]) {
-    let mut i: usize = 0;
-    while i < TABLE {
-        let byte = take::low(take::after(numbers, 55, i));
-        table[i] = byte;
-        i += 1;
+// A table that does not fit a question is a bad one.
+fn validated(table: &[u8; TABLE], length: usize, config: Ssd1677Config) -> Result<(), ConfigError> {
+    if TABLE < length {
+        return Err(ConfigError::BadTable);
     }
+    validate::validate(config, &table[..length])
 }
 
-fn validated_with(table: &[u8], length: usize, config: Ssd1677Config) -> ConfigError {
-    if length <= table.len() {
-        return validate::validate(config, &table[0..length]);
-    }
-    ConfigError::BadTable
+// The number of an error, and the value that it holds or 0.
+fn error(answers: &mut Answers, error: ConfigError) {
+    let (number, value) = match error {
+        ConfigError::EmptyPanel => (1, 0),
+        ConfigError::PanelOutsideRam => (2, 0),
+        ConfigError::OddRowsWithGd => (3, 0),
+        ConfigError::ZeroSwing => (4, 0),
+        ConfigError::ZeroFramePeriod(code) => (5, code),
+        ConfigError::OtpVoltage(entry) => (6, entry),
+        ConfigError::BadTable => (12, 0),
+        ConfigError::ZeroFrequency => (14, 0),
+    };
+    answers.number(number);
+    answers.number(value as u64);
 }
 
-fn validated(table: &[u8; TABLE], length: usize, config: Ssd1677Config) -> ConfigError {
-    validated_with(table, length, config)
-}
-
-fn refusal(text: &mut [u8; text::ROOM], at: usize, number: u64, value: usize) -> usize {
-    let next = text::number(text, at, number);
-    text::number(text, next, value as u64)
-}
-
-fn validate(text: &mut [u8; text::ROOM], at: usize, numbers: &[u64]) -> usize {
+fn validate(answers: &mut Answers, question: &Question) {
     let mut table = [0u8; TABLE];
-    table_of(&mut table, numbers);
-    let config = config(numbers);
-    let length = take::word(numbers, 54) as usize;
-    match validated(&table, length, config) {
-        ConfigError::Accepted => refusal(text, at, 0, 0),
-        ConfigError::EmptyPanel => refusal(text, at, 1, 0),
-        ConfigError::PanelOutsideRam => refusal(text, at, 2, 0),
-        ConfigError::OddRowsWithGd => refusal(text, at, 3, 0),
-        ConfigError::ZeroSwing => refusal(text, at, 4, 0),
-        ConfigError::ZeroFramePeriod(code) => refusal(text, at, 5, code),
-        ConfigError::ZeroFrequency => refusal(text, at, 14, 0),
-        ConfigError::BadTable => refusal(text, at, 12, 0),
-        ConfigError::OtpVoltage(entry) => refusal(text, at, 6, entry),
+    question.bytes(TABLE_AT, &mut table);
+    match validated(&table, question.word(54) as usize, config(question)) {
+        Ok(()) => answers.none(),
+        Err(refused) => error(answers, refused),
     }
 }
 
-pub fn answer(text: &mut [u8; text::ROOM], at: usize, name: &[u8], numbers: &[u64]) -> usize {
-    if check::same(name, b"find_waveform") {
-        return find_waveform(text, at, numbers);
+pub fn answer(answers: &mut Answers, question: &Question) -> bool {
+    if question.is_named(b"find_waveform") {
+        find_waveform(answers, question);
+    } else if question.is_named(b"validate") {
+        validate(answers, question);
+    } else {
+        return false;
     }
-    if check::same(name, b"validate") {
-        return validate(text, at, numbers);
-    }
-    at
+    true
 }

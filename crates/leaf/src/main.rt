@@ -3,90 +3,64 @@
 #![tactic(auto)]
 
 mod answer;
+mod answers;
 mod commands;
 mod configuration;
 mod planes;
 mod question;
+mod reader;
 mod refreshes;
 mod registers;
 mod tables;
-mod take;
 mod temperature;
-mod text;
 mod transfers;
 mod waves;
 mod wiring;
 
+use answers::Answers;
 use full_read::read_full;
-use question::Line;
+use reader::Reader;
+use std::io;
 use std::io::Read;
 
 // What is read at once.
 const CHUNK: usize = 65536;
 
-// What is read of the input.
-#[derive(Clone, Copy)]
-pub struct Input {
-    pub line: Line,
-    pub ended: bool,
-}
-
-fn lines(
-    rt: &impl Print,
-    line: Line,
-    bytes: &[u8],
-    name: &mut [u8; question::NAME],
-    numbers: &mut [u64; question::NUMBERS],
-    text: &mut [u8; text::ROOM],
-) -> std::io::Result<Line> {
-    let mut read = line;
-    for byte in bytes {
-        read = question::read(rt, read, *byte, name, numbers, text)?;
-    }
-    Ok(read)
-}
-
+// Answers what is read at once, and says how many bytes that was.
 fn chunk(
-    rt: &impl Print,
+    rt: &(impl Print + Eprint),
     input: &mut impl Read,
-    line: Line,
-    name: &mut [u8; question::NAME],
-    numbers: &mut [u64; question::NUMBERS],
-    text: &mut [u8; text::ROOM],
-) -> std::io::Result<Input> {
+    reader: &mut Reader,
+    answers: &mut Answers,
+) -> io::Result<usize> {
     let mut bytes = [0u8; CHUNK];
     let count = read_full(input, &mut bytes)?;
-    let read = lines(rt, line, &bytes[..count], name, numbers, text)?;
-    Ok(Input {
-        line: read,
-        ended: count == 0,
-    })
+    for byte in &bytes[..count] {
+        reader.read(rt, *byte, answers)?;
+    }
+    Ok(count)
 }
 
 // A proved loop has to end, and nothing says that the input does: the turns have a bound that no run reaches.
 fn all(
-    rt: &impl Print,
+    rt: &(impl Print + Eprint),
     input: &mut impl Read,
-    name: &mut [u8; question::NAME],
-    numbers: &mut [u64; question::NUMBERS],
-    text: &mut [u8; text::ROOM],
-) -> std::io::Result<usize> {
-    let mut line = question::fresh(0);
+    reader: &mut Reader,
+    answers: &mut Answers,
+) -> io::Result<()> {
     for _ in 0..u64::MAX {
-        let read = chunk(rt, input, line, name, numbers, text)?;
-        line = read.line;
-        if read.ended {
+        if chunk(rt, input, reader, answers)? == 0 {
             break;
         }
     }
-    Ok(line.at)
+    answers.flush(rt)
 }
 
-fn main(rt: HostRuntime) -> std::io::Result<()> {
-    let mut name = [0u8; question::NAME];
-    let mut numbers = [0u64; question::NUMBERS];
-    let mut text = [0u8; text::ROOM];
-    let at = all(&rt, &mut rt.stdin(), &mut name, &mut numbers, &mut text)?;
-    text::write(&rt, &text, at)?;
-    Ok(())
+fn main(rt: HostRuntime) -> io::Result<()> {
+    all(
+        &rt,
+        &mut rt.stdin(),
+        &mut Reader::new(),
+        &mut Answers::new(),
+    )
 }

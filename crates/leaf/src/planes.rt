@@ -1,102 +1,74 @@
 // The counter and the planes.
-use crate::{take, text};
-use ram::{Counter, Entry, Pixel, Place, Window};
+use crate::answers::Answers;
+use crate::question::Question;
+use ram::{Counter, Entry, Window};
 
-fn counter(numbers: &[u64]) -> Counter {
+fn counter(question: &Question) -> Counter {
     Counter {
-        x: take::word(numbers, 0),
-        y: take::word(numbers, 1),
+        x: question.word(0),
+        y: question.word(1),
     }
 }
 
-fn window(numbers: &[u64]) -> Window {
+fn window(question: &Question) -> Window {
     Window {
-        x_start: take::word(numbers, 2),
-        x_end: take::word(numbers, 3),
-        y_start: take::word(numbers, 4),
-        y_end: take::word(numbers, 5),
+        x_start: question.word(2),
+        x_end: question.word(3),
+        y_start: question.word(4),
+        y_end: question.word(5),
     }
 }
 
-fn advance(text: &mut [u8; text::ROOM], at: usize, numbers: &[u64]) -> usize {
-    let entry = Entry(take::byte(numbers, 6));
-    let moved = counter(numbers).advanced(window(numbers), entry);
-    let next = text::word(text, at, moved.x);
-    text::word(text, next, moved.y)
-}
-
-fn index(text: &mut [u8; text::ROOM], at: usize, numbers: &[u64]) -> usize {
-    match ram::index(counter(numbers)) {
-        Place::At(place) => {
-            let next = text::there(text, at);
-            text::number(text, next, place as u64)
-        }
-        Place::Outside => text::none(text, at),
-    }
+fn advance(answers: &mut Answers, question: &Question) {
+    let entry = Entry(question.byte(6));
+    let moved = counter(question).advanced(window(question), entry);
+    answers.number(u64::from(moved.x));
+    answers.number(u64::from(moved.y));
 }
 
 fn next(x: u32) -> u32 {
-    ((x as u64 * 1664525 + 1013904223) % 4294967296) as u32
-}
-
-fn high(x: u32) -> u8 {
-    (x / 16777216) as u8
+    x.wrapping_mul(1664525).wrapping_add(1013904223)
 }
 
 // The bytes of a seed's pattern.
 pub fn fill(plane: &mut [u8; ram::PLANE_BYTES], seed: u32) {
     let mut x = seed;
-    let mut i: usize = 0;
-    while i < ram::PLANE_BYTES {
+    for byte in plane.iter_mut() {
         x = next(x);
-        let byte = high(x);
-        plane[i] = byte;
-        i += 1;
+        *byte = (x / 16777216) as u8;
     }
 }
 
-pub fn seed(numbers: &[u64], i: usize) -> u32 {
-    (take::number(numbers, i) % 4294967296) as u32
-}
-
-fn pixel(plane: &[u8; ram::PLANE_BYTES], x: u16, row: u16) -> Pixel {
+fn pixel(plane: &[u8; ram::PLANE_BYTES], x: u16, row: u16) -> Option<bool> {
     ram::bit(plane, x, row)
 }
 
-fn bit(text: &mut [u8; text::ROOM], at: usize, numbers: &[u64]) -> usize {
+fn bit(answers: &mut Answers, question: &Question) {
     let mut plane = [0u8; ram::PLANE_BYTES];
-    fill(&mut plane, seed(numbers, 0));
-    match pixel(&plane, take::word(numbers, 1), take::word(numbers, 2)) {
-        Pixel::Is(bit) => {
-            let next = text::there(text, at);
-            text::truth(text, next, bit)
-        }
-        Pixel::Nothing => text::none(text, at),
-    }
+    fill(&mut plane, question.double_word(0));
+    let bit = pixel(&plane, question.word(1), question.word(2));
+    answers.option(bit.map(|bit| u64::from(bit)));
 }
 
-fn auto_write(text: &mut [u8; text::ROOM], at: usize, parameter: u8) -> usize {
+fn auto_write(answers: &mut Answers, parameter: u8) {
     let mut plane = [0x5Au8; ram::PLANE_BYTES];
     auto_write::auto_write(&mut plane, parameter);
-    text::number(text, at, hash::of_bytes(&plane))
+    answers.number(hash::of_bytes(&plane));
 }
 
-pub fn answer(text: &mut [u8; text::ROOM], at: usize, name: &[u8], numbers: &[u64]) -> usize {
-    if take::asks(name, b"advance", numbers, 7) {
-        return advance(text, at, numbers);
+pub fn answer(answers: &mut Answers, question: &Question) -> bool {
+    if question.asks(b"advance", 7) {
+        advance(answers, question);
+    } else if question.asks(b"within", 6) {
+        answers.truth(counter(question).within(window(question)));
+    } else if question.asks(b"index", 2) {
+        answers.option(ram::index(counter(question)).map(|place| place as u64));
+    } else if question.asks(b"bit", 3) {
+        bit(answers, question);
+    } else if question.asks(b"auto_write", 1) {
+        auto_write(answers, question.byte(0));
+    } else {
+        return false;
     }
-    if take::asks(name, b"within", numbers, 6) {
-        let within = counter(numbers).within(window(numbers));
-        return text::truth(text, at, within);
-    }
-    if take::asks(name, b"index", numbers, 2) {
-        return index(text, at, numbers);
-    }
-    if take::asks(name, b"bit", numbers, 3) {
-        return bit(text, at, numbers);
-    }
-    if take::asks(name, b"auto_write", numbers, 1) {
-        return auto_write(text, at, take::byte(numbers, 0));
-    }
-    at
+    true
 }

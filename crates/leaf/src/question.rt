@@ -1,120 +1,96 @@
-// A question's numbers, read from its text. A negative number −n is held as 2^64 − n.
-use crate::{answer, text};
+// A question: its name and its numbers, by their types. A number that is not there reads 0, and of one that is too large the low bits
+// count. A negative number −n is held as 2^64 − n.
 
 // Numbers that a question holds at most.
 pub const NUMBERS: usize = 8192;
 
-// Bytes of a name at most.
-pub const NAME: usize = 32;
-
-// A line as far as it is read.
 #[derive(Clone, Copy)]
-pub struct Line {
-    // Bytes of its name.
-    pub name: usize,
-    // A blank ended the name.
-    pub named: bool,
-    // Numbers that a blank ended.
-    pub count: usize,
-    // The number being read.
-    pub value: u64,
-    pub minus: bool,
-    // Where its answer goes in the text.
-    pub at: usize,
+pub struct Question<'a> {
+    pub name: &'a [u8],
+    pub numbers: &'a [u64],
 }
 
-pub fn fresh(at: usize) -> Line {
-    Line {
-        name: 0,
-        named: false,
-        count: 0,
-        value: 0,
-        minus: false,
-        at,
-    }
+// The low byte of a number.
+pub fn low(n: u64) -> u8 {
+    (n % 256) as u8
 }
 
-// A byte of the name.
-fn spell(line: Line, byte: u8, name: &mut [u8; NAME]) -> Line {
-    let at = line.name;
-    let mut spelt = line;
-    if at < NAME {
-        name[at] = byte;
-        spelt.name = at + 1;
+impl Question<'_> {
+    pub fn is_named(&self, name: &[u8]) -> bool {
+        self.name == name
     }
-    spelt
-}
 
-fn digit(byte: u8) -> u64 {
-    match byte {
-        48..=57 => numbers::wide(byte - 48),
-        _ => 0,
+    // Whether a question has this name and so many numbers.
+    pub fn asks(&self, name: &[u8], count: usize) -> bool {
+        self.numbers.len() == count && self.is_named(name)
     }
-}
 
-// A byte of a number.
-fn count(line: Line, byte: u8) -> Line {
-    let mut counted = line;
-    if byte == b'-' {
-        counted.minus = true;
-        return counted;
+    pub fn number(&self, i: usize) -> u64 {
+        self.numbers.get(i).copied().unwrap_or(0)
     }
-    let tens = numbers::saturating_mul_u64(line.value, 10);
-    counted.value = numbers::saturating_add_u64(tens, digit(byte));
-    counted
-}
 
-// The blank after a word.
-fn next(line: Line, numbers: &mut [u64; NUMBERS]) -> Line {
-    let mut after = line;
-    if !line.named {
-        after.named = true;
-        return after;
+    pub fn byte(&self, i: usize) -> u8 {
+        low(self.number(i))
     }
-    let at = line.count;
-    if at < NUMBERS {
-        numbers[at] = if line.minus {
-            std::num::wrapping_sub_u64(0, line.value)
+
+    pub fn word(&self, i: usize) -> u16 {
+        (self.number(i) % 65536) as u16
+    }
+
+    pub fn double_word(&self, i: usize) -> u32 {
+        (self.number(i) % 4294967296) as u32
+    }
+
+    pub fn truth(&self, i: usize) -> bool {
+        self.number(i) != 0
+    }
+
+    pub fn signed(&self, i: usize) -> i64 {
+        self.number(i).cast_signed()
+    }
+
+    // A number that does not fit reads 0.
+    pub fn signed_byte(&self, i: usize) -> i8 {
+        i8::try_from(self.signed(i)).unwrap_or(0)
+    }
+
+    pub fn signed_word(&self, i: usize) -> i16 {
+        i16::try_from(self.signed(i)).unwrap_or(0)
+    }
+
+    // The number `i` places after the one at `from`.
+    pub fn after(&self, from: usize, i: usize) -> u64 {
+        self.number(from.saturating_add(i))
+    }
+
+    // The number at `i + 1`, where the one at `i` says that it is there.
+    pub fn option(&self, i: usize) -> Option<u64> {
+        if self.truth(i) {
+            Some(self.after(i, 1))
         } else {
-            line.value
-        };
-        after.count = at + 1;
+            None
+        }
     }
-    after.value = 0;
-    after.minus = false;
-    after
-}
 
-// The end of a line: its answer, and the next line.
-fn end(
-    rt: &impl Print,
-    line: Line,
-    name: &[u8; NAME],
-    numbers: &mut [u64; NUMBERS],
-    text: &mut [u8; text::ROOM],
-) -> std::io::Result<Line> {
-    let whole = next(line, numbers);
-    let at = answer::answer(text, whole.at, name, whole.name, numbers, whole.count);
-    let next_at = text::written(rt, text, at)?;
-    Ok(fresh(next_at))
-}
+    // The low bytes of the numbers from `from` on.
+    pub fn bytes(&self, from: usize, bytes: &mut [u8]) {
+        for (i, byte) in bytes.iter_mut().enumerate() {
+            *byte = low(self.after(from, i));
+        }
+    }
 
-pub fn read(
-    rt: &impl Print,
-    line: Line,
-    byte: u8,
-    name: &mut [u8; NAME],
-    numbers: &mut [u64; NUMBERS],
-    text: &mut [u8; text::ROOM],
-) -> std::io::Result<Line> {
-    if byte == b'\n' {
-        return end(rt, line, name, numbers, text);
+    pub fn setting(&self, from: usize) -> [u8; 112] {
+        let mut setting = [0u8; 112];
+        self.bytes(from, &mut setting);
+        setting
     }
-    if byte == b' ' {
-        return Ok(next(line, numbers));
+
+    // Sixteen frame periods from `from` on.
+    pub fn periods(&self, from: usize) -> [u64; 16] {
+        let mut periods = [0u64; 16];
+        for (i, period) in periods.iter_mut().enumerate() {
+            *period = self.after(from, i);
+        }
+        periods
     }
-    if line.named {
-        return Ok(count(line, byte));
-    }
-    Ok(spell(line, byte, name))
 }

@@ -1,58 +1,50 @@
 // Voltages and the registers' own arithmetic.
-use crate::{take, text};
-use voltage::Millivolts;
+use crate::answers::Answers;
+use crate::question::Question;
 use waveform::Levels;
 
-fn millivolts(text: &mut [u8; text::ROOM], at: usize, millivolts: Millivolts) -> usize {
-    match millivolts {
-        Millivolts::Listed(listed) => text::some(text, at, listed),
-        Millivolts::Unlisted => text::none(text, at),
-    }
-}
-
 // Source less VCOM, in millivolts, under the voltages of bytes 106 to 108.
-fn source_less_vcom(text: &mut [u8; text::ROOM], at: usize, numbers: &[u64]) -> usize {
+fn source_less_vcom(answers: &mut Answers, question: &Question) {
     let mut setting = [0u8; 112];
-    setting[106] = take::byte(numbers, 2);
-    setting[107] = take::byte(numbers, 3);
-    setting[108] = take::byte(numbers, 4);
+    setting[106] = question.byte(2);
+    setting[107] = question.byte(3);
+    setting[108] = question.byte(4);
     let levels = Levels::from_setting(&setting);
-    let source = levels.source(take::byte(numbers, 0));
-    let vcom = levels.vcom_swing(take::byte(numbers, 1));
-    let difference = numbers::saturating_add_i64(source, numbers::saturating_neg_i64(vcom));
-    text::signed(text, at, difference)
+    let source = levels.source(question.byte(0));
+    let vcom = levels.vcom_swing(question.byte(1));
+    answers.signed(source.saturating_add(vcom.saturating_neg()));
 }
 
-fn ten_bits(text: &mut [u8; text::ROOM], at: usize, numbers: &[u64]) -> usize {
-    let value = take::word(numbers, 0);
-    let index = take::word(numbers, 1);
-    let byte = take::byte(numbers, 2);
-    text::word(text, at, ram::ten_bits(value, index, byte))
+fn ten_bits(answers: &mut Answers, question: &Question) {
+    let value = question.word(0);
+    let index = question.word(1);
+    let byte = question.byte(2);
+    answers.number(u64::from(ram::ten_bits(value, index, byte)));
 }
 
-fn voltages(text: &mut [u8; text::ROOM], at: usize, name: &[u8], numbers: &[u64]) -> usize {
-    let code = take::byte(numbers, 0);
-    if take::asks(name, b"source_millivolts", numbers, 1) {
-        return millivolts(text, at, voltage::source_millivolts(code));
+fn voltages(answers: &mut Answers, question: &Question) -> bool {
+    let code = question.byte(0);
+    if question.asks(b"source_millivolts", 1) {
+        answers.signed_option(voltage::source_millivolts(code));
+    } else if question.asks(b"vsl_millivolts", 1) {
+        answers.signed_option(voltage::vsl_millivolts(code));
+    } else if question.asks(b"vcom_millivolts", 1) {
+        answers.signed_option(voltage::vcom_millivolts(code));
+    } else if question.asks(b"gate_code_is_listed", 1) {
+        answers.truth(voltage::gate_code_is_listed(code));
+    } else {
+        return false;
     }
-    if take::asks(name, b"vsl_millivolts", numbers, 1) {
-        return millivolts(text, at, voltage::vsl_millivolts(code));
-    }
-    if take::asks(name, b"vcom_millivolts", numbers, 1) {
-        return millivolts(text, at, voltage::vcom_millivolts(code));
-    }
-    if take::asks(name, b"gate_code_is_listed", numbers, 1) {
-        return text::truth(text, at, voltage::gate_code_is_listed(code));
-    }
-    at
+    true
 }
 
-pub fn answer(text: &mut [u8; text::ROOM], at: usize, name: &[u8], numbers: &[u64]) -> usize {
-    if take::asks(name, b"ten_bits", numbers, 3) {
-        return ten_bits(text, at, numbers);
+pub fn answer(answers: &mut Answers, question: &Question) -> bool {
+    if question.asks(b"ten_bits", 3) {
+        ten_bits(answers, question);
+    } else if question.asks(b"source_less_vcom", 5) {
+        source_less_vcom(answers, question);
+    } else {
+        return voltages(answers, question);
     }
-    if take::asks(name, b"source_less_vcom", numbers, 5) {
-        return source_less_vcom(text, at, numbers);
-    }
-    voltages(text, at, name, numbers)
+    true
 }

@@ -1,28 +1,26 @@
 // The reference waveforms, and the names of the commands that are not supported.
-use crate::{take, text};
+use crate::answers::Answers;
+use crate::question::Question;
 
-fn reference_byte(text: &mut [u8; text::ROOM], at: usize, place: u16) -> usize {
+fn reference_byte(answers: &mut Answers, place: u16) {
     let table = reference::gdeq0426t82_otp();
-    if place < 354 {
-        let next = text::there(text, at);
-        return text::byte(text, next, table[place as usize]);
-    }
-    text::none(text, at)
+    let byte = table.get(place as usize).copied();
+    answers.option(byte.map(|byte| u64::from(byte)));
 }
 
-fn unsupported_name(text: &mut [u8; text::ROOM], at: usize, command: u8) -> usize {
+fn unsupported_name(answers: &mut Answers, command: u8) {
     let name = unsupported_names::unsupported_name(command);
-    let bytes = name.bytes;
-    let next = text::number(text, at, name.length as u64);
-    text::number(text, next, hash::of_bytes(&bytes))
+    answers.number(name.length as u64);
+    answers.number(hash::of_bytes(&name.bytes));
 }
 
-pub fn answer(text: &mut [u8; text::ROOM], at: usize, name: &[u8], numbers: &[u64]) -> usize {
-    if take::asks(name, b"gdeq0426t82_otp", numbers, 1) {
-        return reference_byte(text, at, take::word(numbers, 0));
+pub fn answer(answers: &mut Answers, question: &Question) -> bool {
+    if question.asks(b"gdeq0426t82_otp", 1) {
+        reference_byte(answers, question.word(0));
+    } else if question.asks(b"unsupported_name", 1) {
+        unsupported_name(answers, question.byte(0));
+    } else {
+        return false;
     }
-    if take::asks(name, b"unsupported_name", numbers, 1) {
-        return unsupported_name(text, at, take::byte(numbers, 0));
-    }
-    at
+    true
 }

@@ -1,39 +1,35 @@
 // Temperatures and their registers.
-use crate::{take, text};
-use config::{FromSixteenths, Temperature};
+use crate::answers::Answers;
+use crate::question::Question;
+use config::Temperature;
 
-fn from_sixteenths(text: &mut [u8; text::ROOM], at: usize, sixteenths: i16) -> usize {
-    match Temperature::from_sixteenths(sixteenths) {
-        FromSixteenths::Within(temperature) => {
-            let next = text::there(text, at);
-            text::small(text, next, temperature.sixteenths())
-        }
-        FromSixteenths::Outside => text::none(text, at),
-    }
+fn sixteenths(answers: &mut Answers, temperature: Temperature) {
+    answers.signed(i64::from(temperature.sixteenths()));
+}
+
+fn from_sixteenths(answers: &mut Answers, sixteenths: i16) {
+    let temperature = Temperature::from_sixteenths(sixteenths);
+    answers.signed_option(temperature.map(|temperature| i64::from(temperature.sixteenths())));
 }
 
 // No number where the format does not hold the temperature.
-fn register(text: &mut [u8; text::ROOM], at: usize, sixteenths: i16) -> usize {
-    match Temperature::from_sixteenths(sixteenths) {
-        FromSixteenths::Within(temperature) => text::word(text, at, temperature.register()),
-        FromSixteenths::Outside => at,
+fn register(answers: &mut Answers, sixteenths: i16) {
+    if let Some(temperature) = Temperature::from_sixteenths(sixteenths) {
+        answers.number(u64::from(temperature.register()));
     }
 }
 
-pub fn answer(text: &mut [u8; text::ROOM], at: usize, name: &[u8], numbers: &[u64]) -> usize {
-    if take::asks(name, b"from_register", numbers, 1) {
-        let temperature = Temperature::from_register(take::word(numbers, 0));
-        return text::small(text, at, temperature.sixteenths());
+pub fn answer(answers: &mut Answers, question: &Question) -> bool {
+    if question.asks(b"from_register", 1) {
+        sixteenths(answers, Temperature::from_register(question.word(0)));
+    } else if question.asks(b"from_celsius", 1) {
+        sixteenths(answers, Temperature::from_celsius(question.signed_byte(0)));
+    } else if question.asks(b"from_sixteenths", 1) {
+        from_sixteenths(answers, question.signed_word(0));
+    } else if question.asks(b"register", 1) {
+        register(answers, question.signed_word(0));
+    } else {
+        return false;
     }
-    if take::asks(name, b"from_celsius", numbers, 1) {
-        let temperature = Temperature::from_celsius(take::signed_byte(numbers, 0));
-        return text::small(text, at, temperature.sixteenths());
-    }
-    if take::asks(name, b"from_sixteenths", numbers, 1) {
-        return from_sixteenths(text, at, take::signed_word(numbers, 0));
-    }
-    if take::asks(name, b"register", numbers, 1) {
-        return register(text, at, take::signed_word(numbers, 0));
-    }
-    at
+    true
 }

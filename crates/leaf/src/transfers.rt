@@ -1,60 +1,47 @@
 // Levels and greys, and transfers one after the other.
-use crate::{take, text};
+use crate::answers::Answers;
+use crate::question::Question;
 use glass::Transfer;
 
-fn level(text: &mut [u8; text::ROOM], at: usize, gray: u8, swing: i64) -> usize {
+// No number where the swing is below 1.
+fn level(answers: &mut Answers, gray: u8, swing: i64) {
     if 1 <= swing {
-        let state = glass::level(gray, swing);
-        return text::signed(text, at, state);
+        answers.signed(glass::level(gray, swing));
     }
-    at
 }
 
-fn gray(text: &mut [u8; text::ROOM], at: usize, state: i64, swing: i64) -> usize {
+fn gray(answers: &mut Answers, state: i64, swing: i64) {
     if 1 <= swing {
-        let gray = glass::gray(state, swing);
-        return text::byte(text, at, gray);
+        answers.number(u64::from(glass::gray(state, swing)));
     }
-    at
 }
 
-fn transfer(numbers: &[u64]) -> Transfer {
+// The transfer of three numbers.
+fn transfer(question: &Question, from: usize) -> Transfer {
     Transfer {
-        add: take::signed(numbers, 0),
-        lo: take::signed(numbers, 1),
-        hi: take::signed(numbers, 2),
+        add: question.after(from, 0).cast_signed(),
+        lo: question.after(from, 1).cast_signed(),
+        hi: question.after(from, 2).cast_signed(),
     }
 }
 
-// The transfer after the first.
-fn next(numbers: &[u64]) -> Transfer {
-    Transfer {
-        add: take::signed(numbers, 3),
-        lo: take::signed(numbers, 4),
-        hi: take::signed(numbers, 5),
-    }
+pub fn put(answers: &mut Answers, transfer: Transfer) {
+    answers.signed(transfer.add);
+    answers.signed(transfer.lo);
+    answers.signed(transfer.hi);
 }
 
-pub fn put(text: &mut [u8; text::ROOM], at: usize, transfer: Transfer) -> usize {
-    let lo = text::signed(text, at, transfer.add);
-    let hi = text::signed(text, lo, transfer.lo);
-    text::signed(text, hi, transfer.hi)
-}
-
-pub fn answer(text: &mut [u8; text::ROOM], at: usize, name: &[u8], numbers: &[u64]) -> usize {
-    if take::asks(name, b"level", numbers, 2) {
-        return level(text, at, take::byte(numbers, 0), take::signed(numbers, 1));
+pub fn answer(answers: &mut Answers, question: &Question) -> bool {
+    if question.asks(b"level", 2) {
+        level(answers, question.byte(0), question.signed(1));
+    } else if question.asks(b"gray", 2) {
+        gray(answers, question.signed(0), question.signed(1));
+    } else if question.asks(b"then", 6) {
+        put(answers, transfer(question, 0).then(transfer(question, 3)));
+    } else if question.asks(b"apply", 4) {
+        answers.signed(transfer(question, 0).apply(question.signed(3)));
+    } else {
+        return false;
     }
-    if take::asks(name, b"gray", numbers, 2) {
-        return gray(text, at, take::signed(numbers, 0), take::signed(numbers, 1));
-    }
-    if take::asks(name, b"then", numbers, 6) {
-        let both = transfer(numbers).then(next(numbers));
-        return put(text, at, both);
-    }
-    if take::asks(name, b"apply", numbers, 4) {
-        let state = transfer(numbers).apply(take::signed(numbers, 3));
-        return text::signed(text, at, state);
-    }
-    at
+    true
 }

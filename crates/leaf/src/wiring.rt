@@ -1,165 +1,158 @@
 // Gates and rows, and the LUT of every pixel.
 ghost use Rattle.std.specs.Prelude.{◌≡◌, ◌*◌};
 
-use crate::{configuration, planes, take, text};
+use crate::answers::Answers;
+use crate::question::Question;
+use crate::{configuration, planes};
 use config::{GateScan, PanelGeometry};
-use scan::{PlaneOption, Row, Scan};
+use scan::{PlaneOption, Scan};
 
-fn ram_row_of_gate(text: &mut [u8; text::ROOM], at: usize, numbers: &[u64]) -> usize {
+fn ram_row_of_gate(answers: &mut Answers, question: &Question) {
     let order = GateScan {
-        sm: take::truth(numbers, 1),
-        gd: take::truth(numbers, 2),
+        sm: question.truth(1),
+        gd: question.truth(2),
     };
-    match scan::ram_row_of_gate(take::word(numbers, 0), order, take::word(numbers, 3)) {
-        Row::Is(row) => {
-            let next = text::there(text, at);
-            text::word(text, next, row)
-        }
-        Row::Nothing => text::none(text, at),
-    }
+    let row = scan::ram_row_of_gate(question.word(0), order, question.word(3));
+    answers.option(row.map(|row| u64::from(row)));
 }
 
 // A panel of width 1.
-fn column(numbers: &[u64]) -> PanelGeometry {
-    let native_scan = GateScan {
-        sm: take::truth(numbers, 1),
-        gd: take::truth(numbers, 2),
-    };
+fn column(question: &Question) -> PanelGeometry {
     PanelGeometry {
         width: 1,
-        height: take::word(numbers, 0),
+        height: question.word(0),
         first_source: 0,
         columns_reversed: false,
-        native_scan,
-        rows_reversed: take::truth(numbers, 3),
+        native_scan: GateScan {
+            sm: question.truth(1),
+            gd: question.truth(2),
+        },
+        rows_reversed: question.truth(3),
     }
 }
 
-fn gate(gates: &[u16], row: usize) -> u16 {
-    if row < gates.len() { gates[row] } else { 0 }
+// The gates of the rows of a panel, and what is no row's.
+fn gates_of(geometry: PanelGeometry) -> [u16; config::RAM_GATES as usize] {
+    let mut gates = [0u16; config::RAM_GATES as usize];
+    scan::gate_of_row(&mut gates, geometry);
+    gates
 }
 
-fn gate_of_row(text: &mut [u8; text::ROOM], at: usize, numbers: &[u64]) -> usize {
-    let mut gates = [0u16; config::RAM_GATES as usize];
-    scan::gate_of_row(&mut gates, column(numbers));
-    text::word(text, at, gate(&gates, take::word(numbers, 4) as usize))
+fn gate_of_row(answers: &mut Answers, question: &Question) {
+    let gates = gates_of(column(question));
+    let gate = gates.get(question.word(4) as usize).copied().unwrap_or(0);
+    answers.number(u64::from(gate));
 }
 
 fn hash_of(gates: &[u16], height: usize) -> u64 {
     if height <= gates.len() {
-        return hash::of_words(&gates[0..height]);
+        hash::of_words(&gates[..height])
+    } else {
+        0
     }
-    0
 }
 
-fn gates(text: &mut [u8; text::ROOM], at: usize, numbers: &[u64]) -> usize {
-    let geometry = column(numbers);
-    let mut gates = [0u16; config::RAM_GATES as usize];
-    scan::gate_of_row(&mut gates, geometry);
-    text::number(text, at, hash_of(&gates, geometry.height as usize))
+fn gates(answers: &mut Answers, question: &Question) {
+    let geometry = column(question);
+    answers.number(hash_of(&gates_of(geometry), geometry.height as usize));
 }
 
-pub fn area(height: u16, width: u16) -> usize
-    ensures { result ≡ height * width }
-{
-    height as usize * width as usize
+// A panel, and the scan and the planes that fix its LUTs.
+#[derive(Clone, Copy)]
+pub struct Refresh {
+    pub geometry: PanelGeometry,
+    pub scan: Scan,
+    // The seed of the bytes of the planes.
+    pub seed: u32,
 }
 
-// Fixes the LUTs where the buffers are as long as they have to be.
-pub fn start(
-    luts: &mut [u8],
-    gates: &[u16],
-    red: &[u8],
-    black_white: &[u8],
-    geometry: PanelGeometry,
-    scan: Scan,
-) {
-    let sources = geometry.first_source as usize + geometry.width as usize;
-    if luts.len() == area(geometry.height, geometry.width) {
-        if gates.len() == geometry.height as usize {
-            if red.len() == ram::PLANE_BYTES {
-                if black_white.len() == ram::PLANE_BYTES {
-                    if sources <= 960 {
-                        scan::start(luts, gates, red, black_white, geometry, scan);
-                    }
-                }
-            }
+impl Refresh {
+    // Pixels of the panel.
+    pub fn area(&self) -> usize
+        ensures { result ≡ self.now.geometry.height * self.now.geometry.width }
+    {
+        self.geometry.height as usize * self.geometry.width as usize
+    }
+
+    // Fixes the LUTs where the buffers are as long as they have to be.
+    fn start(&self, luts: &mut [u8], gates: &[u16], red: &[u8], black_white: &[u8]) {
+        let sources = self.geometry.first_source as usize + self.geometry.width as usize;
+        if luts.len() == self.area()
+            && gates.len() == self.geometry.height as usize
+            && red.len() == ram::PLANE_BYTES
+            && black_white.len() == ram::PLANE_BYTES
+            && sources <= 960
+        {
+            scan::start(luts, gates, red, black_white, self.geometry, self.scan);
         }
     }
-}
 
-// The hash of the LUTs, which take the first `pixels` bytes.
-fn started(
-    luts: &mut [u8],
-    pixels: usize,
-    gates: &[u16],
-    red: &[u8; ram::PLANE_BYTES],
-    black_white: &[u8; ram::PLANE_BYTES],
-    geometry: PanelGeometry,
-    scan: Scan,
-) -> u64 {
-    let height = geometry.height as usize;
-    if pixels <= luts.len() {
+    // Fixes the LUTs under the planes of the seed.
+    pub fn fill(&self, luts: &mut [u8]) {
+        let mut red = [0u8; ram::PLANE_BYTES];
+        let mut black_white = [0u8; ram::PLANE_BYTES];
+        planes::fill(&mut black_white, self.seed);
+        planes::fill(&mut red, self.seed.wrapping_add(1));
+        let gates = gates_of(self.geometry);
+        let height = self.geometry.height as usize;
         if height <= gates.len() {
-            start(
-                &mut luts[0..pixels],
-                &gates[0..height],
-                red,
-                black_white,
-                geometry,
-                scan,
-            );
-            return hash::of_bytes(&luts[0..pixels]);
+            self.start(luts, &gates[..height], &red, &black_white);
         }
     }
-    0
+
+    // The hash of the LUTs, in a buffer that they may be too many for.
+    fn hash_in(&self, luts: &mut [u8]) -> u64 {
+        let pixels = self.area();
+        if luts.len() < pixels || config::RAM_GATES < self.geometry.height {
+            return 0;
+        }
+        let lent = &mut luts[..pixels];
+        self.fill(&mut *lent);
+        hash::of_bytes(lent)
+    }
+
+    fn small(&self) -> u64 {
+        let mut luts = [0u8; 1024];
+        self.hash_in(&mut luts)
+    }
+
+    fn large(&self) -> u64 {
+        let mut luts = [0u8; 652800];
+        self.hash_in(&mut luts)
+    }
+
+    // The LUT of a panel of one pixel whose planes hold `byte` throughout.
+    fn one_pixel(&self, byte: u8) -> u8 {
+        let plane = [byte; ram::PLANE_BYTES];
+        let mut luts = [0u8; 1];
+        self.start(&mut luts, &[0u16], &plane, &plane);
+        luts[0]
+    }
 }
 
-// The planes of a seed and the gates of the geometry, lent to `started`.
-pub fn filled(luts: &mut [u8], geometry: PanelGeometry, scan: Scan, seed: u32) -> u64 {
-    let mut red = [0u8; ram::PLANE_BYTES];
-    let mut black_white = [0u8; ram::PLANE_BYTES];
-    let mut gates = [0u16; config::RAM_GATES as usize];
-    let pixels = area(geometry.height, geometry.width);
-    planes::fill(&mut black_white, seed);
-    planes::fill(&mut red, std::num::wrapping_add_u32(seed, 1));
-    scan::gate_of_row(&mut gates, geometry);
-    started(luts, pixels, &gates, &red, &black_white, geometry, scan)
-}
-
-fn small(geometry: PanelGeometry, scan: Scan, seed: u32) -> u64 {
-    let mut luts = [0u8; 1024];
-    filled(&mut luts, geometry, scan, seed)
-}
-
-fn large(geometry: PanelGeometry, scan: Scan, seed: u32) -> u64 {
-    let mut luts = [0u8; 652800];
-    filled(&mut luts, geometry, scan, seed)
-}
-
-fn scan_of(numbers: &[u64]) -> Scan {
-    let order = GateScan {
-        sm: take::truth(numbers, 8),
-        gd: take::truth(numbers, 9),
-    };
-    let red = PlaneOption::from_nibble(take::byte(numbers, 10));
-    let black_white = PlaneOption::from_nibble(take::byte(numbers, 11));
+fn scan_of(question: &Question) -> Scan {
     Scan {
-        lines: take::word(numbers, 7),
-        order,
-        red,
-        black_white,
+        lines: question.word(7),
+        order: GateScan {
+            sm: question.truth(8),
+            gd: question.truth(9),
+        },
+        red: PlaneOption::from_nibble(question.byte(10)),
+        black_white: PlaneOption::from_nibble(question.byte(11)),
     }
 }
 
-fn panel_start(text: &mut [u8; text::ROOM], at: usize, numbers: &[u64]) -> usize {
-    let geometry = configuration::geometry(numbers);
-    let scan = scan_of(numbers);
-    let seed = planes::seed(numbers, 12);
-    if area(geometry.height, geometry.width) <= 1024 {
-        return text::number(text, at, small(geometry, scan, seed));
-    }
-    text::number(text, at, large(geometry, scan, seed))
+fn panel_start(answers: &mut Answers, question: &Question) {
+    let refresh = Refresh {
+        geometry: configuration::geometry(question),
+        scan: scan_of(question),
+        seed: question.double_word(12),
+    };
+    answers.number(if refresh.area() <= 1024 {
+        refresh.small()
+    } else {
+        refresh.large()
+    });
 }
 
 fn option_number(option: PlaneOption) -> u64 {
@@ -170,67 +163,47 @@ fn option_number(option: PlaneOption) -> u64 {
     }
 }
 
-// The LUT of a panel of one pixel whose planes hold `byte` throughout.
-fn one_pixel(scan: Scan, byte: u8) -> u8 {
-    let plane = [byte; ram::PLANE_BYTES];
-    let gates = [0u16; 1];
-    let mut luts = [0u8; 1];
-    let native_scan = GateScan {
-        sm: false,
-        gd: false,
-    };
-    let geometry = PanelGeometry {
-        width: 1,
-        height: 1,
-        first_source: 0,
-        columns_reversed: false,
-        native_scan,
-        rows_reversed: false,
-    };
-    start(&mut luts, &gates, &plane, &plane, geometry, scan);
-    luts[0]
-}
-
 // What an option makes of a bit: the LUT of a pixel whose red bit reads as 0.
 fn applied(option: PlaneOption, bit: bool) -> u8 {
-    let order = GateScan {
-        sm: false,
-        gd: false,
+    let refresh = Refresh {
+        geometry: PanelGeometry {
+            width: 1,
+            height: 1,
+            first_source: 0,
+            columns_reversed: false,
+            native_scan: GateScan::default(),
+            rows_reversed: false,
+        },
+        scan: Scan {
+            lines: config::RAM_GATES,
+            order: GateScan::default(),
+            red: PlaneOption::Zero,
+            black_white: option,
+        },
+        seed: 0,
     };
-    let scan = Scan {
-        lines: config::RAM_GATES,
-        order,
-        red: PlaneOption::Zero,
-        black_white: option,
-    };
-    if bit {
-        one_pixel(scan, 0xFF)
+    refresh.one_pixel(if bit { 0xFF } else { 0x00 })
+}
+
+fn plane_option(answers: &mut Answers, question: &Question) {
+    let option = PlaneOption::from_nibble(question.byte(0));
+    answers.number(option_number(option));
+    answers.number(u64::from(applied(option, question.truth(1))));
+}
+
+pub fn answer(answers: &mut Answers, question: &Question) -> bool {
+    if question.asks(b"ram_row_of_gate", 4) {
+        ram_row_of_gate(answers, question);
+    } else if question.asks(b"gate_of_row", 5) {
+        gate_of_row(answers, question);
+    } else if question.asks(b"gates", 4) {
+        gates(answers, question);
+    } else if question.asks(b"panel_start", 13) {
+        panel_start(answers, question);
+    } else if question.asks(b"plane_option", 2) {
+        plane_option(answers, question);
     } else {
-        one_pixel(scan, 0x00)
+        return false;
     }
-}
-
-fn plane_option(text: &mut [u8; text::ROOM], at: usize, numbers: &[u64]) -> usize {
-    let option = PlaneOption::from_nibble(take::byte(numbers, 0));
-    let next = text::number(text, at, option_number(option));
-    text::byte(text, next, applied(option, take::truth(numbers, 1)))
-}
-
-pub fn answer(text: &mut [u8; text::ROOM], at: usize, name: &[u8], numbers: &[u64]) -> usize {
-    if take::asks(name, b"ram_row_of_gate", numbers, 4) {
-        return ram_row_of_gate(text, at, numbers);
-    }
-    if take::asks(name, b"gate_of_row", numbers, 5) {
-        return gate_of_row(text, at, numbers);
-    }
-    if take::asks(name, b"gates", numbers, 4) {
-        return gates(text, at, numbers);
-    }
-    if take::asks(name, b"panel_start", numbers, 13) {
-        return panel_start(text, at, numbers);
-    }
-    if take::asks(name, b"plane_option", numbers, 2) {
-        return plane_option(text, at, numbers);
-    }
-    at
+    true
 }

@@ -2,41 +2,32 @@
 ghost use Rattle.std.specs.Prelude.{◌≡◌};
 ghost use Rattle.line.specs.Lines.{columns_of, three_of};
 
-use column::read::Column;
-
 #[derive(Clone, Copy)]
-pub enum Columns {
-    // NUMBER, KIND and VALUE.
-    Of(u64, u64, u64),
-    // Not 26 bytes and LF.
-    NotALine,
-    // A column that holds no number.
-    NotANumber,
+pub struct Columns {
+    pub number: u64,
+    pub kind: u64,
+    pub value: u64,
 }
 
-fn three(number: Column, kind: Column, value: Column) -> Columns
+fn three(number: Option<u64>, kind: Option<u64>, value: Option<u64>) -> Option<Columns>
     ensures { result ≡ three_of number kind value }
 {
-    let Column::Number(n) = number else {
-        return Columns::NotANumber;
-    };
-    let Column::Number(k) = kind else {
-        return Columns::NotANumber;
-    };
-    let Column::Number(v) = value else {
-        return Columns::NotANumber;
-    };
-    Columns::Of(n, k, v)
+    Some(Columns {
+        number: number?,
+        kind: kind?,
+        value: value?,
+    })
 }
 
-pub fn read(line: &[u8]) -> Columns
+// None where a line is not 26 bytes and LF, or a column holds no number.
+pub fn read(line: &[u8]) -> Option<Columns>
     ensures { result ≡ columns_of line.now }
 {
     if line.len() != 27 {
-        return Columns::NotALine;
+        return None;
     }
     if line[26] != b'\n' {
-        return Columns::NotALine;
+        return None;
     }
     let number = column::read::number(&line[0..20]);
     let kind = column::read::number(&line[20..22]);

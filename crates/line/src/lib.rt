@@ -10,8 +10,6 @@ mod listed;
 ghost use Rattle.std.specs.Prelude.{◌≡◌};
 ghost use Rattle.line.specs.Lines.{line_of};
 
-use columns::Columns;
-
 // The bytes of a line, LF among them.
 pub const LINE_BYTES: usize = 27;
 
@@ -41,18 +39,12 @@ pub enum Line {
     Picture,
     // The counts of greys, and the entry of the last waveform loaded.
     Counts,
-    // None of these: the run ends.
-    Bad,
 }
 
-// Every slice is a line, a bad one if nothing else.
-pub fn parse(line: &[u8]) -> Line
+// What a line asks for, if any of these: else the run ends.
+pub fn parse(line: &[u8]) -> Option<Line>
     ensures { result ≡ line_of line.now }
 {
-    let columns = columns::read(line);
-    match columns {
-        Columns::Of(number, kind, value) => listed::listed(number, kind, value),
-        Columns::NotALine => Line::Bad,
-        Columns::NotANumber => Line::Bad,
-    }
+    let columns = columns::read(line)?;
+    listed::listed(columns.number, columns.kind, columns.value)
 }

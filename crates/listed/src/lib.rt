@@ -8,9 +8,7 @@ ghost use Rattle.listed.specs.Listed.{driver_listed, sources_listed, temperature
 use device::Registers;
 use numbers::low_nibble;
 use ram::{RAM_GATES, RAM_SOURCES};
-use voltage::{
-    gate_code_is_listed, is_voltage, source_millivolts, vcom_millivolts, vsl_millivolts,
-};
+use voltage::{gate_code_is_listed, source_millivolts, vcom_millivolts, vsl_millivolts};
 
 // 0x18: the internal sensor; any other value selects the external one (48h at reset).
 const INTERNAL_SENSOR: u8 = 0x80;
@@ -45,9 +43,9 @@ fn sources(index: u16, byte: u8) -> bool
     ensures { result ≡ sources_listed index byte }
 {
     if index < 2 {
-        return is_voltage(source_millivolts(byte));
+        return source_millivolts(byte).is_some();
     }
-    is_voltage(vsl_millivolts(byte))
+    vsl_millivolts(byte).is_some()
 }
 
 // 0x1A: A[3:0] sits in the high nibble; the low one must be 0.
@@ -156,7 +154,7 @@ pub fn is_listed(regs: Registers, command: u8, index: u16, byte: u8) -> bool
         0x1A => temperature(index, byte),
         0x21 => update_control_1(index, byte),
         0x29 => vcom_sense(byte),
-        0x2C => is_voltage(vcom_millivolts(byte)),
+        0x2C => vcom_millivolts(byte).is_some(),
         0x32 => waveform_byte(index, byte),
         0x3C => border(byte),
         0x41 => read_ram(byte),

@@ -25,11 +25,9 @@ fn lines(out: &mut [u8], waveform: Waveform) -> usize
 {
     let levels = waveform.levels;
     let mut at: usize = 0;
-    let mut number: usize = 0;
-    while number < 10 {
+    for number in 0..10 {
         let group = waveform.groups[number];
         at = line::put_group(out, at, levels, group, number);
-        number += 1;
     }
     at
 }

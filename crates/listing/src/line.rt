@@ -34,11 +34,9 @@ fn put_drives(out: &mut [u8], at: usize, levels: Levels, group: Group, phase: us
     ensures end { result ≡ at + 28 }
 {
     let mut next = at;
-    let mut lut: usize = 0;
-    while lut < 4 {
+    for lut in 0..4 {
         let millivolts = drive_of(levels, group, phase, lut);
         next = column::put_millivolts(out, next, millivolts);
-        lut += 1;
     }
     next
 }
@@ -113,10 +111,8 @@ pub(crate) fn put_group(
     ensures end { result ≤ at + 208 }
 {
     let mut next = at;
-    let mut phase: usize = 0;
-    while phase < 4 {
+    for phase in 0..4 {
         next = put_phase(out, next, levels, group, number, phase);
-        phase += 1;
     }
     next
 }

@@ -6,7 +6,7 @@ ghost use Rattle.std.specs.Prelude.{◌≡◌, length};
 ghost use Rattle.stages.specs.Run.{step};
 ghost use Rattle.stages.specs.Stages.{clock_on, analog_on, sensed, temperature_loaded, setting_in, lut_found, lut_loaded, loaded};
 
-use config::{DisplayMode, ExternalSensor, Ssd1677Config};
+use config::{DisplayMode, Ssd1677Config};
 use diagnostic::{DiagnosticKind, Stage};
 use otp::ENTRY_BYTES;
 use stages::{Control, Run, mode_of, note, wait};
@@ -60,12 +60,12 @@ fn load_temperature(run: Run, log: &mut [u8], time: u64, sensor: u8, config: Ssd
     }
     let external = config.external_sensor;
     match external {
-        ExternalSensor::Reads(register) => {
+        Some(register) => {
             let mut next = run;
             next.temperature = register % 4096;
             wait(next, timing.temperature_external)
         }
-        ExternalSensor::Absent => {
+        None => {
             let next = note(run, log, time, DiagnosticKind::NoExternalSensor);
             wait(next, timing.temperature_external)
         }

@@ -1,7 +1,7 @@
 -- A command byte: what each return of the code hands over, over plain variables. Assumes nothing.
+use Rattle.std.specs.Prelude.{Some, Result, Ok, Err}
 use Prim.Native.Nat.{ℕ, ◌+◌, ◌*◌, ◌≤◌, ◌<◌}
 use mathlib.Core.Path.{◌≡◌, refl, sym, ap, subst, ◌∙◌}
-use mathlib.Core.Bool.{Bool, true, false}
 use mathlib.Core.List.{List}
 use native.Mathlib.Omega.{arith}
 use lib.IntN.{ℤ}
@@ -20,10 +20,9 @@ use Rattle.activation.specs.Activation.{Activatable}
 use Rattle.activation.proofs.Kept.{ready_advanced}
 use Rattle.begin.specs.Begin.{begun}
 use Rattle.guard_lengths.specs.declared.Lengths.{Lengths}
-use Rattle.guard_lengths.specs.declared.LentLength.TheVariants.{Of}
 use Rattle.guard.specs.declared.Refusal.{Refusal}
 use Rattle.guard_lengths.specs.Lengths.{all_lent}
-use Rattle.guard.specs.Refusals.{refusal_number, accepts, guarded_with_table}
+use Rattle.guard.specs.Refusals.{number_of, guarded_with_table}
 use Rattle.guard_laws.proofs.Accepted.{fine_state, fine_lengths}
 use Rattle.query.specs.Outcome.{outcome}
 use Rattle.query.proofs.Cases.{grants, refuses}
@@ -79,44 +78,43 @@ pub takes : (k : Lent) (time command : ℕ) (w : WithBuffers) (a : WithGlass) (c
 unfolding command_taken
 takes k time command w a c v e₁ e₂ e₃ = rw (e₃, e₂, e₁)
 
-module _ (k : Lent) (time command : ℕ) (w : WithBuffers) (l : Lengths) (r : Refusal) (b : Bool)
+module _ (k : Lent) (time command : ℕ) (w : WithBuffers) (l : Lengths)
     (Lent-is : l
-    ≡ all_lent (length w.states) (length w.luts) (length w.picture.pixels) (length w.picture.counts) (length w.log) (length k.black_white) (length k.red) (length k.gates))
-    (is : r ≡ guarded_with_table w.device l k.otp) (t : b ≡ accepts r) where
+    ≡ all_lent (length w.states) (length w.luts) (length w.picture.pixels) (length w.picture.counts) (length w.log) (length k.black_white) (length k.red) (length k.gates)) where
   abbrev lengths : Lengths
   lengths =
       all_lent (length w.states) (length w.luts) (length w.picture.pixels) (length w.picture.counts) (length w.log) (length k.black_white) (length k.red) (length k.gates)
 
-  same_table : r ≡ guarded_with_table w.device lengths k.otp
-  same_table = is ∙ ap (λ (x : Lengths). guarded_with_table w.device x k.otp) Lent-is
+  same_table : (r : Result Unit Refusal) → r ≡ guarded_with_table w.device l k.otp → r ≡ guarded_with_table w.device lengths k.otp
+  same_table r is = is ∙ ap (λ (x : Lengths). guarded_with_table w.device x k.otp) Lent-is
 
-  pub command_activatable : b ≡ true
-      → Activatable w.device w.states w.luts w.picture.pixels w.picture.counts k.black_white k.red k.gates w.log
-  command_activatable h =
-      let fine = table_state_passed w.device lengths k.otp r b same_table t h in
-      let fit = table_lengths_passed w.device lengths k.otp r b same_table t h in
-      let f = fine_state w.device fine in
-      let g = fine_lengths w.device.config.panel lengths fit in
-      record {
-        startable =
-            record {
-              mux_small = let n = f.registers.mux_ten in omega arith;
-              sources = f.panel.sources;
-              luts_long = g.luts ∙ mul_comm w.device.config.panel.width w.device.config.panel.height;
-              gates_long = g.gates (length k.gates) refl;
-              black_white_long = g.black_white (length k.black_white) refl;
-              red_long = g.red (length k.red) refl;
-              log_long = g.log (length w.log) refl;
-            };
-        ready =
-            ready_fine w.device w.states w.luts w.picture.pixels w.picture.counts (Of (length w.log)) (Of (length k.black_white)) (Of (length k.red))
-            (Of (length k.gates)) fine fit (table_counts_passed w.device lengths k.otp r b same_table t h);
-      }
+  module _ (passes : Ok tt ≡ guarded_with_table w.device l k.otp) where
+    pub command_activatable : Activatable w.device w.states w.luts w.picture.pixels w.picture.counts k.black_white k.red k.gates w.log
+    command_activatable =
+        let fine = table_state_passed w.device lengths k.otp (same_table _ passes) in
+        let fit = table_lengths_passed w.device lengths k.otp (same_table _ passes) in
+        let f = fine_state w.device fine in
+        let g = fine_lengths w.device.config.panel lengths fit in
+        record {
+          startable =
+              record {
+                mux_small = let n = f.registers.mux_ten in omega arith;
+                sources = f.panel.sources;
+                luts_long = g.luts ∙ mul_comm w.device.config.panel.width w.device.config.panel.height;
+                gates_long = g.gates (length k.gates) refl;
+                black_white_long = g.black_white (length k.black_white) refl;
+                red_long = g.red (length k.red) refl;
+                log_long = g.log (length w.log) refl;
+              };
+          ready =
+              ready_fine w.device w.states w.luts w.picture.pixels w.picture.counts (Some (length w.log)) (Some (length k.black_white)) (Some (length k.red))
+              (Some (length k.gates)) fine fit (table_counts_passed w.device lengths k.otp (same_table _ passes));
+        }
 
-  pub command_moves : (v : WithBuffers) → b ≡ true → v ≡ command_taken k time command w → outcome (refusal_number r) v ≡ command_written k time command w
+    pub command_moves : (v : WithBuffers) → v ≡ command_taken k time command w → outcome 0 v ≡ command_written k time command w
+    unfolding command_written
+    command_moves v e = grants (guarded_with_table w.device lengths k.otp) w (command_taken k time command w) v (same_table _ passes) e
+
+  pub command_refused : (r : Refusal) → Err r ≡ guarded_with_table w.device l k.otp → outcome (number_of r) w ≡ command_written k time command w
   unfolding command_written
-  command_moves v h e = grants r _ same_table w (command_taken k time command w) b v t h e
-
-  pub command_refused : b ≡ false → outcome (refusal_number r) w ≡ command_written k time command w
-  unfolding command_written
-  command_refused h = refuses r _ same_table w (command_taken k time command w) b t h
+  command_refused r is = refuses (guarded_with_table w.device lengths k.otp) w (command_taken k time command w) r (same_table _ is)

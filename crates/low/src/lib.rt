@@ -3,14 +3,14 @@
 
 ghost use Rattle.std.specs.Prelude.{◌≡◌};
 ghost use Rattle.guard.specs.Refusals.{refusal_number};
-ghost use Rattle.query.specs.Outcome.{outcome};
+ghost use Rattle.query.specs.Outcome.{outcome, answer_in, state_in};
 ghost use Rattle.counts.specs.Counts.{picture};
 ghost use Rattle.world.specs.World.{with_buffers, lent};
 ghost use Rattle.activation.specs.Activation.{Activatable};
 ghost use Rattle.low.specs.Command.{command_taken, command_written};
 
 use device::Ssd1677;
-use query::CallAnswer;
+use guard::Refused;
 
 // The clock moves, the last command is closed, and the new one begins.
 fn take_command(
@@ -61,8 +61,8 @@ pub fn write_command(
     otp: &[u8],
     time: u64,
     command: u8,
-) -> CallAnswer
-    ensures { outcome (refusal_number result.refusal) (with_buffers result.state states.new luts.new (picture pixels.new counts.new) log.new) ≡ command_written (lent black_white.now red.now gates.now otp.now) time command (with_buffers state states.old luts.old (picture pixels.old counts.old) log.old) }
+) -> Result<Ssd1677, Refused>
+    ensures { outcome (refusal_number (answer_in result)) (with_buffers (state_in result) states.new luts.new (picture pixels.new counts.new) log.new) ≡ command_written (lent black_white.now red.now gates.now otp.now) time command (with_buffers state states.old luts.old (picture pixels.old counts.old) log.old) }
 {
     let lengths = guard_lengths::all_lent(
         states.len(),
@@ -74,9 +74,8 @@ pub fn write_command(
         red.len(),
         gates.len(),
     );
-    let refusal = guard::check_with_table(state, lengths, otp);
-    if guard::is_accepted(refusal) {
-        let state = take_command(
+    match guard::check_with_table(state, lengths, otp) {
+        Ok(()) => Ok(take_command(
             state,
             states,
             luts,
@@ -89,8 +88,7 @@ pub fn write_command(
             otp,
             time,
             command,
-        );
-        return CallAnswer { refusal, state };
+        )),
+        Err(refusal) => Err(Refused { refusal, state }),
     }
-    CallAnswer { refusal, state }
 }

@@ -1,28 +1,27 @@
 -- What each return of the code hands over, over plain variables. Assumes nothing.
+use Rattle.std.specs.Prelude.{Option, Some, None}
 use Prim.Native.Nat.{ℕ, ◌≤◌, ◌<◌}
 use mathlib.Core.Path.{◌≡◌}
 use mathlib.Core.Bool.{Bool, true, false, ◌&&◌, not}
 use lib.Dec.{leb}
 use borrow.Author.Tests.{lt-ltb, le-ltb}
 use Rattle.device.specs.declared.Bus.{Bus}
-use Rattle.device.specs.declared.Deadline.{Deadline}
-use Rattle.device.specs.declared.Deadline.TheVariants.{Never, At}
 use Rattle.device.specs.Parts.{with_until}
 use Rattle.moment.specs.Moments.{after_ns, has_come, lowered, quiet_at, busy_for}
 
-module _ (bus : Bus) (until : Deadline) (moment : ℕ) (come : Bool) (tells : come ≡ has_come until moment) where
-  pub falls : (r : Bus) → come ≡ true → r ≡ with_until bus Never → r ≡ lowered until bus moment
+module _ (bus : Bus) (until : Option ℕ) (moment : ℕ) (come : Bool) (tells : come ≡ has_come until moment) where
+  pub falls : (r : Bus) → come ≡ true → r ≡ with_until bus None → r ≡ lowered until bus moment
   falls r h e = rw (← tells, h) e
 
   pub stays : come ≡ false → bus ≡ lowered until bus moment
   stays h = rw (← tells, h)
 
-pub quiet_or_not : (running : Bool) (ends : ℕ) (until : Deadline) (moment : ℕ) (come : Bool) → come ≡ has_come until moment
+pub quiet_or_not : (running : Bool) (ends : ℕ) (until : Option ℕ) (moment : ℕ) (come : Bool) → come ≡ has_come until moment
     → (not (running && leb ends moment) && not come) ≡ quiet_at running ends until moment
 quiet_or_not running ends until moment come tells = rw tells
 
 module _ (bus : Bus) (frequency moment ns : ℕ) where
-  pub rises : (r : Bus) (until : ℕ) → 0 < ns → until ≡ after_ns frequency moment ns → r ≡ with_until bus (At until) → r ≡ busy_for bus frequency moment ns
+  pub rises : (r : Bus) (until : ℕ) → 0 < ns → until ≡ after_ns frequency moment ns → r ≡ with_until bus (Some until) → r ≡ busy_for bus frequency moment ns
   unfolding busy_for
   rises r until h e f = rw (lt-ltb 0 ns h, ← e) f
 
@@ -30,5 +29,5 @@ module _ (bus : Bus) (frequency moment ns : ℕ) where
   unfolding busy_for
   rises_not h = rw (le-ltb 0 ns h)
 
-pub comes : (u : Deadline) (moment until : ℕ) → u ≡ At until → leb until moment ≡ has_come u moment
+pub comes : (u : Option ℕ) (moment until : ℕ) → u ≡ Some until → leb until moment ≡ has_come u moment
 comes u moment until is = rw is

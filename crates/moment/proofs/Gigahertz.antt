@@ -1,5 +1,6 @@
 -- At 1,000,000,000 cycles a second a cycle is a nanosecond, and moments, spans and BUSY are what they were before there was a frequency
 -- (#101). Assumes nothing.
+use Rattle.std.specs.Prelude.{Some}
 use mathlib.Core.Path.{◌≡◌}
 use Prim.Native.Nat.{ℕ, ◌+◌, ◌-◌, ◌≤◌, min}
 use native.Mathlib.Omega.{arith}
@@ -9,7 +10,6 @@ use Rattle.numbers.specs.Saturation.{largest}
 use Rattle.frequency_laws.proofs.Rounded.{cycles_is}
 use Rattle.frequency_laws.proofs.Again.{nanos_same}
 use Rattle.device.specs.declared.Bus.{Bus}
-use Rattle.device.specs.declared.Deadline.TheVariants.{At}
 use Rattle.device.specs.Parts.{with_until}
 use Rattle.moment.specs.Moments.{after_ns, ns_between, busy_for}
 
@@ -22,6 +22,6 @@ unfolding ns_between
 between_same from to h = nanos_same (to - from) (omega arith)
 
 pub busy_same : (bus : Bus) (moment ns : ℕ)
-    → busy_for bus 1000000000 moment ns ≡ pick (ltb 0 ns) (with_until bus (At (min (moment + ns) (largest 64)))) bus
+    → busy_for bus 1000000000 moment ns ≡ pick (ltb 0 ns) (with_until bus (Some (min (moment + ns) (largest 64)))) bus
 unfolding busy_for
 busy_same bus moment ns = rw (after_same moment ns)

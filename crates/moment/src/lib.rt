@@ -5,29 +5,29 @@
 ghost use Rattle.std.specs.Prelude.{◌≡◌};
 ghost use Rattle.moment.specs.Moments.{after_ns, ns_between, has_come, lowered, quiet_at, busy_for};
 
-use device::{Bus, Deadline, part};
+use device::{Bus, part};
 
 // `ns` nanoseconds after a moment.
 pub fn after(frequency: u32, moment: u64, ns: u64) -> u64
     ensures { result ≡ after_ns frequency moment ns }
 {
-    numbers::saturating_add_u64(moment, frequency::nanos_to_cycles(frequency, ns))
+    moment.saturating_add(frequency::nanos_to_cycles(frequency, ns))
 }
 
 // Nanoseconds from one moment to another, 0 when that is earlier.
 pub fn ns_between(frequency: u32, from: u64, to: u64) -> u64
     ensures { result ≡ ns_between frequency from to }
 {
-    frequency::cycles_to_nanos(frequency, numbers::saturating_sub_u64(to, from))
+    frequency::cycles_to_nanos(frequency, to.saturating_sub(from))
 }
 
 // Whether the end of BUSY has come; there may be none.
-fn has_come(busy_until: Deadline, moment: u64) -> bool
+fn has_come(busy_until: Option<u64>, moment: u64) -> bool
     ensures { result ≡ has_come busy_until moment }
 {
     match busy_until {
-        Deadline::Never => false,
-        Deadline::At(until) => until <= moment,
+        None => false,
+        Some(until) => until <= moment,
     }
 }
 
@@ -37,13 +37,13 @@ pub fn lower_busy(bus: Bus, moment: u64) -> Bus
 {
     let busy_until = bus.busy_until;
     if has_come(busy_until, moment) {
-        return part::set_until(bus, Deadline::Never);
+        return part::set_until(bus, None);
     }
     bus
 }
 
 // Whether at a moment a display, if one runs, does not end, and BUSY does not fall.
-pub fn is_quiet(running: bool, ends: u64, busy_until: Deadline, moment: u64) -> bool
+pub fn is_quiet(running: bool, ends: u64, busy_until: Option<u64>, moment: u64) -> bool
     ensures { result ≡ quiet_at running ends busy_until moment }
 {
     let over = running & (ends <= moment);
@@ -57,7 +57,7 @@ pub fn busy_for(bus: Bus, frequency: u32, moment: u64, ns: u64) -> Bus
 {
     if 0 < ns {
         let until = after(frequency, moment, ns);
-        return part::set_until(bus, Deadline::At(until));
+        return part::set_until(bus, Some(until));
     }
     bus
 }

@@ -1,4 +1,5 @@
 -- What `found_entry` finds: the last covering entry of the mode, by the low twelve bits of the register, and at −2048 an entry that begins there. Assumes nothing.
+use Rattle.std.specs.Prelude.{Option, Some, None}
 use mathlib.Core.Path.{◌≡◌, refl, sym, ap, ◌∙◌}
 use mathlib.Core.Bool.{Bool, true, false, ◌&&◌, ◌||◌, not}
 use mathlib.Core.List.{List}
@@ -15,8 +16,6 @@ use Rattle.config.specs.declared.DisplayMode.{DisplayMode}
 use Rattle.config.specs.Mode.{mode_number}
 use Rattle.config.specs.Temperature.{sixteenths_of}
 use Rattle.config.proofs.Registers.{ranged, low_bits, above_coldest}
-use Rattle.otp.specs.declared.FoundEntry.{FoundEntry}
-use Rattle.otp.specs.declared.FoundEntry.TheVariants.{At, Nothing}
 use Rattle.otp.specs.Table.{entry_bytes, most_entries, entry_count, mode_at, lower_at, upper_at, bad_entry, bad_table}
 use Rattle.otp.specs.Search.{any_of, last_of, Last}
 use Rattle.otp.specs.Waveform.{is_coldest, covers, found_entry}
@@ -33,28 +32,28 @@ or_false false = refl
 
 module _ (otp : List ℕ) (mode : DisplayMode) (register : ℕ) where
   -- the entry found covers the temperature, and no later one does
-  pub found_is : (entry : ℕ) → found_entry otp mode register ≡ At entry → Last (covers otp mode register) (entry_count otp) entry
+  pub found_is : (entry : ℕ) → found_entry otp mode register ≡ Some entry → Last (covers otp mode register) (entry_count otp) entry
   unfolding found_entry
   found_is entry e = by (bad_table otp) e
     where
-      by : (t : Bool) → pick t Nothing (last_of (covers otp mode register) (entry_count otp)) ≡ At entry → Last (covers otp mode register) (entry_count otp) entry
+      by : (t : Bool) → pick t None (last_of (covers otp mode register) (entry_count otp)) ≡ Some entry → Last (covers otp mode register) (entry_count otp) entry
       by true f = absurd (let z : ◌≡◌ {A = ℕ} 0 1 = cc in omega arith)
       by false f = last_is (covers otp mode register) (entry_count otp) entry f
 
   -- and its number lies below 64, the most entries of a table that 12 lets pass
-  pub found_few : (entry : ℕ) → found_entry otp mode register ≡ At entry → entry < most_entries
+  pub found_few : (entry : ℕ) → found_entry otp mode register ≡ Some entry → entry < most_entries
   unfolding found_entry bad_table
   found_few entry e = by (not (eqb (length otp % entry_bytes) 0)) (ltb most_entries (entry_count otp)) refl e (found_is entry e).within
     where
       by : (a b : Bool) → ltb most_entries (entry_count otp) ≡ b
-          → pick (a || b || any_of (bad_entry otp) (entry_count otp)) Nothing (last_of (covers otp mode register) (entry_count otp)) ≡ At entry
+          → pick (a || b || any_of (bad_entry otp) (entry_count otp)) None (last_of (covers otp mode register) (entry_count otp)) ≡ Some entry
           → entry < entry_count otp → entry < most_entries
       by true b h f l = absurd (let z : ◌≡◌ {A = ℕ} 0 1 = cc in omega arith)
       by false true h f l = absurd (let z : ◌≡◌ {A = ℕ} 0 1 = cc in omega arith)
       by false false h f l = let few = ltb-false most_entries (entry_count otp) h in omega arith
 
   -- where none is found in a table that 12 lets pass, none covers the temperature
-  pub none_found : bad_table otp ≡ false → found_entry otp mode register ≡ Nothing → (entry : ℕ) → entry < entry_count otp → covers otp mode register entry ≡ false
+  pub none_found : bad_table otp ≡ false → found_entry otp mode register ≡ None → (entry : ℕ) → entry < entry_count otp → covers otp mode register entry ≡ false
   unfolding found_entry
   none_found h e = none_is (covers otp mode register) (entry_count otp) (rw h at e)
 
@@ -66,7 +65,7 @@ module _ (otp : List ℕ) (mode : DisplayMode) (register : ℕ) where
   pub found_low_bits : found_entry otp mode (register % 4096) ≡ found_entry otp mode register
   unfolding found_entry
   found_low_bits =
-      ap (λ (e : FoundEntry). pick (bad_table otp) Nothing e)
+      ap (λ (e : Option ℕ). pick (bad_table otp) None e)
       (last_same (covers otp mode (register % 4096)) (covers otp mode register) covers_low_bits (entry_count otp))
 
   -- the Rust's rule: the entry is of the mode, and lower < T ≤ upper
@@ -129,19 +128,19 @@ module _ (otp : List ℕ) (mode : DisplayMode) (register : ℕ) where
   -- at every other temperature the entry found is the one that the Rust finds
   pub found_elsewhere : is_coldest register ≡ false
       → found_entry otp mode register
-      ≡ pick (bad_table otp) Nothing (last_of coversStrictly (entry_count otp))
+      ≡ pick (bad_table otp) None (last_of coversStrictly (entry_count otp))
   unfolding found_entry
   found_elsewhere h =
-      ap (λ (e : FoundEntry). pick (bad_table otp) Nothing e)
+      ap (λ (e : Option ℕ). pick (bad_table otp) None e)
       (last_same (covers otp mode register) coversStrictly (λ entry. elsewhere_same entry h) (entry_count otp))
 
   -- at −2048 it is the last of the mode that begins there; 35 comes where there is none
   pub found_coldest : is_coldest register ≡ true
       → found_entry otp mode register
-      ≡ pick (bad_table otp) Nothing
+      ≡ pick (bad_table otp) None
       (last_of (λ entry. eqb (mode_at otp entry) (mode_number mode) && is_coldest (lower_at otp entry)) (entry_count otp))
   unfolding found_entry
   found_coldest h =
-      ap (λ (e : FoundEntry). pick (bad_table otp) Nothing e)
+      ap (λ (e : Option ℕ). pick (bad_table otp) None e)
       (last_same (covers otp mode register) (λ entry. eqb (mode_at otp entry) (mode_number mode) && is_coldest (lower_at otp entry))
       (λ entry. coldest_covered entry h) (entry_count otp))

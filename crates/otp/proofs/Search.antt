@@ -1,4 +1,5 @@
 -- What a search over the entries knows at each turn, and what it finds. Assumes nothing.
+use Rattle.std.specs.Prelude.{Some, None}
 use mathlib.Core.Path.{◌≡◌, refl, sym, ap, ◌∙◌}
 use mathlib.Core.Logic.{⊎_elim}
 use mathlib.Core.Bool.{Bool, true, false, ◌||◌}
@@ -7,7 +8,6 @@ use native.Mathlib.Numerals.{add-one}
 use native.Mathlib.Nat.{not-suc-le-zero, le_of_suc-le-suc, eq-or-lt_of_le}
 use native.Mathlib.Omega.{arith}
 use Rattle.numbers.specs.Choice.{pick}
-use Rattle.otp.specs.declared.FoundEntry.TheVariants.{At, Nothing}
 use Rattle.otp.specs.Search.{any_of, last_of, Last}
 
 module _ (p : ℕ → Bool) where
@@ -19,23 +19,23 @@ module _ (p : ℕ → Bool) where
   unfolding any_of
   any_more k f g e h = rw (e, h) (ap (any_of p) (sym (add-one k)))
 
-  pub last_none : last_of p 0 ≡ Nothing
+  pub last_none : last_of p 0 ≡ None
   unfolding last_of
   last_none = refl
 
-  last_more : (k : ℕ) → last_of p (k + 1) ≡ pick (p k) (At k) (last_of p k)
+  last_more : (k : ℕ) → last_of p (k + 1) ≡ pick (p k) (Some k) (last_of p k)
   unfolding last_of
   last_more k = ap (last_of p) (add-one k)
 
   -- the last of the first k passes, or is passed over
-  pub last_hit : (k : ℕ) → 0 < k → p (k - 1) ≡ true → last_of p k ≡ At (k - 1)
+  pub last_hit : (k : ℕ) → 0 < k → p (k - 1) ≡ true → last_of p k ≡ Some (k - 1)
   last_hit k l h = let e : k ≡ k - 1 + 1 = omega arith in ap (last_of p) e ∙ last_more (k - 1) ∙ rw h
 
   pub last_pass : (k : ℕ) → 0 < k → p (k - 1) ≡ false → last_of p k ≡ last_of p (k - 1)
   last_pass k l h = let e : k ≡ k - 1 + 1 = omega arith in ap (last_of p) e ∙ last_more (k - 1) ∙ rw h
 
 module _ (p : ℕ → Bool) where
-  here : (n k : ℕ) → p n ≡ true → At n ≡ At k → Last p (suc n) k
+  here : (n k : ℕ) → p n ≡ true → Some n ≡ Some k → Last p (suc n) k
   here n k h e =
       let q : n ≡ k = cc in
       record {
@@ -52,24 +52,24 @@ module _ (p : ℕ → Bool) where
         later = λ j a b. ⊎_elim (λ (e : j ≡ n). ap p e ∙ h) (λ (d : j < n). l.later j a d) (eq-or-lt_of_le (le_of_suc-le-suc b));
       }
 
-  never : {A : Type 0} (k : ℕ) → Nothing ≡ At k → A
+  never : {A : Type 0} (k : ℕ) → None ≡ Some k → A
   never k e = absurd (let z : ◌≡◌ {A = ℕ} 0 1 = cc in omega arith)
 
-  pub last_is : (n k : ℕ) → last_of p n ≡ At k → Last p n k
+  pub last_is : (n k : ℕ) → last_of p n ≡ Some k → Last p n k
   unfolding last_of
   last_is zero k e = never k e
   last_is (suc n) k e = by (p n) refl e (last_is n k)
     where
-      by : (t : Bool) → p n ≡ t → pick t (At n) (last_of p n) ≡ At k → (last_of p n ≡ At k → Last p n k) → Last p (suc n) k
+      by : (t : Bool) → p n ≡ t → pick t (Some n) (last_of p n) ≡ Some k → (last_of p n ≡ Some k → Last p n k) → Last p (suc n) k
       by true h f more = here n k h f
       by false h f more = before n k h (more f)
 
-  pub none_is : (n : ℕ) → last_of p n ≡ Nothing → (j : ℕ) → j < n → p j ≡ false
+  pub none_is : (n : ℕ) → last_of p n ≡ None → (j : ℕ) → j < n → p j ≡ false
   unfolding last_of
   none_is zero e j l = absurd (not-suc-le-zero l)
   none_is (suc n) e j l = by (p n) refl e (none_is n)
     where
-      by : (t : Bool) → p n ≡ t → pick t (At n) (last_of p n) ≡ Nothing → (last_of p n ≡ Nothing → (i : ℕ) → i < n → p i ≡ false) → p j ≡ false
+      by : (t : Bool) → p n ≡ t → pick t (Some n) (last_of p n) ≡ None → (last_of p n ≡ None → (i : ℕ) → i < n → p i ≡ false) → p j ≡ false
       by true h f more = never n (sym f)
       by false h f more = ⊎_elim (λ (q : j ≡ n). ap p q ∙ h) (λ (d : j < n). more f j d) (eq-or-lt_of_le (le_of_suc-le-suc l))
 

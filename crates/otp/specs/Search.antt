@@ -1,8 +1,6 @@
 -- Searches over the numbers of the entries (config.rs, `find_waveform`; datasheet §6.9).
-use Rattle.std.specs.Prelude.{◌≡◌, Bool, true, false, ◌||◌, ℕ, zero, suc, ◌<◌}
+use Rattle.std.specs.Prelude.{◌≡◌, Bool, true, false, ◌||◌, ℕ, zero, suc, ◌<◌, Option, Some, None}
 use Rattle.numbers.specs.Choice.{pick}
-use Rattle.otp.specs.declared.FoundEntry.{FoundEntry}
-use Rattle.otp.specs.declared.FoundEntry.TheVariants.{At, Nothing}
 
 -- one of the numbers below n passes p
 unfoldable pub any_of : (ℕ → Bool) → ℕ → Bool
@@ -10,9 +8,9 @@ any_of p zero = false
 any_of p (suc k) = any_of p k || p k
 
 -- the last of the numbers below n that passes p
-unfoldable pub last_of : (ℕ → Bool) → ℕ → FoundEntry
-last_of p zero = Nothing
-last_of p (suc k) = pick (p k) (At k) (last_of p k)
+unfoldable pub last_of : (ℕ → Bool) → ℕ → Option ℕ
+last_of p zero = None
+last_of p (suc k) = pick (p k) (Some k) (last_of p k)
 
 -- what it is for k to be the last number below n that passes p: it passes, and no later one does
 pub record Last (p : ℕ → Bool) (n k : ℕ) : Type 0 where

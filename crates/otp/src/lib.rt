@@ -38,12 +38,10 @@ fn any_bad_entry(otp: &[u8]) -> bool
     ensures { result ≡ any_of (bad_entry otp.now) (entry_count otp.now) }
 {
     let entries = otp.len() / ENTRY_BYTES;
-    let mut entry: usize = 0;
     let mut bad = false;
-    while entry < entries {
+    for entry in 0..entries {
         let one = bad_entry(otp, entry);
         bad = bad | one;
-        entry += 1;
     }
     bad
 }
@@ -59,20 +57,13 @@ pub fn is_bad_table(otp: &[u8]) -> bool
     any_bad_entry(otp)
 }
 
-pub fn table_error(otp: &[u8]) -> ConfigError
+pub fn check_table(otp: &[u8]) -> Result<(), ConfigError>
     ensures { answer_of result ≡ first_of (table_test otp.now ∷ []) }
 {
     if is_bad_table(otp) {
-        return ConfigError::BadTable;
+        return Err(ConfigError::BadTable);
     }
-    ConfigError::Accepted
-}
-
-// The number of an entry.
-#[derive(Clone, Copy)]
-pub enum FoundEntry {
-    At(usize),
-    Nothing,
+    Ok(())
 }
 
 fn sixteenths_of(register: u16) -> i16
@@ -104,33 +95,31 @@ fn covers_register(otp: &[u8], mode: DisplayMode, register: u16, entry: usize) -
     ensures { result ≡ covers otp.now mode register entry }
 {
     let at = ENTRY_BYTES * entry;
-    let byte = config::mode_number(mode);
+    let byte = mode as u8;
     let reached = reaches_down(pair(otp, at + 2), register);
     let upper = sixteenths_of(pair(otp, at + 4));
     let temperature = sixteenths_of(register);
     (otp[at] == byte) & reached & (temperature <= upper)
 }
 
-fn last_covering(otp: &[u8], mode: DisplayMode, register: u16) -> FoundEntry
+fn last_covering(otp: &[u8], mode: DisplayMode, register: u16) -> Option<usize>
     ensures { result ≡ last_of (covers otp.now mode register) (entry_count otp.now) }
 {
-    let mut entry = otp.len() / ENTRY_BYTES;
-    while 0 < entry {
-        entry -= 1;
+    for entry in (0..otp.len() / ENTRY_BYTES).rev() {
         if covers_register(otp, mode, register, entry) {
-            return FoundEntry::At(entry);
+            return Some(entry);
         }
     }
-    FoundEntry::Nothing
+    None
 }
 
 // The waveform the controller loads for the mode at the temperature: the last setting of that mode whose range holds it ("The last match
 // will be selected", datasheet §6.9).
-fn find_entry(otp: &[u8], mode: DisplayMode, register: u16) -> FoundEntry
+fn find_entry(otp: &[u8], mode: DisplayMode, register: u16) -> Option<usize>
     ensures { result ≡ found_entry otp.now mode register }
 {
     if is_bad_table(otp) {
-        return FoundEntry::Nothing;
+        return None;
     }
     last_covering(otp, mode, register)
 }
@@ -147,7 +136,7 @@ pub fn find_waveform<'a>(
 ) -> &'a [u8]
     ensures { (result.now ≡ part_of otp.now (found_entry otp.now mode register)) × (place.new ≡ place_of (found_entry otp.now mode register)) }
 {
-    let FoundEntry::At(entry) = find_entry(otp, mode, register) else {
+    let Some(entry) = find_entry(otp, mode, register) else {
         *place = NO_PLACE;
         return &otp[0..0];
     };

@@ -1,18 +1,14 @@
 -- What the end of a display, whole or cut, leaves of the glass (panel.rs, `Panel::finish`).
-use Rattle.std.specs.Prelude.{◌≡◌, Bool, true, false, List, ℕ, ◌+◌, ◌^◌, ◌<◌, min, ℤ, pos, ◌≤ℤ◌, length, get_or}
+use Rattle.std.specs.Prelude.{◌≡◌, Bool, true, false, List, ℕ, ◌+◌, ◌^◌, ◌<◌, min, ℤ, pos, ◌≤ℤ◌, length, get_or, Option, Some, None}
 use Rattle.numbers.specs.Saturation.{largest}
 use Rattle.glass.specs.declared.Transfer.{Transfer}
 use Rattle.glass.specs.Greys.{gray_z}
 use Rattle.glass.specs.Transfers.{apply_t}
 use Rattle.waveform.specs.declared.Drive.{Drive}
 use Rattle.waveform.specs.declared.Drive.TheVariants.{Lut}
-use Rattle.waveform.specs.declared.Until.{Until}
-use Rattle.waveform.specs.declared.Until.TheVariants.{Whole, Cut}
 use Rattle.waveform.specs.Setting.{waveform_of}
 use Rattle.waveform.specs.Walks.{transfer_of}
 use Rattle.counts.specs.Counts.{counts_of, Picture, picture}
-use Rattle.panel.specs.declared.Border.{Border}
-use Rattle.panel.specs.declared.Border.TheVariants.{Driven, Left}
 use Rattle.panel.specs.declared.Display.{Display}
 use Rattle.panel.specs.declared.Panel.{Panel}
 use Rattle.panel.specs.Border.{border_drive}
@@ -34,10 +30,10 @@ pub record Ending : Type 0 where
   pub black : Bool
   pub periods : List ℕ
   pub at : ℕ
-  pub until : Until
+  pub until : Option ℕ
 
 -- the five as one
-abbrev pub ending : Display → Bool → List ℕ → ℕ → Until → Ending
+abbrev pub ending : Display → Bool → List ℕ → ℕ → Option ℕ → Ending
 ending d black periods at until = record { display = d; black = black; periods = periods; at = at; until = until }
 
 -- what the callers of `finish` have: buffers of one length, so few that 32 bits count them, 256 counts, a swing from 1 on, and frames that last
@@ -50,7 +46,7 @@ pub record Finishable (periods : List ℕ) (swing : ℤ) (states : List ℤ) (lu
   pub lasting : (code : ℕ) → code < 16 → 0 < get_or periods code 0
 
 -- the transfer of a setting's display, whole or up to the cut
-abbrev pub setting_transfer : List ℕ → List ℕ → Drive → ℤ → Bool → Until → Transfer
+abbrev pub setting_transfer : List ℕ → List ℕ → Drive → ℤ → Bool → Option ℕ → Transfer
 setting_transfer s p = transfer_of (waveform_of s p)
 
 -- that of the 112 bytes which the running refresh kept
@@ -58,17 +54,17 @@ unfoldable pub transfer_by : Ending → ℤ → Drive → Transfer
 transfer_by e swing drive = setting_transfer e.display.setting e.periods drive swing e.black e.until
 
 -- the border's state, by what drives it
-abbrev pub border_by : (Drive → Transfer) → Border → ℤ → ℤ
-border_by transfer (Driven drive) state = apply_t (transfer drive) state
-border_by transfer Left state = state
+abbrev pub border_by : (Drive → Transfer) → Option Drive → ℤ → ℤ
+border_by transfer (Some drive) state = apply_t (transfer drive) state
+border_by transfer None state = state
 
 -- a display that a reset cut short
-abbrev pub was_cut : Until → Bool
-was_cut Whole = false
-was_cut (Cut until) = true
+abbrev pub was_cut : Option ℕ → Bool
+was_cut None = false
+was_cut (Some until) = true
 
 -- the header of the image published: one generation more, stopping at 2^64 − 1 (SCOPE, Time)
-unfoldable pub published : Display → ℕ → Until → Panel → Panel
+unfoldable pub published : Display → ℕ → Option ℕ → Panel → Panel
 published d at until p =
     record {
       swing = p.swing;

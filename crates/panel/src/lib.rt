@@ -34,21 +34,13 @@ pub struct Panel {
     pub image: PanelImage,
 }
 
-// What the border register has the border do during a display.
-#[derive(Clone, Copy)]
-pub enum Border {
-    Driven(Drive),
-    // VCOM and HiZ leave it as it is.
-    Left,
-}
-
 // What drives the border during the display (0x3C): a LUT, a fixed level, or nothing.
-pub fn border_drive(border: u8) -> Border
+pub fn border_drive(border: u8) -> Option<Drive>
     ensures { result ≡ border_drive border }
 {
     match border >> 6 {
-        0 => Border::Driven(Drive::Lut(border as usize & 3)),
-        1 => Border::Driven(Drive::Fixed((border >> 4) & 3)),
-        _ => Border::Left,
+        0 => Some(Drive::Lut(border as usize & 3)),
+        1 => Some(Drive::Fixed((border >> 4) & 3)),
+        _ => None,
     }
 }

@@ -1,6 +1,7 @@
 -- The theorems of a display's end, by pixel: a driven state from 0 to S moves by the exact drives of its LUT, added in order and each sum
 -- held, so it stays from 0 to S and two states of one LUT keep their order; an undriven state stays; every pixel shows the grey of
 -- its state. A cut is one of at most 2^64 − 2 ns. Assumes nothing.
+use Rattle.std.specs.Prelude.{Option, Some, None}
 use mathlib.Core.Path.{◌≡◌, refl, ap, ◌∙◌}
 use mathlib.Core.Bool.{Bool, true, false}
 use mathlib.Core.List.{List}
@@ -21,8 +22,6 @@ use Rattle.glass.specs.Transfers.{apply_t}
 use Rattle.glass.proofs.Exactly.{drives_le, drives_mono}
 use Rattle.waveform.specs.declared.Drive.{Drive}
 use Rattle.waveform.specs.declared.Drive.TheVariants.{Lut}
-use Rattle.waveform.specs.declared.Until.{Until}
-use Rattle.waveform.specs.declared.Until.TheVariants.{Whole, Cut}
 use Rattle.waveform.specs.Exact.{setting_phases}
 use Rattle.waveform.specs.Walks.{whole_transfer, cut_transfer}
 use Rattle.waveform_laws.proofs.Exactly.{whole_exact, cut_exact}
@@ -42,11 +41,11 @@ module _ (e : Ending) (S : ℕ) (some : 1 ≤ S) (room : S ≤ 92233720368547758
   unfolding transfer_by whole_transfer cut_transfer
   drive_exactly drive x h = by e.until below
     where
-      by : (until : Until) → CutBelowLargest until
+      by : (until : Option ℕ) → CutBelowLargest until
           → apply_t (setting_transfer e.display.setting e.periods drive (pos S) e.black until) (pos x)
           ≡ pos (drives S (drives_until e.black until (setting_phases e.display.setting e.periods drive)) x)
-      by Whole t = whole_exact S some room e.display.setting e.periods drive e.black x h
-      by (Cut until) t = cut_exact S some room e.display.setting e.periods drive e.black until x t h
+      by None t = whole_exact S some room e.display.setting e.periods drive e.black x h
+      by (Some until) t = cut_exact S some room e.display.setting e.periods drive e.black until x t h
 
   pub driven : (lut x : ℕ) → lut < 4 → x ≤ S → state_by (by_lut e (pos S)) lut (pos x) ≡ pos (drives S (exact_drives e (Lut lut)) x)
   unfolding state_by

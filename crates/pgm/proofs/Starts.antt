@@ -1,14 +1,13 @@
 -- A file that starts with a text, and the text looked at byte by byte. Assumes nothing.
-use mathlib.Core.Path.{◌≡◌, refl, sym, ap, ◌∙◌}
+use mathlib.Core.Path.{◌≡◌, refl, sym, ap}
 use mathlib.Core.Bool.{Bool, true, false, ◌&&◌}
 use mathlib.Core.List.{List, [], ◌∷◌, ◌++◌}
-use Prim.Native.Nat.{ℕ, ◌+◌, ◌<◌, ◌≤◌}
-use native.Mathlib.Numerals.{add-one}
+use Prim.Native.Nat.{ℕ, ◌≤◌}
 use native.Mathlib.Omega.{arith}
 use lib.Dec.{eqb}
-use lib.ListN.{length, drop, get_or, length-append, drop_of_length-le}
-use lib.Seq.{drop-cons}
-use borrow.Author.Tests.{eqb-true, eq-eqb, ne_eqb}
+use lib.ListN.{length, take, drop, length-append}
+use lib.Pointwise.{pointwise}
+use borrow.Author.Tests.{eqb-true, eq-eqb}
 use Rattle.numbers.proofs.Cases.{left, right}
 use Rattle.pgm.specs.Form.{in_range, pgm_header, starts_with, is_header_of}
 
@@ -28,27 +27,12 @@ starts_is (c ∷ p) [] e = absurd (never e)
 starts_is (c ∷ p) (d ∷ f) e =
     λ i. sym (eqb-true c d (left (eqb c d) (starts_with p f) e)) i ∷ starts_is p f (right (eqb c d) (starts_with p f) e) i
 
--- ---- byte by byte
-module _ (p f : List ℕ) (i : ℕ) (h : i < length p) where
-  byte : i < length f → starts_with (drop i p) (drop i f) ≡ eqb (get_or p i 0) (get_or f i 0) && starts_with (drop (i + 1) p) (drop (i + 1) f)
-  unfolding starts_with
-  byte k =
-      (λ j. starts_with (drop-cons p i 0 h j) (drop-cons f i 0 k j))
-      ∙ ap (λ (n : ℕ). eqb (get_or p i 0) (get_or f i 0) && starts_with (drop n p) (drop n f)) (sym (add-one i))
-
-  pub byte_same : i < length f → get_or p i 0 ≡ get_or f i 0 → starts_with (drop i p) (drop i f) ≡ starts_with (drop (i + 1) p) (drop (i + 1) f)
-  byte_same k e = byte k ∙ ap (λ (b : Bool). b && starts_with (drop (i + 1) p) (drop (i + 1) f)) (eq-eqb (get_or p i 0) (get_or f i 0) e)
-
-  pub byte_other : i < length f → (get_or p i 0 ≡ get_or f i 0 → ⊥) → starts_with (drop i p) (drop i f) ≡ false
-  byte_other k e = byte k ∙ ap (λ (b : Bool). b && starts_with (drop (i + 1) p) (drop (i + 1) f)) (ne_eqb (get_or p i 0) (get_or f i 0) e)
-
-  pub byte_missing : length f ≤ i → starts_with (drop i p) (drop i f) ≡ false
-  unfolding starts_with
-  byte_missing k = λ j. starts_with (drop-cons p i 0 h j) (drop_of_length-le f k j)
-
-pub starts_all : (p f : List ℕ) (i : ℕ) → length p ≤ i → starts_with (drop i p) (drop i f) ≡ true
+-- the text, compared with as much of the file
+pub starts_pointwise : (p f : List ℕ) → pointwise eqb p (take (length p) f) ≡ starts_with p f
 unfolding starts_with
-starts_all p f i h = ap (λ (l : List ℕ). starts_with l (drop i f)) (drop_of_length-le p h)
+starts_pointwise [] f = refl
+starts_pointwise (c ∷ p) [] = refl
+starts_pointwise (c ∷ p) (d ∷ f) = ap (λ (b : Bool). eqb c d && b) (starts_pointwise p f)
 
 -- ---- a header found
 module _ (w h : ℕ) (f : List ℕ) (is : is_header_of w h f ≡ true) where

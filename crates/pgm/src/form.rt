@@ -74,17 +74,7 @@ pub(crate) fn size_in(file: &[u8]) -> Size
 fn starts_with(file: &[u8], front: &[u8]) -> bool
     ensures { result ≡ starts_with front.now file.now }
 {
-    let mut i: usize = 0;
-    while i < front.len() {
-        if file.len() <= i {
-            return false;
-        }
-        if front[i] != file[i] {
-            return false;
-        }
-        i += 1;
-    }
-    true
+    file.starts_with(front)
 }
 
 // Whether the file starts with the header of a size in range.

@@ -8,7 +8,6 @@ use std::io;
 
 fn digit(error: PgmError) -> u8 {
     match error {
-        PgmError::Accepted => b'0',
         PgmError::Form => b'1',
         PgmError::Count => b'2',
         PgmError::Room => b'3',
@@ -18,9 +17,10 @@ fn digit(error: PgmError) -> u8 {
 // Read into a buffer with room for six pixels and one more.
 fn answer(file: &[u8]) -> u8 {
     let mut pixels = [0u8; 7];
-    let picture = pgm::read(file, &mut pixels);
-    let error = picture.error;
-    digit(error)
+    match pgm::read(file, &mut pixels) {
+        Ok(_) => b'0',
+        Err(error) => digit(error),
+    }
 }
 
 fn put_changed(rt: &impl Print, file: &mut [u8], place: usize) -> io::Result<()>
@@ -61,16 +61,11 @@ fn put_line(rt: &impl Print, first: u64, second: u64, third: u64, buffer: &[u8])
 fn put_read(rt: &impl Print, file: &[u8], buffer: &mut [u8], room: usize) -> io::Result<()>
     requires { room ≤ length buffer.old }
 {
-    let picture = pgm::read(file, &mut buffer[..room]);
-    let error = picture.error;
-    let number = pgm::number(error) as u64;
-    put_line(
-        rt,
-        number,
-        picture.width as u64,
-        picture.height as u64,
-        buffer,
-    )
+    let (number, width, height) = match pgm::read(file, &mut buffer[..room]) {
+        Ok(size) => (0, size.width, size.height),
+        Err(error) => (pgm::number(error), 0, 0),
+    };
+    put_line(rt, number as u64, width as u64, height as u64, buffer)
 }
 
 // Buffers of 0 to 7 bytes for a picture of six.
@@ -80,6 +75,14 @@ pub fn put_rooms(rt: &impl Print, file: &[u8]) -> io::Result<()> {
         put_read(rt, file, &mut pixels, room)?;
     }
     Ok(())
+}
+
+// The number of a refusal, 0 for none, and the length.
+fn told(written: Result<usize, PgmError>) -> (u64, u64) {
+    match written {
+        Ok(length) => (0, length as u64),
+        Err(error) => (pgm::number(error) as u64, 0),
+    }
 }
 
 // Two rows of so many pixels written into the front of a buffer: the number, the length, and the hash of the whole buffer.
@@ -92,20 +95,16 @@ fn put_write(
 ) -> io::Result<()>
     requires { room ≤ length buffer.old }
 {
-    let written = pgm::write(width, 2, pixels, &mut buffer[..room]);
-    let error = written.error;
-    let number = pgm::number(error) as u64;
-    put_line(rt, number, 0, written.length as u64, buffer)
+    let (number, length) = told(pgm::write(width, 2, pixels, &mut buffer[..room]));
+    put_line(rt, number, 0, length, buffer)
 }
 
 // Their header alone.
 fn put_header(rt: &impl Print, width: u16, buffer: &mut [u8], room: usize) -> io::Result<()>
     requires { room ≤ length buffer.old }
 {
-    let written = pgm::write_header(width, 2, &mut buffer[..room]);
-    let error = written.error;
-    let number = pgm::number(error) as u64;
-    put_line(rt, number, 1, written.length as u64, buffer)
+    let (number, length) = told(pgm::write_header(width, 2, &mut buffer[..room]));
+    put_line(rt, number, 1, length, buffer)
 }
 
 // Buffers of 0 to 18 bytes for a file of 17.

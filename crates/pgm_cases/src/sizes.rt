@@ -51,13 +51,9 @@ fn is_read(width: u16, height: u16) -> u64
     let mut text = [0u8; 17];
     let end = put_header(&mut text, width, height);
     let mut pixels = [0u8; 1];
-    let picture = pgm::read(&text[..end], &mut pixels);
-    let error = picture.error;
-    match error {
-        PgmError::Count => 1,
-        PgmError::Accepted => 0,
-        PgmError::Form => 0,
-        PgmError::Room => 0,
+    match pgm::read(&text[..end], &mut pixels) {
+        Err(PgmError::Count) => 1,
+        _ => 0,
     }
 }
 
@@ -69,15 +65,13 @@ fn try_height(headers: &mut [u8], at: usize, width: u16, height: u16) -> Tried
 {
     let read = is_read(width, height);
     let mut header = [0u8; pgm::HEADER_BYTES];
-    let made = pgm::write_header(width, height, &mut header);
-    let length = made.length;
-    if length == 0 {
+    let Ok(length) = pgm::write_header(width, height, &mut header) else {
         return Tried {
             end: at,
             written: 0,
             read,
         };
-    }
+    };
     let end = at + byte_copy::copy(&header[..length], &mut headers[at..]);
     Tried {
         end,

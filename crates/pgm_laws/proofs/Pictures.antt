@@ -1,6 +1,7 @@
 -- A written file, read, gives the picture, and each accepted file is the one written for its picture. Assumes nothing.
+use Rattle.std.specs.Prelude.{Result, is_ok}
 use mathlib.Core.Path.{◌≡◌, refl, sym, ap, subst, ◌∙◌}
-use mathlib.Core.Bool.{Bool, true, false, not}
+use mathlib.Core.Bool.{Bool, true, false, not, true≢false}
 use mathlib.Core.List.{List, ◌++◌}
 use Prim.Native.Nat.{ℕ, ◌*◌, ◌≤◌}
 use native.Mathlib.Omega.{arith}
@@ -10,15 +11,14 @@ use lib.Seq.{take-append_seam}
 use borrow.Author.Tests.{eq-eqb, le-ltb}
 use Rattle.numbers.specs.Choice.{pick}
 use Rattle.numbers.proofs.Cases.{took}
-use Rattle.pgm.specs.declared.PgmError.TheVariants.{Accepted, Form, Count, Room}
-use Rattle.pgm.specs.declared.Written.{Written}
-use Rattle.pgm.specs.declared.Picture.{Picture}
+use Rattle.pgm.specs.declared.PgmError.{PgmError}
+use Rattle.pgm.specs.declared.PgmError.TheVariants.{Form, Count, Room}
 use Rattle.pgm.specs.declared.form.Size.{Size}
 use Rattle.pgm.specs.Form.{in_range, pgm_header, pgm_file, size_in, is_header, width_in, height_in, pixels_in}
 use Rattle.pgm.specs.Files.{Answered, answered, over_front, file_of, not_written, header_written, file_written, picture_of, not_read, file_read}
 use Rattle.pgm.proofs.Headers.{header_few}
 use Rattle.pgm.proofs.Starts.{found_in_range, found_front}
-use Rattle.pgm_laws.specs.Forms.{HasForm, SamePicture}
+use Rattle.pgm_laws.specs.Forms.{HasForm, SamePicture, bytes_of, size_of}
 use Rattle.pgm_laws.proofs.Cases.{written_cases, header_cases, read_cases}
 use Rattle.pgm_laws.proofs.Forms.{size_read, header_read, pixels_read, form_only}
 
@@ -63,54 +63,54 @@ header_fits w h out is room =
     (answered (file_of (length (pgm_header w h))) (over_front (pgm_header w h) out)))
 
 -- ---- what an accepted writing and reading left
-record Wrote (w h : ℕ) (pixels out : List ℕ) (r : Answered Written) : Type 0 where
+record Wrote (w h : ℕ) (pixels out : List ℕ) (r : Answered (Result ℕ PgmError)) : Type 0 where
   is_in_range : in_range w h ≡ true
   full : length pixels ≡ w * h
   is : r ≡ answered (file_of (length (pgm_file w h pixels))) (over_front (pgm_file w h pixels) out)
 
-wrote_whole : (w h : ℕ) (pixels out : List ℕ) → (file_written w h pixels out).answer.error ≡ Accepted → Wrote w h pixels out (file_written w h pixels out)
+wrote_whole : (w h : ℕ) (pixels out : List ℕ) → is_ok (file_written w h pixels out).answer ≡ true → Wrote w h pixels out (file_written w h pixels out)
 wrote_whole w h pixels out =
-    written_cases w h pixels out (λ r. r.answer.error ≡ Accepted → Wrote w h pixels out r)
-    (λ e not is. absurd (not is))
+    written_cases w h pixels out (λ r. is_ok r.answer ≡ true → Wrote w h pixels out r)
+    (λ e is. absurd (true≢false (sym is)))
     (λ p q is. record { is_in_range = p; full = q; is = refl })
 
-record Got (f out : List ℕ) (r : Answered Picture) : Type 0 where
+record Got (f out : List ℕ) (r : Answered (Result Size PgmError)) : Type 0 where
   header : is_header f ≡ true
   full : length (pixels_in f) ≡ width_in f * height_in f
   is : r ≡ answered (picture_of (width_in f) (height_in f)) (over_front (pixels_in f) out)
 
-got_whole : (f out : List ℕ) → (file_read f out).answer.error ≡ Accepted → Got f out (file_read f out)
+got_whole : (f out : List ℕ) → is_ok (file_read f out).answer ≡ true → Got f out (file_read f out)
 got_whole f out =
-    read_cases f out (λ r. r.answer.error ≡ Accepted → Got f out r)
-    (λ e not is. absurd (not is))
+    read_cases f out (λ r. is_ok r.answer ≡ true → Got f out r)
+    (λ e is. absurd (true≢false (sym is)))
     (λ p q is. record { header = p; full = q; is = refl })
 
 -- ---- reading what was written gives the picture
-pub written_read : (w h : ℕ) (pixels out to : List ℕ) → (file_written w h pixels out).answer.error ≡ Accepted → w * h ≤ length to
-    → file_read (take (file_written w h pixels out).answer.length (file_written w h pixels out).out) to ≡ answered (picture_of w h) (over_front pixels to)
+pub written_read : (w h : ℕ) (pixels out to : List ℕ) → is_ok (file_written w h pixels out).answer ≡ true → w * h ≤ length to
+    → file_read (take (bytes_of (file_written w h pixels out).answer) (file_written w h pixels out).out) to ≡ answered (picture_of w h) (over_front pixels to)
 written_read w h pixels out to e l =
     let whole = wrote_whole w h pixels out e in
-    ap (λ (r : Answered Written). file_read (take r.answer.length r.out) to) whole.is
+    ap (λ (r : Answered (Result ℕ PgmError)). file_read (take (bytes_of r.answer) r.out) to) whole.is
     ∙ ap (λ (f : List ℕ). file_read f to) (take-append_seam (pgm_file w h pixels) (drop (length (pgm_file w h pixels)) out))
     ∙ read_file w h pixels to whole.is_in_range
     ∙ (λ i. pick (not (eq-eqb (length pixels) (w * h) whole.full i)) (not_read Count to)
     (pick (le-ltb (length to) (w * h) l i) (not_read Room to) (answered (picture_of w h) (over_front pixels to))))
 
 -- a header written, and then the pixels from where they lie: the same file
-pub header_then_pixels : (w h : ℕ) (pixels out : List ℕ) → (header_written w h out).answer.error ≡ Accepted
-    → take (header_written w h out).answer.length (header_written w h out).out ++ pixels ≡ pgm_file w h pixels
+pub header_then_pixels : (w h : ℕ) (pixels out : List ℕ) → is_ok (header_written w h out).answer ≡ true
+    → take (bytes_of (header_written w h out).answer) (header_written w h out).out ++ pixels ≡ pgm_file w h pixels
 header_then_pixels w h pixels out =
-    header_cases w h out (λ r. r.answer.error ≡ Accepted → take r.answer.length r.out ++ pixels ≡ pgm_file w h pixels)
-    (λ e not is. absurd (not is))
+    header_cases w h out (λ r. is_ok r.answer ≡ true → take (bytes_of r.answer) r.out ++ pixels ≡ pgm_file w h pixels)
+    (λ e is. absurd (true≢false (sym is)))
     (λ is. ap (λ (l : List ℕ). l ++ pixels) (take-append_seam (pgm_header w h) (drop (length (pgm_header w h)) out)))
 
 -- ---- each accepted file is the one written for its picture: the size answered, and the bytes left at the buffer's front
-module _ (f out : List ℕ) (accepted : (file_read f out).answer.error ≡ Accepted) where
+module _ (f out : List ℕ) (accepted : is_ok (file_read f out).answer ≡ true) where
   abbrev width : ℕ
-  width = (file_read f out).answer.width
+  width = (size_of (file_read f out).answer).width
 
   abbrev height : ℕ
-  height = (file_read f out).answer.height
+  height = (size_of (file_read f out).answer).height
 
   abbrev pixels : List ℕ
   pixels = take (width * height) (file_read f out).out
@@ -118,20 +118,20 @@ module _ (f out : List ℕ) (accepted : (file_read f out).answer.error ≡ Accep
   pixels_are : pixels ≡ pixels_in f
   pixels_are =
       let got = got_whole f out accepted in
-      ap (λ (r : Answered Picture). take (r.answer.width * r.answer.height) r.out) got.is
+      ap (λ (r : Answered (Result Size PgmError)). take ((size_of r.answer).width * (size_of r.answer).height) r.out) got.is
       ∙ ap (λ (n : ℕ). take n (over_front (pixels_in f) out)) (sym got.full) ∙ take-append_seam (pixels_in f) (drop (length (pixels_in f)) out)
 
   pub read_file_of : f ≡ pgm_file width height pixels
   read_file_of =
       let got = got_whole f out accepted in
       found_front (width_in f) (height_in f) f got.header
-      ∙ (λ i. pgm_file (sym got.is i).answer.width (sym got.is i).answer.height (sym pixels_are i))
+      ∙ (λ i. pgm_file (size_of (sym got.is i).answer).width (size_of (sym got.is i).answer).height (sym pixels_are i))
 
   pub read_written : (to : List ℕ) → length f ≤ length to → file_written width height pixels to ≡ answered (file_of (length f)) (over_front f to)
   read_written to l =
       let got = got_whole f out accepted in
-      let ranged = ap (λ (r : Answered Picture). in_range r.answer.width r.answer.height) got.is ∙ found_in_range (width_in f) (height_in f) f got.header in
-      let full = ap length pixels_are ∙ got.full ∙ ap (λ (r : Answered Picture). r.answer.width * r.answer.height) (sym got.is) in
+      let ranged = ap (λ (r : Answered (Result Size PgmError)). in_range (size_of r.answer).width (size_of r.answer).height) got.is ∙ found_in_range (width_in f) (height_in f) f got.header in
+      let full = ap length pixels_are ∙ got.full ∙ ap (λ (r : Answered (Result Size PgmError)). (size_of r.answer).width * (size_of r.answer).height) (sym got.is) in
       let room = subst (λ (g : List ℕ). length g ≤ length to) read_file_of l in
       file_written_is width height pixels to ranged full room
       ∙ ap (λ (g : List ℕ). answered (file_of (length g)) (over_front g to)) (sym read_file_of)

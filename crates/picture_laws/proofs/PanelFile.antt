@@ -1,4 +1,6 @@
 -- The panel as a file (#109): each grey byte of it is the grey that the theorem of `history` gives its pixel. Assumes nothing.
+use Rattle.std.specs.Prelude.{Result, is_ok}
+use Rattle.device.specs.declared.Ssd1677.{Ssd1677}
 use Prim.Native.Nat.{ℕ, ◌*◌, ◌<◌, ◌≤◌}
 use mathlib.Core.Path.{◌≡◌, refl, sym, ap, subst, ◌∙◌}
 use mathlib.Core.Bool.{Bool, true, false, ◌&&◌}
@@ -18,7 +20,6 @@ use Rattle.scan.specs.declared.Scan.{Scan}
 use Rattle.scan.specs.Luts.{source_of, lut_in_row, lut_of}
 use Rattle.scan.proofs.Pixels.{pixel_is}
 use Rattle.world.specs.World.{World}
-use Rattle.guard.specs.Refusals.{accepts}
 use Rattle.guard_lengths.specs.Lengths.{pixels_of}
 use Rattle.guard_laws.proofs.Accepted.{FinePanel, fine_panel}
 use Rattle.query.specs.Outcome.{state_guarded}
@@ -43,7 +44,7 @@ use Rattle.picture_laws.proofs.Sized.{SizedWorld, sized_runs, sized_started}
 -- `panel_image` gives the image that the state has
 image_is : (w : World) → image_of w ≡ w.device.panel.image
 unfolding image_asked
-image_is w = by (accepts (state_guarded w.device))
+image_is w = by (is_ok (state_guarded w.device))
   where
     by : (b : Bool) → pick b w.device.panel.image w.device.panel.image ≡ w.device.panel.image
     by true = refl
@@ -104,10 +105,10 @@ panel_file_is c otp b byte ok calls u runs =
     (subst FinePanel first.panel (fine_panel start.device.config.panel (sound_fine otp start (started_sound c otp b ok)).panel))
 
 -- and from the contracts of `new` and of the entry points, as `made_agrees` has it
-pub made_panel_file : (c : Ssd1677Config) (otp : List ℕ) (b : Buffers) (error : StartError) (p : Powered) → New c otp b error p
-    → is_accepted (start_answer_of error) ≡ true → c.optics.initial_gray ≤ 255 → (calls : List Call) (u : World) → Made otp (world_of p) calls u
+pub made_panel_file : (c : Ssd1677Config) (otp : List ℕ) (b : Buffers) (answer : Result Ssd1677 StartError) (p : Powered) → New c otp b answer p
+    → is_accepted (start_answer_of answer) ≡ true → c.optics.initial_gray ≤ 255 → (calls : List Call) (u : World) → Made otp (world_of p) calls u
     → Pictured u (reckon otp (first_reckoning (core_of (world_of p))) calls)
-made_panel_file c otp b error p begins ok byte calls u made =
+made_panel_file c otp b answer p begins ok byte calls u made =
     let is = new_started begins in
     subst (λ (x : Powered). Runs otp (world_of x) calls u → Pictured u (reckon otp (first_reckoning (core_of (world_of x))) calls))
     (ap (λ (x : Start). x.left) (sym is))

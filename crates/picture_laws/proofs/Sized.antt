@@ -1,5 +1,6 @@
 -- The image's size stays the panel's, and there are as many states and pixels as the panel has: so an accepted start leaves it, and so does every
 -- call. Assumes nothing.
+use Rattle.std.specs.Prelude.{Option, None}
 use Prim.Native.Nat.{ℕ}
 use mathlib.Core.Path.{◌≡◌, refl, sym, ap, subst, ◌∙◌}
 use mathlib.Core.Bool.{Bool, true, false}
@@ -8,8 +9,6 @@ use lib.IntN.{ℤ}
 use lib.ListN.{length}
 use Rattle.numbers.specs.Choice.{pick}
 use Rattle.glass.specs.declared.PanelImage.{PanelImage}
-use Rattle.waveform.specs.declared.Until.{Until}
-use Rattle.waveform.specs.declared.Until.TheVariants.{Whole}
 use Rattle.config.specs.declared.PanelGeometry.{PanelGeometry}
 use Rattle.config.specs.declared.Ssd1677Config.{Ssd1677Config}
 use Rattle.config.specs.Answer.{is_accepted}
@@ -69,7 +68,7 @@ module _ (p : PanelGeometry) where
   SizedWorld w = SizedBy w.device w.states w.picture.pixels
 
   -- ---- the end of a display
-  finish_sized : (luts : List ℕ) (at : ℕ) (until : Until) (g : WithGlass) → SizedGlass g
+  finish_sized : (luts : List ℕ) (at : ℕ) (until : Option ℕ) (g : WithGlass) → SizedGlass g
       → SizedGlass (glass_published g (finished (ending_of g.device at until) luts (glass_of g)))
   unfolding finished published
   finish_sized luts at until g h =
@@ -83,8 +82,8 @@ module _ (p : PanelGeometry) where
       x : WithGlass
       x = clocked time g
 
-      by : (b : Bool) → SizedGlass (quieted (pick b (glass_published x (finished (ending_of x.device x.device.display.ends Whole) luts (glass_of x))) x))
-      by true = finish_sized luts x.device.display.ends Whole x h
+      by : (b : Bool) → SizedGlass (quieted (pick b (glass_published x (finished (ending_of x.device x.device.display.ends None) luts (glass_of x))) x))
+      by true = finish_sized luts x.device.display.ends None x h
       by false = h
 
   -- ---- the reset line

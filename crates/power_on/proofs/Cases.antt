@@ -1,16 +1,16 @@
 -- What each return of the code hands over, over plain variables. Assumes nothing.
+use Rattle.std.specs.Prelude.{None, Ok, Err}
 use Prim.Native.Nat.{ℕ}
-use mathlib.Core.Path.{◌≡◌, ap, ◌∙◌}
+use mathlib.Core.Path.{◌≡◌, refl, sym, ap, ◌∙◌}
 use mathlib.Core.Bool.{Bool, true, false}
 use mathlib.Core.List.{List, [], ◌∷◌}
 use lib.ListN.{length}
 use Rattle.numbers.specs.Lists.{tab}
 use Rattle.config.specs.declared.ConfigError.{ConfigError}
-use Rattle.config.specs.declared.ConfigError.TheVariants.{Accepted}
 use Rattle.config.specs.declared.PanelGeometry.{PanelGeometry}
 use Rattle.config.specs.declared.Ssd1677Config.{Ssd1677Config}
 use Rattle.config.specs.Answer.{Answer, accepted, refused, is_accepted, Test, first_of, answer_of}
-use Rattle.config.proofs.Answers.{stops, goes_on}
+use Rattle.config.proofs.Answers.{stops_at, goes_past, ok_accepted}
 use Rattle.otp.specs.Table.{start_tests}
 use Rattle.gates.specs.Gates.{gates_stored}
 use Rattle.gates_laws.specs.OneToOne.{Scanned}
@@ -21,61 +21,58 @@ use Rattle.panel.specs.Start.{Fresh, power_on}
 use Rattle.device.specs.declared.Registers.{Registers}
 use Rattle.device.specs.declared.Power.TheVariants.{Running}
 use Rattle.device.specs.declared.Current.TheVariants.{Idle}
-use Rattle.device.specs.declared.Deadline.TheVariants.{Never}
 use Rattle.device.specs.declared.Ssd1677.{Ssd1677}
 use Rattle.registers.specs.Reset.{reset_of}
 use Rattle.guard_lengths.specs.declared.Lengths.{Lengths}
 use Rattle.guard_lengths.specs.Lengths.{lengths_fit, counts_fit}
 use Rattle.power_on.specs.declared.StartError.{StartError}
 use Rattle.power_on.specs.declared.StartError.TheVariants.{Parameters, Buffer, Counts}
-use Rattle.power_on.specs.Start.{buffer_test, counts_test, all_tests, start_answer_of, no_display, chip_with, powered_on, unstarted, Buffers, buffers, lengths_in, Clean, clean, cleared, filled, Powered, powered, powered_up, start, started}
+use Rattle.power_on.specs.Start.{buffer_test, counts_test, all_tests, start_refused_by, start_answer_of, no_display, chip_with, powered_on, chip_in, Buffers, buffers, lengths_in, Clean, clean, cleared, filled, powered, powered_up, start, started}
 
 -- ---- the tests
-module _ (p : PanelGeometry) (l : Lengths) (fit counted : Bool) (is : fit ≡ lengths_fit p l) (counts-is : counted ≡ counts_fit l) where
-  fits : fit ≡ true → counted ≡ true → accepted ≡ first_of (buffer_test p l ∷ counts_test l ∷ [])
-  unfolding first_of
-  fits h k = rw (← is, h, ← counts-is, k)
-
+module _ (p : PanelGeometry) (l : Lengths) (fit : Bool) (is : fit ≡ lengths_fit p l) where
   fits_not : fit ≡ false → refused 11 0 ≡ first_of (buffer_test p l ∷ counts_test l ∷ [])
   unfolding first_of
   fits_not h = rw (← is, h)
 
-  counts_not : fit ≡ true → counted ≡ false → refused 15 0 ≡ first_of (buffer_test p l ∷ counts_test l ∷ [])
-  unfolding first_of
-  counts_not h k = rw (← is, h, ← counts-is, k)
+  module _ (counted : Bool) (counts-is : counted ≡ counts_fit l) where
+    fits : fit ≡ true → counted ≡ true → accepted ≡ first_of (buffer_test p l ∷ counts_test l ∷ [])
+    unfolding first_of
+    fits h k = rw (← is, h, ← counts-is, k)
 
-module _ (c : Ssd1677Config) (otp : List ℕ) (l : Lengths) (error : ConfigError) (fit counted : Bool) (is : answer_of error ≡ first_of (start_tests c otp))
-    (fits_is : fit ≡ lengths_fit c.panel l) (counts-is : counted ≡ counts_fit l) where
+    counts_not : fit ≡ true → counted ≡ false → refused 15 0 ≡ first_of (buffer_test p l ∷ counts_test l ∷ [])
+    unfolding first_of
+    counts_not h k = rw (← is, h, ← counts-is, k)
+
+module _ (c : Ssd1677Config) (otp : List ℕ) (l : Lengths) where
   abbrev lent : List Test
   lent = buffer_test c.panel l ∷ counts_test l ∷ []
 
-  pub passes : is_accepted (answer_of error) ≡ true → fit ≡ true → counted ≡ true → start_answer_of (Parameters Accepted) ≡ first_of (all_tests c otp l)
-  unfolding start_answer_of answer_of
-  passes h f k = goes_on (start_tests c otp) lent (answer_of error) accepted is h (fits c.panel l fit counted fits_is counts-is f k)
+  pub refuses_parameters : (error : ConfigError) → answer_of {A = Unit} (Err error) ≡ first_of (start_tests c otp)
+      → start_answer_of {A = Unit} (Err (Parameters error)) ≡ first_of (all_tests c otp l)
+  unfolding start_answer_of start_refused_by answer_of
+  refuses_parameters error is = stops_at Unit Unit (start_tests c otp) lent error is
 
-  pub refuses_counts : is_accepted (answer_of error) ≡ true → fit ≡ true → counted ≡ false → start_answer_of Counts ≡ first_of (all_tests c otp l)
-  unfolding start_answer_of
-  refuses_counts h f k = goes_on (start_tests c otp) lent (answer_of error) (refused 15 0) is h (counts_not c.panel l fit counted fits_is counts-is f k)
+  module _ (fit : Bool) (is : answer_of {A = Unit} (Ok tt) ≡ first_of (start_tests c otp)) (fits_is : fit ≡ lengths_fit c.panel l) where
+    pub refuses_buffer : fit ≡ false → start_answer_of {A = Unit} (Err Buffer) ≡ first_of (all_tests c otp l)
+    unfolding start_answer_of start_refused_by
+    refuses_buffer f = goes_past tt (start_tests c otp) lent (refused 11 0) is (fits_not c.panel l fit fits_is f)
 
-  pub refuses_buffer : is_accepted (answer_of error) ≡ true → fit ≡ false → start_answer_of Buffer ≡ first_of (all_tests c otp l)
-  unfolding start_answer_of
-  refuses_buffer h f = goes_on (start_tests c otp) lent (answer_of error) (refused 11 0) is h (fits_not c.panel l fit counted fits_is counts-is f)
+    module _ (counted : Bool) (counts-is : counted ≡ counts_fit l) where
+      pub refuses_counts : fit ≡ true → counted ≡ false → start_answer_of {A = Unit} (Err Counts) ≡ first_of (all_tests c otp l)
+      unfolding start_answer_of start_refused_by
+      refuses_counts f k = goes_past tt (start_tests c otp) lent (refused 15 0) is (counts_not c.panel l fit fits_is counted counts-is f k)
 
-  pub refuses_parameters : is_accepted (answer_of error) ≡ false → start_answer_of (Parameters error) ≡ first_of (all_tests c otp l)
-  unfolding start_answer_of
-  refuses_parameters h = stops (start_tests c otp) lent (answer_of error) is h
+      pub passes : fit ≡ true → counted ≡ true → start_answer_of {A = Unit} (Ok tt) ≡ first_of (all_tests c otp l)
+      unfolding start_answer_of
+      passes f k = goes_past tt (start_tests c otp) lent accepted is (fits c.panel l fit fits_is counted counts-is f k)
 
-pub of_parameters : (b : Bool) (x : StartError) (e : ConfigError) → b ≡ is_accepted (answer_of e) → x ≡ Parameters e → b ≡ is_accepted (start_answer_of x)
-unfolding start_answer_of
-of_parameters b x e p q = rw q p
-
-pub of_counts : (x : StartError) → x ≡ Counts → false ≡ is_accepted (start_answer_of x)
-unfolding start_answer_of
-of_counts x q = rw q
-
-pub of_buffer : (x : StartError) → x ≡ Buffer → false ≡ is_accepted (start_answer_of x)
-unfolding start_answer_of
-of_buffer x q = rw q
+-- every error refuses
+refused_all : (error : StartError) → is_accepted (start_refused_by error) ≡ false
+unfolding start_refused_by answer_of
+refused_all (Parameters error) = sym (ok_accepted Unit (Err error))
+refused_all Buffer = refl
+refused_all Counts = refl
 
 -- ---- what is set up
 pub chips : (c : Ssd1677Config) (p : Panel) (r : Registers) (d : Display) → r ≡ reset_of c.user_id → d ≡ no_display
@@ -83,7 +80,7 @@ pub chips : (c : Ssd1677Config) (p : Panel) (r : Registers) (d : Display) → r 
       config = c;
       now = 0;
       regs = r;
-      bus = record { power = Running; current = Idle; busy_until = Never };
+      bus = record { power = Running; current = Idle; busy_until = None };
       clock = false;
       analog = false;
       status = record { hv_not_ready = false; vci_low = false };
@@ -110,14 +107,16 @@ unfolding powered_up powered_on filled power_on
 powers_up c b x e g d p q r scanned long s = rw (s, r ∙ gates_table c.panel scanned b.gates long, q, p)
 
 -- ---- the start
-module _ (c : Ssd1677Config) (otp : List ℕ) (b : Buffers) (l : Lengths) (x : Answer) (is : l ≡ lengths_in b) (told : x ≡ first_of (all_tests c otp l)) where
-  same : x ≡ first_of (all_tests c otp (lengths_in b))
-  same = told ∙ ap (λ (z : Lengths). first_of (all_tests c otp z)) is
+module _ (c : Ssd1677Config) (otp : List ℕ) (b : Buffers) (l : Lengths) (is : l ≡ lengths_in b) where
+  same : (x : Answer) → x ≡ first_of (all_tests c otp l) → x ≡ first_of (all_tests c otp (lengths_in b))
+  same x told = told ∙ ap (λ (z : Lengths). first_of (all_tests c otp z)) is
 
-  pub starts : (t : Bool) (v : Powered) → t ≡ is_accepted x → t ≡ true → v ≡ powered_up c b → start x v ≡ started c otp b
-  unfolding started
-  starts t v p q e = rw (← same, ← p, q, e)
+  pub starts : (d : Ssd1677) (left : Buffers) → start_answer_of {A = Unit} (Ok tt) ≡ first_of (all_tests c otp l) → powered d left ≡ powered_up c b
+      → start (start_answer_of (Ok d)) (powered (chip_in c (Ok d)) left) ≡ started c otp b
+  unfolding started start_answer_of
+  starts d left told e = rw (← same accepted told, e)
 
-  pub starts_not : (t : Bool) (d : Ssd1677) → t ≡ is_accepted x → t ≡ false → d ≡ unstarted c → start x (powered d b) ≡ started c otp b
-  unfolding started
-  starts_not t d p q e = rw (← same, ← p, q, e)
+  pub starts_not : (error : StartError) → start_answer_of {A = Unit} (Err error) ≡ first_of (all_tests c otp l)
+      → start (start_answer_of {A = Ssd1677} (Err error)) (powered (chip_in c (Err error)) b) ≡ started c otp b
+  unfolding started start_answer_of
+  starts_not error told = rw (← same (start_refused_by error) told, refused_all error)

@@ -1,11 +1,11 @@
 -- The start (mod.rs, `new`): refused with 1, 2, 3, 4, 5, 14, 12, 6, 11, 15 in this order, or the chip at power-on.
-use Rattle.std.specs.Prelude.{ℕ, false, not, List, [], ◌∷◌, ◌++◌, ℤ, pos, length, replicate}
+use Rattle.std.specs.Prelude.{ℕ, false, not, List, [], ◌∷◌, ◌++◌, ℤ, pos, length, replicate, None, Result, Ok, Err}
 use Rattle.numbers.specs.Choice.{pick}
 use Rattle.numbers.specs.Lists.{tab}
 use Rattle.glass.specs.declared.RefreshKind.TheVariants.{PowerOn}
 use Rattle.config.specs.declared.PanelGeometry.{PanelGeometry}
 use Rattle.config.specs.declared.Ssd1677Config.{Ssd1677Config}
-use Rattle.config.specs.Answer.{Answer, accepted, refused, is_accepted, Test, first_of, answer_of}
+use Rattle.config.specs.Answer.{Answer, accepted, refused, is_accepted, Test, first_of, refused_by}
 use Rattle.otp.specs.Table.{start_tests}
 use Rattle.gates_laws.specs.OneToOne.{gate_of_row}
 use Rattle.counts.specs.Counts.{Picture}
@@ -14,7 +14,6 @@ use Rattle.panel.specs.declared.Panel.{Panel}
 use Rattle.panel.specs.Start.{panel_at_power_on, power_on}
 use Rattle.device.specs.declared.Power.TheVariants.{Running}
 use Rattle.device.specs.declared.Current.TheVariants.{Idle}
-use Rattle.device.specs.declared.Deadline.TheVariants.{Never}
 use Rattle.device.specs.declared.Ssd1677.{Ssd1677}
 use Rattle.world.specs.World.{World, world}
 use Rattle.registers.specs.Reset.{reset_of}
@@ -56,10 +55,15 @@ abbrev pub all_tests : Ssd1677Config → List ℕ → Lengths → List Test
 all_tests c otp l = start_tests c otp ++ buffer_test c.panel l ∷ counts_test l ∷ []
 
 -- the number and value of each case
-unfoldable pub start_answer_of : StartError → Answer
-start_answer_of (Parameters error) = answer_of error
-start_answer_of Buffer = refused 11 0
-start_answer_of Counts = refused 15 0
+unfoldable pub start_refused_by : StartError → Answer
+start_refused_by (Parameters error) = refused_by error
+start_refused_by Buffer = refused 11 0
+start_refused_by Counts = refused 15 0
+
+-- what a start answers
+unfoldable pub start_answer_of : {A : Type 0} → Result A StartError → Answer
+start_answer_of (Ok value) = accepted
+start_answer_of (Err error) = start_refused_by error
 
 -- an answer as its number and its value: 0 and 0 for an accepted start
 abbrev pub refusal_of : Answer → StartRefusal
@@ -77,7 +81,7 @@ chip_with c panel =
       config = c;
       now = 0;
       regs = reset_of c.user_id;
-      bus = record { power = Running; current = Idle; busy_until = Never };
+      bus = record { power = Running; current = Idle; busy_until = None };
       clock = false;
       analog = false;
       status = record { hv_not_ready = false; vci_low = false };
@@ -99,9 +103,14 @@ no_glass =
       image = record { width = 0; height = 0; border = 0; generation = 0; kind = PowerOn; interrupted = false; started = 0; at = 0 };
     }
 
--- what a refused start hands back: a state that every call refuses with 13 (`unstarted_refused` of proofs/Refused.antt)
+-- where no start was accepted: a state that every call refuses with 13 (`unstarted_refused` of proofs/Refused.antt)
 unfoldable pub unstarted : Ssd1677Config → Ssd1677
 unstarted c = chip_with c no_glass
+
+-- the chip that a start hands back, or the unstarted one
+abbrev pub chip_in : Ssd1677Config → Result Ssd1677 StartError → Ssd1677
+chip_in c (Ok state) = state
+chip_in c (Err error) = unstarted c
 
 -- the planes and the log
 pub record Clean : Type 0 where

@@ -2,13 +2,14 @@
 #![tactic(auto)]
 
 ghost use Rattle.std.specs.Prelude.{◌≡◌, ◌≤◌, ◌<◌, ◌^◌, length};
-ghost use Rattle.config.specs.Answer.{is_accepted, first_of, answer_of};
+ghost use Rattle.config.specs.Answer.{first_of, refused_by};
 ghost use Rattle.gates_laws.specs.OneToOne.{Scanned};
 ghost use Rattle.counts.specs.Counts.{picture};
-ghost use Rattle.power_on.specs.Start.{all_tests, start_answer_of, no_display, chip_with, unstarted, clean, cleared, buffers, powered, powered_up, start, started, refusal_of};
+ghost use Rattle.power_on.specs.declared.StartError.TheVariants.{Parameters};
+ghost use Rattle.power_on.specs.Start.{all_tests, start_refused_by, start_answer_of, no_display, chip_with, unstarted, chip_in, clean, cleared, buffers, powered, powered_up, start, started, refusal_of};
 
 use config::{ConfigError, Ssd1677Config};
-use device::{Bus, Current, Deadline, Power, Ssd1677, Status};
+use device::{Bus, Current, Power, Ssd1677, Status};
 use diagnostic::Journal;
 use glass::{PanelImage, RefreshKind};
 use guard_lengths::Lengths;
@@ -17,7 +18,7 @@ use panel::{Display, Panel};
 // Why a start was refused.
 #[derive(Clone, Copy)]
 pub enum StartError {
-    // 1 to 6, 12 and 14, or `Accepted` for none.
+    // 1 to 6, 12 and 14.
     Parameters(ConfigError),
     // 11: a buffer's length.
     Buffer,
@@ -25,14 +26,15 @@ pub enum StartError {
     Counts,
 }
 
-// The chip that was started, or the one that a refused start hands back and every call refuses.
-#[derive(Clone, Copy)]
-pub struct Started {
-    pub error: StartError,
-    pub state: Ssd1677,
+impl From<ConfigError> for StartError {
+    ghost from_gives = { λ parameters error. error ≡ Parameters parameters };
+
+    fn from(parameters: ConfigError) -> StartError {
+        StartError::Parameters(parameters)
+    }
 }
 
-// A refused start's number and its value, 0 where it has none (SCOPE, Refusals); number 0 for an accepted one.
+// A refused start's number and its value, 0 where it has none (SCOPE, Refusals).
 #[derive(Clone, Copy)]
 pub struct StartRefusal {
     pub number: u8,
@@ -41,13 +43,9 @@ pub struct StartRefusal {
 
 // The same of the configuration and the table.
 fn number_of_parameters(error: ConfigError) -> StartRefusal
-    ensures { result ≡ refusal_of (answer_of error) }
+    ensures { result ≡ refusal_of (refused_by error) }
 {
     match error {
-        ConfigError::Accepted => StartRefusal {
-            number: 0,
-            value: 0,
-        },
         ConfigError::EmptyPanel => StartRefusal {
             number: 1,
             value: 0,
@@ -83,50 +81,37 @@ fn number_of_parameters(error: ConfigError) -> StartRefusal
     }
 }
 
-// The number that a program tells of a start.
-pub fn number_of(error: StartError) -> StartRefusal
-    ensures { result ≡ refusal_of (start_answer_of error) }
-{
-    match error {
-        StartError::Parameters(parameters) => number_of_parameters(parameters),
-        StartError::Buffer => StartRefusal {
-            number: 11,
-            value: 0,
-        },
-        StartError::Counts => StartRefusal {
-            number: 15,
-            value: 0,
-        },
+// What a program tells of a refused start.
+impl From<StartError> for StartRefusal {
+    ghost from_gives = { λ error refusal. refusal ≡ refusal_of (start_refused_by error) };
+
+    fn from(error: StartError) -> StartRefusal {
+        match error {
+            StartError::Parameters(parameters) => number_of_parameters(parameters),
+            StartError::Buffer => StartRefusal {
+                number: 11,
+                value: 0,
+            },
+            StartError::Counts => StartRefusal {
+                number: 15,
+                value: 0,
+            },
+        }
     }
 }
 
 // By SCOPE, Refusals: the configuration and the table, then the lengths.
-fn check(config: Ssd1677Config, otp: &[u8], lengths: Lengths) -> StartError
+fn check(config: Ssd1677Config, otp: &[u8], lengths: Lengths) -> Result<(), StartError>
     ensures { start_answer_of result ≡ first_of (all_tests config otp.now lengths) }
 {
-    let error = validate::validate(config, otp);
-    let fit = guard_lengths::lengths_fit(config.panel, lengths);
-    let counted = guard_lengths::counts_fit(lengths);
-    if config::is_accepted(error) {
-        if fit {
-            if counted {
-                return StartError::Parameters(ConfigError::Accepted);
-            }
-            return StartError::Counts;
-        }
-        return StartError::Buffer;
+    validate::validate(config, otp)?;
+    if !guard_lengths::lengths_fit(config.panel, lengths) {
+        return Err(StartError::Buffer);
     }
-    StartError::Parameters(error)
-}
-
-fn is_accepted(error: StartError) -> bool
-    ensures { result ≡ is_accepted (start_answer_of error) }
-{
-    match error {
-        StartError::Parameters(parameters) => config::is_accepted(parameters),
-        StartError::Buffer => false,
-        StartError::Counts => false,
+    if !guard_lengths::counts_fit(lengths) {
+        return Err(StartError::Counts);
     }
+    Ok(())
 }
 
 // No display has been started.
@@ -152,7 +137,7 @@ fn chip_with(config: Ssd1677Config, panel: Panel) -> Ssd1677
     let bus = Bus {
         power: Power::Running,
         current: Current::Idle,
-        busy_until: Deadline::Never,
+        busy_until: None,
     };
     let status = Status {
         hv_not_ready: false,
@@ -178,8 +163,8 @@ fn chip_with(config: Ssd1677Config, panel: Panel) -> Ssd1677
     }
 }
 
-// What a refused start hands back.
-fn unstarted(config: Ssd1677Config) -> Ssd1677
+// The chip that none was started on: every call refuses it.
+pub fn unstarted(config: Ssd1677Config) -> Ssd1677
     ensures { result ≡ unstarted config }
 {
     let image = PanelImage {
@@ -243,8 +228,8 @@ pub fn new(
     gates: &mut [u16],
     log: &mut [u8],
     otp: &[u8],
-) -> Started
-    ensures { start (start_answer_of result.error) (powered result.state (buffers states.new luts.new (picture pixels.new counts.new) black_white.new red.new gates.new log.new)) ≡ started config otp.now (buffers states.old luts.old (picture pixels.old counts.old) black_white.old red.old gates.old log.old) }
+) -> Result<Ssd1677, StartError>
+    ensures { start (start_answer_of result) (powered (chip_in config result) (buffers states.new luts.new (picture pixels.new counts.new) black_white.new red.new gates.new log.new)) ≡ started config otp.now (buffers states.old luts.old (picture pixels.old counts.old) black_white.old red.old gates.old log.old) }
 {
     let lengths = guard_lengths::all_lent(
         states.len(),
@@ -256,21 +241,16 @@ pub fn new(
         red.len(),
         gates.len(),
     );
-    let error = check(config, otp, lengths);
-    if is_accepted(error) {
-        let state = power_up(
-            config,
-            states,
-            luts,
-            pixels,
-            counts,
-            black_white,
-            red,
-            gates,
-            log,
-        );
-        return Started { error, state };
-    }
-    let state = unstarted(config);
-    Started { error, state }
+    check(config, otp, lengths)?;
+    Ok(power_up(
+        config,
+        states,
+        luts,
+        pixels,
+        counts,
+        black_white,
+        red,
+        gates,
+        log,
+    ))
 }

@@ -1,14 +1,14 @@
 -- What can be asked of a state, and what a host changes in it beside the events (mod.rs, `is_busy` to `dropped_diagnostics`). A state
--- that 13 refuses is told nothing: no level, no deadline, a count of 0; its parts are handed back as given.
-use Rattle.std.specs.Prelude.{ℕ, Bool, false}
+-- that 13 refuses is told nothing: here no level, no deadline and a count of 0 stand for that, and of its parts the parts as given.
+use Rattle.std.specs.Prelude.{ℕ, Bool, false, Option, None, Result, Ok, Err}
 use Rattle.glass.specs.declared.PanelImage.{PanelImage}
 use Rattle.config.specs.declared.Ssd1677Config.{Ssd1677Config}
 use Rattle.diagnostic.specs.declared.Journal.{Journal}
-use Rattle.device.specs.declared.Deadline.{Deadline}
-use Rattle.device.specs.declared.Deadline.TheVariants.{Never}
 use Rattle.device.specs.declared.Ssd1677.{Ssd1677}
 use Rattle.device.specs.Parts.{with_config, with_journal}
 use Rattle.busy.specs.Busy.{busy_at, pin_at, deadline_of}
+use Rattle.guard.specs.declared.Refused.{Refused}
+use Rattle.query.specs.declared.Taken.{Taken}
 use Rattle.query.specs.Outcome.{Outcome, unless, state_guarded}
 
 -- is_busy, at the time as given
@@ -20,8 +20,8 @@ unfoldable pub pin_asked : Ssd1677 → ℕ → Outcome Bool
 pin_asked d time = unless (state_guarded d) false (pin_at d time)
 
 -- next_deadline
-unfoldable pub deadline_asked : Ssd1677 → Outcome Deadline
-deadline_asked d = unless (state_guarded d) Never (deadline_of d)
+unfoldable pub deadline_asked : Ssd1677 → Outcome (Option ℕ)
+deadline_asked d = unless (state_guarded d) None (deadline_of d)
 
 -- config
 unfoldable pub config_asked : Ssd1677 → Outcome Ssd1677Config
@@ -62,6 +62,11 @@ pub record WithCount : Type 0 where
 -- the two as one
 abbrev pub with_count : Ssd1677 → ℕ → WithCount
 with_count d n = record { device = d; count = n }
+
+-- what a call that takes records answers: a refused one takes none
+abbrev pub taken_in : Result Taken Refused → Taken
+taken_in (Ok taken) = taken
+taken_in (Err refused) = record { state = refused.state; count = 0 }
 
 -- no record waits any more; the dropped count and the log's bytes stay
 abbrev pub journal_emptied : Journal → Journal

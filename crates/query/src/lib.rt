@@ -4,37 +4,29 @@
 
 ghost use Rattle.std.specs.Prelude.{◌≡◌};
 ghost use Rattle.guard.specs.Refusals.{refusal_number};
-ghost use Rattle.query.specs.Outcome.{outcome, state_guarded};
-ghost use Rattle.query.specs.Queries.{with_ambient, ambient_set, with_count, journal_emptied, diagnostics_taken};
+ghost use Rattle.query.specs.Outcome.{outcome, answer_in, state_in, state_guarded};
+ghost use Rattle.query.specs.Queries.{with_ambient, ambient_set, taken_in, with_count, journal_emptied, diagnostics_taken};
 
 use config::Ssd1677Config;
 use device::{Ssd1677, part};
 use diagnostic::Journal;
-use guard::Refusal;
-
-// The state that a call leaves, or the one that it was handed and refuses.
-#[derive(Clone, Copy)]
-pub struct CallAnswer {
-    pub refusal: Refusal,
-    pub state: Ssd1677,
-}
+use guard::{Refusal, Refused};
 
 // How many records were waiting in the log, and the state in which none does.
 #[derive(Clone, Copy)]
 pub struct Taken {
-    pub refusal: Refusal,
     pub state: Ssd1677,
     pub count: u16,
 }
 
 // 13, of a call that is lent nothing.
-pub fn check_state(state: Ssd1677) -> Refusal
+pub fn check_state(state: Ssd1677) -> Result<(), Refusal>
     ensures { result ≡ state_guarded state }
 {
     if guard_state::state_is_fine(state) {
-        return Refusal::Accepted;
+        return Ok(());
     }
-    Refusal::State
+    Err(Refusal::State)
 }
 
 fn with_ambient(config: Ssd1677Config, register: u16) -> Ssd1677Config
@@ -46,16 +38,16 @@ fn with_ambient(config: Ssd1677Config, register: u16) -> Ssd1677Config
 }
 
 // Changes what the internal sensor reads, from the next temperature load; the low twelve bits count.
-pub fn set_ambient(state: Ssd1677, register: u16) -> CallAnswer
-    ensures { outcome (refusal_number result.refusal) result.state ≡ ambient_set state register }
+pub fn set_ambient(state: Ssd1677, register: u16) -> Result<Ssd1677, Refused>
+    ensures { outcome (refusal_number (answer_in result)) (state_in result) ≡ ambient_set state register }
 {
-    let refusal = check_state(state);
-    if guard::is_accepted(refusal) {
-        let config = with_ambient(state.config, register);
-        let state = part::set_config(state, config);
-        return CallAnswer { refusal, state };
+    match check_state(state) {
+        Ok(()) => {
+            let config = with_ambient(state.config, register);
+            Ok(part::set_config(state, config))
+        }
+        Err(refusal) => Err(Refused { refusal, state }),
     }
-    CallAnswer { refusal, state }
 }
 
 fn none_waiting(journal: Journal) -> Journal
@@ -67,23 +59,16 @@ fn none_waiting(journal: Journal) -> Journal
 }
 
 // The diagnostics since the last call are the log's first records, oldest first; the next one is written at its start.
-pub fn take_diagnostics(state: Ssd1677) -> Taken
-    ensures { outcome (refusal_number result.refusal) (with_count result.state result.count) ≡ diagnostics_taken state }
+pub fn take_diagnostics(state: Ssd1677) -> Result<Taken, Refused>
+    ensures { outcome (refusal_number (answer_in result)) (with_count (taken_in result).state (taken_in result).count) ≡ diagnostics_taken state }
 {
-    let refusal = check_state(state);
-    if guard::is_accepted(refusal) {
-        let journal = state.journal;
-        let count = journal.count;
-        let state = part::set_journal(state, none_waiting(journal));
-        return Taken {
-            refusal,
-            state,
-            count,
-        };
-    }
-    Taken {
-        refusal,
-        state,
-        count: 0,
+    match check_state(state) {
+        Ok(()) => {
+            let journal = state.journal;
+            let count = journal.count;
+            let state = part::set_journal(state, none_waiting(journal));
+            Ok(Taken { state, count })
+        }
+        Err(refusal) => Err(Refused { refusal, state }),
     }
 }

@@ -36,48 +36,27 @@ impl Plane {
     }
 }
 
-// The place of a counter's byte in a plane.
-#[derive(Clone, Copy)]
-pub enum Place {
-    At(usize),
-    // Past the RAM.
-    Outside,
-}
-
-pub fn index(at: Counter) -> Place
+pub fn index(at: Counter) -> Option<usize>
     ensures { result ≡ index_of at }
 {
     let column = (at.x / 8) as usize;
     let row = at.y as usize;
     if column < ROW_BYTES {
         if row < RAM_GATES as usize {
-            return Place::At(row * ROW_BYTES + column);
+            return Some(row * ROW_BYTES + column);
         }
     }
-    Place::Outside
+    None
 }
 
-// What a read finds.
-#[derive(Clone, Copy)]
-pub enum Byte {
-    Is(u8),
-    // Past the RAM, or past the end of a plane that is shorter than the RAM.
-    Nothing,
-}
-
-pub fn read(plane: &[u8], at: Counter) -> Byte
+pub fn read(plane: &[u8], at: Counter) -> Option<u8>
     ensures { result ≡ read_at plane.now at }
 {
-    match index(at) {
-        Place::At(i) => {
-            if i < plane.len() {
-                Byte::Is(plane[i])
-            } else {
-                Byte::Nothing
-            }
-        }
-        Place::Outside => Byte::Nothing,
+    let i = index(at)?;
+    if i < plane.len() {
+        return Some(plane[i]);
     }
+    None
 }
 
 // Writes `byte` at the counter; `false`, and the plane as it was, where a read finds nothing.
@@ -86,32 +65,22 @@ pub fn write(plane: &mut [u8], at: Counter, byte: u8) -> bool
     ensures plane_after { plane.new ≡ written_at plane.old at byte }
 {
     match index(at) {
-        Place::At(i) => {
+        Some(i) => {
             if i < plane.len() {
                 plane[i] = byte;
                 return true;
             }
             false
         }
-        Place::Outside => false,
+        None => false,
     }
 }
 
-// The bit of a pixel.
-#[derive(Clone, Copy)]
-pub enum Pixel {
-    Is(bool),
-    // Its byte is not there.
-    Nothing,
-}
-
-pub fn bit(plane: &[u8], x: u16, row: u16) -> Pixel
+pub fn bit(plane: &[u8], x: u16, row: u16) -> Option<bool>
     ensures { result ≡ bit_at plane.now x row }
 {
-    match read(plane, Counter { x: x, y: row }) {
-        Byte::Is(byte) => Pixel::Is((byte >> (7 - x % 8)) & 1 == 1),
-        Byte::Nothing => Pixel::Nothing,
-    }
+    let byte = read(plane, Counter { x: x, y: row })?;
+    Some((byte >> (7 - x % 8)) & 1 == 1)
 }
 
 // Every byte of the plane, however long, becomes `byte`.

@@ -1,4 +1,5 @@
 -- The bytes of a read command: one of a list, or none past its end; the eleven of 0x2D, and the flags of 0x2F. Assumes nothing.
+use Rattle.std.specs.Prelude.{Some, None}
 use mathlib.Core.Path.{◌≡◌, refl, ap}
 use mathlib.Core.Bool.{Bool, true, false}
 use mathlib.Core.List.{List, ◌∷◌}
@@ -9,13 +10,12 @@ use lib.ListN.{get_or, drop}
 use lib.Seq.{get_or-drop}
 use borrow.Author.Tests.{lt-ltb, le-ltb}
 use Rattle.numbers.specs.Choice.{pick}
-use Rattle.ram.specs.declared.Byte.TheVariants.{Is, Nothing}
 use Rattle.registers.specs.Read.{answer, byte_of}
 
-pub here : (n : ℕ) (l : List ℕ) (i b : ℕ) → i < n → b ≡ get_or l i 0 → Is b ≡ byte_of (answer n l) i
+pub here : (n : ℕ) (l : List ℕ) (i b : ℕ) → i < n → b ≡ get_or l i 0 → Some b ≡ byte_of (answer n l) i
 here n l i b h e = rw (lt-ltb i n h, e)
 
-pub past : (n : ℕ) (l : List ℕ) (i : ℕ) → n ≤ i → Nothing ≡ byte_of (answer n l) i
+pub past : (n : ℕ) (l : List ℕ) (i : ℕ) → n ≤ i → None ≡ byte_of (answer n l) i
 past n l i h = rw (le-ltb i n h)
 
 -- two bytes, then the option's without its first

@@ -1,11 +1,10 @@
 -- What each return of the code hands over, over plain variables. Assumes nothing.
+use Rattle.std.specs.Prelude.{Option, Some, None}
 use Prim.Native.Nat.{ℕ}
 use mathlib.Core.Path.{◌≡◌, sym, subst}
 use mathlib.Core.Bool.{Bool, true, false}
 use mathlib.Core.List.{List}
 use borrow.Author.Tests.{eq-eqb, ne_eqb}
-use Rattle.ram.specs.declared.Byte.{Byte}
-use Rattle.ram.specs.declared.Byte.TheVariants.{Is, Nothing}
 use Rattle.counter.specs.declared.Counter.{Counter}
 use Rattle.counter.specs.Counter.{advanced_of}
 use Rattle.ram.specs.Plane.{plane_of, read_at}
@@ -38,38 +37,38 @@ steps d r c g e f h = rw (h, f, e)
 
 module _ (a : Active) (k : WithLog) where
   pub silent : (r : Ssd1677) → a.nothing_reported ≡ true → r ≡ on a a.range_reported true k.device
-      → with_byte (with_log r k.log) Nothing ≡ nothing_read a k
+      → with_byte (with_log r k.log) None ≡ nothing_read a k
   unfolding nothing_read
   silent r h e = rw (h, e)
 
   pub tells : (n : WithLog) (r : Ssd1677) → a.nothing_reported ≡ false → n ≡ logged (NothingToRead a.command) k
-      → r ≡ on a a.range_reported true n.device → with_byte (with_log r n.log) Nothing ≡ nothing_read a k
+      → r ≡ on a a.range_reported true n.device → with_byte (with_log r n.log) None ≡ nothing_read a k
   unfolding nothing_read
   tells n r h e f = rw (h, f, e)
 
-  pub gives : (busy : Bool) (b : Byte) (r : Ssd1677) → busy ≡ busy_at k.device.bus k.device.now
+  pub gives : (busy : Bool) (b : Option ℕ) (r : Ssd1677) → busy ≡ busy_at k.device.bus k.device.now
       → b ≡ read_register k.device.regs k.device.status busy a.command a.read
       → r ≡ on a a.range_reported a.nothing_reported k.device → with_byte (with_log r k.log) b ≡ register_read a k
   unfolding register_read
   gives busy b r e f h = rw (f, e, h)
 
-  pub finds : (b : Byte) (value : ℕ) (m r : Ssd1677) → b ≡ Is value → m ≡ counter_stepped k.device
-      → r ≡ on a a.range_reported a.nothing_reported m → with_byte (with_log r k.log) (Is value) ≡ ram_found a k b
+  pub finds : (b : Option ℕ) (value : ℕ) (m r : Ssd1677) → b ≡ Some value → m ≡ counter_stepped k.device
+      → r ≡ on a a.range_reported a.nothing_reported m → with_byte (with_log r k.log) (Some value) ≡ ram_found a k b
   unfolding ram_found
   finds b value m r h e f = rw (h, f, e)
 
-  pub finds_none : (b : Byte) (n : WithLog) (m r : Ssd1677) → b ≡ Nothing → n ≡ out_of_range a k → m ≡ counter_stepped n.device
-      → r ≡ on a true a.nothing_reported m → with_byte (with_log r n.log) Nothing ≡ ram_found a k b
+  pub finds_none : (b : Option ℕ) (n : WithLog) (m r : Ssd1677) → b ≡ None → n ≡ out_of_range a k → m ≡ counter_stepped n.device
+      → r ≡ on a true a.nothing_reported m → with_byte (with_log r n.log) None ≡ ram_found a k b
   unfolding ram_found
   finds_none b n m r h e f g = rw (h, g, f, e)
 
   module _ (black_white red : List ℕ) where
     pub dummy : (r : Ssd1677) → a.read ≡ 0 → r ≡ on a a.range_reported a.nothing_reported k.device
-        → with_byte (with_log r k.log) (Is 0) ≡ ram_read black_white red a k
+        → with_byte (with_log r k.log) (Some 0) ≡ ram_read black_white red a k
     unfolding ram_read
     dummy r h e = rw (eq-eqb a.read 0 h, e)
 
-    pub reads_ram : (b : Byte) (z : WithByte) → (a.read ≡ 0 → ⊥)
+    pub reads_ram : (b : Option ℕ) (z : WithByte) → (a.read ≡ 0 → ⊥)
         → b ≡ read_at (plane_of black_white red (chosen k.device)) k.device.regs.counter → z ≡ ram_found a k b → z ≡ ram_read black_white red a k
     unfolding ram_read
     reads_ram b z h g i = rw (ne_eqb a.read 0 h, ← g) i
@@ -82,7 +81,7 @@ module _ (a : Active) (k : WithLog) where
     unfolding byte_read
     is_register z h e = rw (ne_eqb a.command 0x27 h) e
 
-module _ (black_white red : List ℕ) (d : Ssd1677) (b : Byte) where
+module _ (black_white red : List ℕ) (d : Ssd1677) (b : Option ℕ) where
   pub of_red : d.regs.read_ram_red ≡ true → b ≡ read_at red d.regs.counter → b ≡ read_at (plane_of black_white red (chosen d)) d.regs.counter
   of_red h e = rw h e
 
@@ -91,11 +90,11 @@ module _ (black_white red : List ℕ) (d : Ssd1677) (b : Byte) where
   of_black_white h e = rw h e
 
 module _ (black_white red : List ℕ) (k : WithLog) (z : WithByte) (c : Current) where
-  pub is_idle : c ≡ current.Idle → with_byte k Nothing ≡ by_current black_white red k c
+  pub is_idle : c ≡ current.Idle → with_byte k None ≡ by_current black_white red k c
   unfolding by_current
   is_idle h = rw h
 
-  pub is_ignored : c ≡ current.Ignoring → with_byte k Nothing ≡ by_current black_white red k c
+  pub is_ignored : c ≡ current.Ignoring → with_byte k None ≡ by_current black_white red k c
   unfolding by_current
   is_ignored h = rw h
 
@@ -125,10 +124,10 @@ module _ (black_white red : List ℕ) (k : WithLog) (z : WithByte) (p : Power) w
   unfolding read_taken
   runs h e = rw h e
 
-  pub sleeps : p ≡ Asleep → with_byte k Nothing ≡ read_taken black_white red k p
+  pub sleeps : p ≡ Asleep → with_byte k None ≡ read_taken black_white red k p
   unfolding read_taken
   sleeps h = rw h
 
-  pub in_reset_is : p ≡ InReset → with_byte k Nothing ≡ read_taken black_white red k p
+  pub in_reset_is : p ≡ InReset → with_byte k None ≡ read_taken black_white red k p
   unfolding read_taken
   in_reset_is h = rw h

@@ -10,20 +10,19 @@ ghost use Rattle.reading.specs.Reading.{with_byte, one_read_more, nothing_read, 
 
 use device::{Active, Current, Kind, Power, Ssd1677, part};
 use diagnostic::DiagnosticKind;
-use ram::Byte;
 
 // The state that a read leaves, and the byte: none when the chip drives nothing.
 #[derive(Clone, Copy)]
 pub struct Reading {
     pub state: Ssd1677,
-    pub byte: Byte,
+    pub byte: Option<u8>,
 }
 
 // The command with one read more, and what it has reported.
 fn count(active: Active, range: bool, nothing: bool) -> Active
     ensures { result ≡ one_read_more active range nothing }
 {
-    let read = numbers::saturating_add_u16(active.read, 1);
+    let read = active.read.saturating_add(1);
     let mut next = active;
     next.read = read;
     next.range_reported = range;
@@ -46,7 +45,7 @@ fn read_nothing(state: Ssd1677, log: &mut [u8], active: Active) -> Reading
     ensures { with_byte (with_log result.state log.new) result.byte ≡ nothing_read active (with_log state log.old) }
 {
     let range = active.range_reported;
-    let byte = Byte::Nothing;
+    let byte = None;
     if active.nothing_reported {
         let state = go_on(state, active, range, true);
         return Reading { state, byte };
@@ -84,31 +83,31 @@ fn step(state: Ssd1677) -> Ssd1677
 }
 
 // What the RAM has at the counter, which steps in either case.
-fn found(state: Ssd1677, log: &mut [u8], active: Active, byte: Byte) -> Reading
+fn found(state: Ssd1677, log: &mut [u8], active: Active, byte: Option<u8>) -> Reading
     requires { length log.old ≡ 16384 }
     ensures { with_byte (with_log result.state log.new) result.byte ≡ ram_found active (with_log state log.old) byte }
 {
     let nothing = active.nothing_reported;
     match byte {
-        Byte::Is(value) => {
+        Some(value) => {
             let moved = step(state);
             let range = active.range_reported;
             let state = go_on(moved, active, range, nothing);
-            let byte = Byte::Is(value);
+            let byte = Some(value);
             Reading { state, byte }
         }
-        Byte::Nothing => {
+        None => {
             let noted = data::report_range(state, log, active);
             let moved = step(noted);
             let state = go_on(moved, active, true, nothing);
-            let byte = Byte::Nothing;
+            let byte = None;
             Reading { state, byte }
         }
     }
 }
 
 // The RAM at the counter, of the plane that 0x41 chose.
-fn ram_byte(state: Ssd1677, black_white: &[u8], red: &[u8]) -> Byte
+fn ram_byte(state: Ssd1677, black_white: &[u8], red: &[u8]) -> Option<u8>
     ensures { result ≡ read_at (plane_of black_white.now red.now (chosen state)) state.regs.counter }
 {
     let at = state.regs.counter;
@@ -133,7 +132,7 @@ fn read_ram(
         let range = active.range_reported;
         let nothing = active.nothing_reported;
         let state = go_on(state, active, range, nothing);
-        let byte = Byte::Is(0x00);
+        let byte = Some(0x00);
         return Reading { state, byte };
     }
     let byte = ram_byte(state, black_white, red);
@@ -164,7 +163,7 @@ fn of_current(state: Ssd1677, black_white: &[u8], red: &[u8], log: &mut [u8]) ->
 {
     let bus = state.bus;
     let current = bus.current;
-    let byte = Byte::Nothing;
+    let byte = None;
     match current {
         Current::Active(active) => {
             let kind = active.kind;
@@ -187,7 +186,7 @@ pub fn read(state: Ssd1677, black_white: &[u8], red: &[u8], log: &mut [u8]) -> R
 {
     let bus = state.bus;
     let power = bus.power;
-    let byte = Byte::Nothing;
+    let byte = None;
     match power {
         Power::Running => of_current(state, black_white, red, log),
         Power::Asleep => Reading { state, byte },

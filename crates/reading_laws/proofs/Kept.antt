@@ -1,13 +1,12 @@
 -- What a read leaves: configuration, clock, glass, display, supplies, BUSY and power; the log's length, its count at most 1,024, registers within
 -- the bounds of 13, and of the current command all that `kind` goes by. Assumes nothing.
+use Rattle.std.specs.Prelude.{Option, Some, None}
 use Prim.Native.Nat.{ℕ}
 use mathlib.Core.Path.{◌≡◌, refl, subst, sym, ◌∙◌}
 use mathlib.Core.Bool.{Bool, true, false}
 use mathlib.Core.List.{List}
 use lib.Dec.{eqb}
 use Rattle.numbers.specs.Choice.{pick}
-use Rattle.ram.specs.declared.Byte.{Byte}
-use Rattle.ram.specs.declared.Byte.TheVariants.{Is, Nothing}
 use Rattle.ram.specs.Plane.{plane_of, read_at}
 use Rattle.diagnostic.specs.declared.DiagnosticKind.{DiagnosticKind}
 use Rattle.diagnostic.specs.declared.DiagnosticKind.TheVariants.{RamOutOfRange, NothingToRead}
@@ -95,14 +94,14 @@ module _ (a : Active) (k : WithLog) where
       leaves_then k (moved j) (reading_on a range a.nothing_reported (moved j)) (leaves_then k j (moved j) p (leaves_moved j))
       (leaves_going a range a.nothing_reported (moved j))
 
-  leaves_found : (b : Byte) → ReadLeaves k (ram_found a k b).left
+  leaves_found : (b : Option ℕ) → ReadLeaves k (ram_found a k b).left
   unfolding ram_found
-  leaves_found (Is b) = leaves_on a.range_reported k (leaves_all k)
-  leaves_found Nothing = leaves_on true (out_of_range a k) leaves_out
+  leaves_found (Some b) = leaves_on a.range_reported k (leaves_all k)
+  leaves_found None = leaves_on true (out_of_range a k) leaves_out
 
   module _ (black_white red : List ℕ) where
     -- what the RAM has at the counter
-    abbrev there : Byte
+    abbrev there : Option ℕ
     there = read_at (plane_of black_white red (chosen k.device)) k.device.regs.counter
 
     leaves_ram : ReadLeaves k (ram_read black_white red a k).left
@@ -110,7 +109,7 @@ module _ (a : Active) (k : WithLog) where
     leaves_ram = by (eqb a.read 0)
       where
         by : (b : Bool)
-            → ReadLeaves k (pick b (with_byte (reading_on a a.range_reported a.nothing_reported k) (Is 0)) (ram_found a k there)).left
+            → ReadLeaves k (pick b (with_byte (reading_on a a.range_reported a.nothing_reported k) (Some 0)) (ram_found a k there)).left
         by true = leaves_going a a.range_reported a.nothing_reported k
         by false = leaves_found there
 
@@ -153,10 +152,10 @@ module _ (P : Current → Type 0) (on : (a : Active) (range nothing : Bool) → 
     unfolding nothing_read
     still_nothing = on a a.range_reported true h
 
-    still_found : (b : Byte) → Still (ram_found a k b)
+    still_found : (b : Option ℕ) → Still (ram_found a k b)
     unfolding ram_found
-    still_found (Is b) = on a a.range_reported a.nothing_reported h
-    still_found Nothing = on a true a.nothing_reported h
+    still_found (Some b) = on a a.range_reported a.nothing_reported h
+    still_found None = on a true a.nothing_reported h
 
     still_ram : Still (ram_read black_white red a k)
     unfolding ram_read
@@ -165,7 +164,7 @@ module _ (P : Current → Type 0) (on : (a : Active) (range nothing : Bool) → 
         by : (b : Bool)
             → Still
             (pick b
-            (with_byte (reading_on a a.range_reported a.nothing_reported k) (Is 0))
+            (with_byte (reading_on a a.range_reported a.nothing_reported k) (Some 0))
             (ram_found a k (read_at (plane_of black_white red (chosen k.device)) k.device.regs.counter)))
         by true = on a a.range_reported a.nothing_reported h
         by false = still_found (read_at (plane_of black_white red (chosen k.device)) k.device.regs.counter)

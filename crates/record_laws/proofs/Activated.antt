@@ -1,5 +1,6 @@
 -- 0x20 and the record of the waveform loaded: what a LUT load finds is in the LUT register and in the record afterwards, and without one both
 -- are as they were. So the record still tells what the LUT register holds. Assumes nothing.
+use Rattle.std.specs.Prelude.{Option, Some, None}
 use Prim.Native.Nat.{ℕ}
 use mathlib.Core.Path.{◌≡◌, refl, sym, subst}
 use mathlib.Core.Bool.{Bool, true, false, ◌&&◌}
@@ -9,8 +10,6 @@ use lib.ListN.{get_or}
 use Rattle.numbers.specs.Choice.{pick, bit_of}
 use Rattle.diagnostic.specs.declared.DiagnosticKind.TheVariants.{WithoutClock, WithoutAnalog, RamPingPong}
 use Rattle.diagnostic.specs.declared.Stage.TheVariants as stage
-use Rattle.otp.specs.declared.FoundEntry.{FoundEntry}
-use Rattle.otp.specs.declared.FoundEntry.TheVariants.{At, Nothing}
 use Rattle.otp.specs.Waveform.{part_of}
 use Rattle.otp.proofs.Found.{found_is}
 use Rattle.device.specs.declared.Registers.{Registers}
@@ -104,21 +103,21 @@ module _ (k : Lent) (w : WithBuffers) where
   -- a load that finds an entry leaves its setting in the LUT register and its number in the record; the temperature register as the activation
   -- leaves it is the one that was asked
   pub found_activated : (entry : ℕ) → loads control w.device.clock ≡ true
-      → finds k.otp control (activated k w).device.regs.temperature ≡ At entry
-      → ((activated k w).device.regs.lut ≡ setting_in (part_of k.otp (At entry))) × ((activated k w).device.regs.waveform ≡ entry)
+      → finds k.otp control (activated k w).device.regs.temperature ≡ Some entry
+      → ((activated k w).device.regs.lut ≡ setting_in (part_of k.otp (Some entry))) × ((activated k w).device.regs.waveform ≡ entry)
   found_activated entry h =
       activated_after
       (λ temperature lut waveform.
-      finds k.otp control temperature ≡ At entry → (lut ≡ setting_in (part_of k.otp (At entry))) × (waveform ≡ entry))
+      finds k.otp control temperature ≡ Some entry → (lut ≡ setting_in (part_of k.otp (Some entry))) × (waveform ≡ entry))
       (found_before w.device.now control w.device.regs.sensor w.device.config k.otp (step (run_of w.device) w.log) entry h)
 
   -- a load that finds none leaves both as they were, and so does an activation without a load
-  pub none_activated : (loads control w.device.clock ≡ false) ⊎ (finds k.otp control (activated k w).device.regs.temperature ≡ Nothing)
+  pub none_activated : (loads control w.device.clock ≡ false) ⊎ (finds k.otp control (activated k w).device.regs.temperature ≡ None)
       → ((activated k w).device.regs.lut ≡ w.device.regs.lut) × ((activated k w).device.regs.waveform ≡ w.device.regs.waveform)
   none_activated =
       activated_after
       (λ temperature lut waveform.
-      (loads control w.device.clock ≡ false) ⊎ (finds k.otp control temperature ≡ Nothing)
+      (loads control w.device.clock ≡ false) ⊎ (finds k.otp control temperature ≡ None)
       → (lut ≡ w.device.regs.lut) × (waveform ≡ w.device.regs.waveform))
       (none_before w.device.now control w.device.regs.sensor w.device.config k.otp (step (run_of w.device) w.log))
 
@@ -126,11 +125,11 @@ module _ (k : Lent) (w : WithBuffers) where
   pub activated_recorded : RecordedIn k.otp w.device.regs → RecordedIn k.otp (activated k w).device.regs
   activated_recorded h = by (loads control w.device.clock) (finds k.otp control (activated k w).device.regs.temperature) refl refl
     where
-      by : (b : Bool) (e : FoundEntry) → loads control w.device.clock ≡ b → finds k.otp control (activated k w).device.regs.temperature ≡ e
+      by : (b : Bool) (e : Option ℕ) → loads control w.device.clock ≡ b → finds k.otp control (activated k w).device.regs.temperature ≡ e
           → RecordedIn k.otp (activated k w).device.regs
-      by true (At entry) l e =
+      by true (Some entry) l e =
           let register = (activated k w).device.regs.temperature in
           let f = found_activated entry l e in
           rw (f.0, f.1) (λ _. is_entry k.otp entry (found_is k.otp (mode_of control.mode_two) register entry e).within)
-      by true Nothing l e = let n = none_activated (inr e) in rw (n.0, n.1) h
+      by true None l e = let n = none_activated (inr e) in rw (n.0, n.1) h
       by false e l _ = let n = none_activated (inl l) in rw (n.0, n.1) h

@@ -1,5 +1,6 @@
 -- The stages of an activation up to its display: a load that finds an entry leaves its setting in the LUT register and its number in the
 -- record, and nothing else touches either. Assumes nothing.
+use Rattle.std.specs.Prelude.{Option, Some, None}
 use Prim.Native.Nat.{ℕ, ◌+◌, ◌*◌, ◌%◌, ◌<◌}
 use mathlib.Core.Path.{◌≡◌, refl, ◌∙◌}
 use mathlib.Core.Bool.{Bool, true, false, ◌&&◌, ◌||◌, not, true≢false, false≢true}
@@ -13,11 +14,8 @@ use borrow.Author.Tests.{eq-eqb}
 use Rattle.numbers.specs.Choice.{pick}
 use Rattle.config.specs.declared.Ssd1677Config.{Ssd1677Config}
 use Rattle.config.specs.declared.DisplayMode.{DisplayMode}
-use Rattle.config.specs.declared.ExternalSensor.{ExternalSensor}
-use Rattle.config.specs.declared.ExternalSensor.TheVariants.{Absent, Reads}
 use Rattle.diagnostic.specs.declared.DiagnosticKind.TheVariants.{WithoutClock, NoWaveform}
 use Rattle.diagnostic.specs.declared.Stage.TheVariants.{AnalogOn, TemperatureLoad, LutLoad}
-use Rattle.otp.specs.declared.FoundEntry.TheVariants.{At, Nothing}
 use Rattle.otp.specs.Table.{entry_bytes, entry_count}
 use Rattle.otp.specs.Waveform.{found_entry, part_of}
 use Rattle.otp.proofs.Found.{found_is}
@@ -29,17 +27,17 @@ use Rattle.stages_laws.proofs.Kept.{either}
 use Rattle.record_laws.specs.Recorded.{IsEntry, loads, finds}
 
 module _ (otp : List ℕ) (entry : ℕ) (l : entry < entry_count otp) where
-  entry_whole : length (part_of otp (At entry)) ≡ entry_bytes
+  entry_whole : length (part_of otp (Some entry)) ≡ entry_bytes
   entry_whole = simp (length-take, length-drop) (omega arith)
 
   -- an entry's setting has its 112 bytes
-  pub is_entry : IsEntry otp (setting_in (part_of otp (At entry))) entry
+  pub is_entry : IsEntry otp (setting_in (part_of otp (Some entry))) entry
   is_entry =
       record {
         within = l;
         bytes = λ i b _.
-            get_or-take 112 (drop 6 (part_of otp (At entry))) i 0 (omega arith)
-            ∙ get_or-drop 6 (part_of otp (At entry)) i 0
+            get_or-take 112 (drop 6 (part_of otp (Some entry))) i 0 (omega arith)
+            ∙ get_or-drop 6 (part_of otp (Some entry)) i 0
             ∙ get_or-take entry_bytes (drop (entry_bytes * entry) otp) (6 + i) 0 (omega arith)
             ∙ get_or-drop (entry_bytes * entry) otp (6 + i) 0;
       }
@@ -70,12 +68,12 @@ module _ (P : Bool → List ℕ → ℕ → Type 0) where
         let off = noted time (WithoutClock AnalogOn) s in
         either Before (wanted && not s.run.analog) (pick s.run.clock on off) s (either Before s.run.clock on off h h) h
 
-    external_before : (ns : ℕ) (external : ExternalSensor) (s : Step) → Before s → Before (by_external time ns external s)
+    external_before : (ns : ℕ) (external : Option ℕ) (s : Step) → Before s → Before (by_external time ns external s)
     unfolding waited noted
-    external_before ns (Reads register) s h = h
-    external_before ns Absent s h = h
+    external_before ns (Some register) s h = h
+    external_before ns None s h = h
 
-    sensed_before : (sensor : ℕ) (config : Ssd1677Config) (external : ExternalSensor) (s : Step) → Before s
+    sensed_before : (sensor : ℕ) (config : Ssd1677Config) (external : Option ℕ) (s : Step) → Before s
         → Before (sensed time sensor config external s)
     unfolding sensed waited
     sensed_before sensor config external s h =
@@ -98,15 +96,15 @@ module _ (P : Bool → List ℕ → ℕ → Type 0) where
 -- ---- the load
 module _ (time : ℕ) (mode : DisplayMode) (otp : List ℕ) (s : Step) where
   -- the entry found is the LUT register and the record
-  pub found_loaded : (entry : ℕ) → found_entry otp mode s.run.temperature ≡ At entry
-      → ((lut_found time mode otp s).run.lut ≡ setting_in (part_of otp (At entry))) × ((lut_found time mode otp s).run.waveform ≡ entry)
+  pub found_loaded : (entry : ℕ) → found_entry otp mode s.run.temperature ≡ Some entry
+      → ((lut_found time mode otp s).run.lut ≡ setting_in (part_of otp (Some entry))) × ((lut_found time mode otp s).run.waveform ≡ entry)
   unfolding lut_found
   found_loaded entry e =
       let whole = entry_whole otp entry (found_is otp mode s.run.temperature entry e).within in
-      rw (e, eq-eqb (length (part_of otp (At entry))) entry_bytes whole) (refl, refl)
+      rw (e, eq-eqb (length (part_of otp (Some entry))) entry_bytes whole) (refl, refl)
 
   -- where none is found both stay as they were
-  pub none_loaded : found_entry otp mode s.run.temperature ≡ Nothing
+  pub none_loaded : found_entry otp mode s.run.temperature ≡ None
       → ((lut_found time mode otp s).run.lut ≡ s.run.lut) × ((lut_found time mode otp s).run.waveform ≡ s.run.waveform)
   unfolding lut_found noted
   none_loaded e = rw e (refl, refl)
@@ -127,23 +125,23 @@ module _ (time : ℕ) (mode : DisplayMode) (otp : List ℕ) (s : Step) where
     abbrev byTests : Bool → Bool → Step
     byTests asks runs = pick asks (pick runs (through (waited ns) (lut_found time mode otp s)) (noted time (WithoutClock LutLoad) s)) s
 
-    found_stage : (entry : ℕ) → wanted && s.run.clock ≡ true → found_entry otp mode (lut_loaded time wanted mode otp ns s).run.temperature ≡ At entry
-        → ((lut_loaded time wanted mode otp ns s).run.lut ≡ setting_in (part_of otp (At entry))) × ((lut_loaded time wanted mode otp ns s).run.waveform ≡ entry)
+    found_stage : (entry : ℕ) → wanted && s.run.clock ≡ true → found_entry otp mode (lut_loaded time wanted mode otp ns s).run.temperature ≡ Some entry
+        → ((lut_loaded time wanted mode otp ns s).run.lut ≡ setting_in (part_of otp (Some entry))) × ((lut_loaded time wanted mode otp ns s).run.waveform ≡ entry)
     unfolding lut_loaded waited
     found_stage entry = by wanted s.run.clock
       where
-        by : (asks runs : Bool) → asks && runs ≡ true → found_entry otp mode (byTests asks runs).run.temperature ≡ At entry
-            → ((byTests asks runs).run.lut ≡ setting_in (part_of otp (At entry))) × ((byTests asks runs).run.waveform ≡ entry)
+        by : (asks runs : Bool) → asks && runs ≡ true → found_entry otp mode (byTests asks runs).run.temperature ≡ Some entry
+            → ((byTests asks runs).run.lut ≡ setting_in (part_of otp (Some entry))) × ((byTests asks runs).run.waveform ≡ entry)
         by true true h e = found_loaded entry (rw asked_found at e)
         by true false h e = absurd (false≢true h)
         by false runs h e = absurd (false≢true h)
 
-    none_stage : (wanted && s.run.clock ≡ false) ⊎ (found_entry otp mode (lut_loaded time wanted mode otp ns s).run.temperature ≡ Nothing)
+    none_stage : (wanted && s.run.clock ≡ false) ⊎ (found_entry otp mode (lut_loaded time wanted mode otp ns s).run.temperature ≡ None)
         → ((lut_loaded time wanted mode otp ns s).run.lut ≡ s.run.lut) × ((lut_loaded time wanted mode otp ns s).run.waveform ≡ s.run.waveform)
     unfolding lut_loaded waited noted
     none_stage = by wanted s.run.clock
       where
-        by : (asks runs : Bool) → (asks && runs ≡ false) ⊎ (found_entry otp mode (byTests asks runs).run.temperature ≡ Nothing)
+        by : (asks runs : Bool) → (asks && runs ≡ false) ⊎ (found_entry otp mode (byTests asks runs).run.temperature ≡ None)
             → ((byTests asks runs).run.lut ≡ s.run.lut) × ((byTests asks runs).run.waveform ≡ s.run.waveform)
         by true true (inl h) = absurd (true≢false h)
         by true true (inr e) = none_loaded (rw asked_found at e)
@@ -176,13 +174,13 @@ module _ (time : ℕ) (control : Control) (sensor : ℕ) (config : Ssd1677Config
   ready_kept = ready_before (λ clock lut waveform. (lut ≡ s.run.lut) × (waveform ≡ s.run.waveform)) (refl, refl)
 
   pub found_before : (entry : ℕ) → loads control s.run.clock ≡ true
-      → finds otp control (loaded time control sensor config otp s).run.temperature ≡ At entry
-      → ((loaded time control sensor config otp s).run.lut ≡ setting_in (part_of otp (At entry))) × ((loaded time control sensor config otp s).run.waveform ≡ entry)
+      → finds otp control (loaded time control sensor config otp s).run.temperature ≡ Some entry
+      → ((loaded time control sensor config otp s).run.lut ≡ setting_in (part_of otp (Some entry))) × ((loaded time control sensor config otp s).run.waveform ≡ entry)
   unfolding loaded
   found_before entry h =
       found_stage time (mode_of control.mode_two) otp ready control.load_lut config.timing.lut_load entry (rw ready_clock h)
 
-  pub none_before : (loads control s.run.clock ≡ false) ⊎ (finds otp control (loaded time control sensor config otp s).run.temperature ≡ Nothing)
+  pub none_before : (loads control s.run.clock ≡ false) ⊎ (finds otp control (loaded time control sensor config otp s).run.temperature ≡ None)
       → ((loaded time control sensor config otp s).run.lut ≡ s.run.lut) × ((loaded time control sensor config otp s).run.waveform ≡ s.run.waveform)
   unfolding loaded
   none_before h =

@@ -1,9 +1,8 @@
 -- A read leaves a record that tells what the LUT register holds. Assumes nothing.
+use Rattle.std.specs.Prelude.{Option, Some, None}
 use Prim.Native.Nat.{ℕ}
 use mathlib.Core.List.{List}
 use lib.Dec.{eqb}
-use Rattle.ram.specs.declared.Byte.{Byte}
-use Rattle.ram.specs.declared.Byte.TheVariants.{Is, Nothing}
 use Rattle.ram.specs.Plane.{plane_of, read_at}
 use Rattle.diagnostic.specs.declared.DiagnosticKind.TheVariants.{NothingToRead}
 use Rattle.device.specs.declared.Active.{Active}
@@ -33,20 +32,20 @@ module _ (otp : List ℕ) where
     unfolding register_read
     register_read_recorded = h
 
-    found_recorded : (b : Byte) → RecordedRead (ram_found a k b)
+    found_recorded : (b : Option ℕ) → RecordedRead (ram_found a k b)
     unfolding ram_found
-    found_recorded (Is b) = h
-    found_recorded Nothing = out_recorded otp a k h
+    found_recorded (Some b) = h
+    found_recorded None = out_recorded otp a k h
 
     module _ (black_white red : List ℕ) where
       -- what the RAM has at the counter
-      abbrev there : Byte
+      abbrev there : Option ℕ
       there = read_at (plane_of black_white red (chosen k.device)) k.device.regs.counter
 
       ram_read_recorded : RecordedRead (ram_read black_white red a k)
       unfolding ram_read
       ram_read_recorded =
-          either RecordedRead (eqb a.read 0) (with_byte (reading_on a a.range_reported a.nothing_reported k) (Is 0)) (ram_found a k there) h
+          either RecordedRead (eqb a.read 0) (with_byte (reading_on a a.range_reported a.nothing_reported k) (Some 0)) (ram_found a k there) h
           (found_recorded there)
 
       byte_recorded : RecordedRead (byte_read black_white red a k)

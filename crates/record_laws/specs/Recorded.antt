@@ -1,6 +1,5 @@
 -- The record of the waveform loaded: what it says of the LUT register, and when a load sets it (SCOPE, Grey counts; #108).
-use Rattle.std.specs.Prelude.{ℕ, ◌<◌, ◌≤◌, ◌≡◌, Bool, ◌&&◌, ◌||◌, List, get_or}
-use Rattle.otp.specs.declared.FoundEntry.{FoundEntry}
+use Rattle.std.specs.Prelude.{ℕ, ◌<◌, ◌≤◌, ◌≡◌, Bool, ◌&&◌, ◌||◌, List, get_or, Option}
 use Rattle.otp.specs.Table.{entry_count, setting_at}
 use Rattle.otp.specs.Waveform.{found_entry}
 use Rattle.stages.specs.declared.Control.{Control}
@@ -24,5 +23,5 @@ abbrev pub loads : Control → Bool → Bool
 loads control clock = control.load_lut && (clock || control.clock_on)
 
 -- the entry that such a load finds with that temperature register
-abbrev pub finds : List ℕ → Control → ℕ → FoundEntry
+abbrev pub finds : List ℕ → Control → ℕ → Option ℕ
 finds otp control register = found_entry otp (mode_of control.mode_two) register

@@ -79,11 +79,9 @@ fn report_all(log: &mut [u8]) -> Journal
         dropped: 0,
         reserved_reported: false,
     };
-    let mut turn: u64 = 0;
-    while turn < 1100 {
+    for turn in 0..1100 {
         let time = 18446744073709551615 / (turn + 1);
         journal = diagnostic_log::report(journal, &mut log[..], time, kind_of(turn));
-        turn += 1;
     }
     journal
 }

@@ -1,4 +1,5 @@
 -- Where each setting is found: as the ranges of the table say, at every register. Assumes nothing.
+use Rattle.std.specs.Prelude.{Some, None}
 use mathlib.Core.Path.{◌≡◌, refl, ◌∙◌}
 use mathlib.Core.Bool.{Bool, true, false, ◌&&◌, ◌||◌}
 use Prim.Native.Nat.{ℕ, ◌%◌}
@@ -14,7 +15,6 @@ use Rattle.config.specs.declared.DisplayMode.TheVariants.{One, Two}
 use Rattle.config.specs.Mode.{mode_number}
 use Rattle.config.specs.Temperature.{warmest, sixteenths_of, register_of}
 use Rattle.config.proofs.Registers.{ranged, above_coldest}
-use Rattle.otp.specs.declared.FoundEntry.TheVariants.{At, Nothing}
 use Rattle.otp.specs.Table.{entry_count, mode_at, lower_at, upper_at, bad_entry, bad_table}
 use Rattle.otp.specs.Search.{any_of, last_of}
 use Rattle.otp.specs.Waveform.{is_coldest, reaches, covers, found_entry}
@@ -55,7 +55,7 @@ module _ (mode : DisplayMode) (register : ℕ) where
   covered s = rw (s.mode_is, s.lower_is, s.upper_is)
 
   taken : found_entry reference_table mode register
-      ≡ pick (holds 1 0x800 warmest.0) (At 2) (pick (holds 0 800 warmest.0) (At 1) (pick (holds 0 0x800 (celsius 50)) (At 0) Nothing))
+      ≡ pick (holds 1 0x800 warmest.0) (Some 2) (pick (holds 0 800 warmest.0) (Some 1) (pick (holds 0 0x800 (celsius 50)) (Some 0) None))
   unfolding found_entry last_of
   taken = rw (table_fine, three, covered third, covered second, covered first)
 
@@ -83,11 +83,11 @@ module _ (register : ℕ) where
       or_false false = refl
 
 module _ (t : ℤ) (top : Le t (pos 2047)) where
-  by_one : pick (lt_z (pos 800) t && le_z t (pos 2047)) (At 1) (pick (le_z t (pos 800)) (At 0) Nothing) ≡ setting_for One t
+  by_one : pick (lt_z (pos 800) t && le_z t (pos 2047)) (Some 1) (pick (le_z t (pos 800)) (Some 0) None) ≡ setting_for One t
   by_one = by (lt_z (pos 800) t) refl
     where
       by : (a : Bool) → lt_z (pos 800) t ≡ a
-          → pick (lt_z (pos 800) t && le_z t (pos 2047)) (At 1) (pick (le_z t (pos 800)) (At 0) Nothing) ≡ setting_for One t
+          → pick (lt_z (pos 800) t && le_z t (pos 2047)) (Some 1) (pick (le_z t (pos 800)) (Some 0) None) ≡ setting_for One t
       by true e = rw (e, is_le t (pos 2047) top, not_le t (pos 800) (omega whole))
       by false e = rw (e, is_le t (pos 800) (omega whole))
 

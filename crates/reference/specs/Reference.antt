@@ -1,5 +1,5 @@
 -- The reference waveforms for the OTP of a GDEQ0426T82, as the table of reference.rs gives them.
-use Rattle.std.specs.Prelude.{List, [], ◌∷◌, ◌++◌, ℕ, ◌*◌, ◌-◌, ◌/◌, ◌%◌, ltb, ℤ, pos, ◌*ℤ◌, get_or, replicate}
+use Rattle.std.specs.Prelude.{List, [], ◌∷◌, ◌++◌, ℕ, ◌*◌, ◌-◌, ◌/◌, ◌%◌, ltb, ℤ, pos, ◌*ℤ◌, get_or, replicate, Option, Some}
 use Rattle.std.specs.Int.Signed.{le_z}
 use Rattle.numbers.specs.Choice.{pick}
 use Rattle.numbers.specs.Lists.{tab}
@@ -7,8 +7,6 @@ use Rattle.config.specs.declared.DisplayMode.{DisplayMode}
 use Rattle.config.specs.declared.DisplayMode.TheVariants.{One, Two}
 use Rattle.config.specs.Mode.{mode_number}
 use Rattle.config.specs.Temperature.{coldest, warmest, register_of}
-use Rattle.otp.specs.declared.FoundEntry.{FoundEntry}
-use Rattle.otp.specs.declared.FoundEntry.TheVariants.{At}
 
 -- a line of the table: the mode, the range, for each group the frames of phase A and those of phase B at VSS, and phase A's codes of LUT0 to LUT3
 pub record Setting : Type 0 where
@@ -113,6 +111,6 @@ unfoldable pub reference_table : List ℕ
 reference_table = entry_of full ++ entry_of warm ++ entry_of differential
 
 -- the table's ranges: mode 1 has setting 0 up to 50 °C and setting 1 above, and mode 2 has setting 2, −128 °C among them (#107)
-abbrev pub setting_for : DisplayMode → ℤ → FoundEntry
-setting_for One t = pick (le_z t (celsius 50)) (At 0) (At 1)
-setting_for Two t = At 2
+abbrev pub setting_for : DisplayMode → ℤ → Option ℕ
+setting_for One t = pick (le_z t (celsius 50)) (Some 0) (Some 1)
+setting_for Two t = Some 2

@@ -1,9 +1,7 @@
 -- What the read commands give, byte after byte (datasheet Table 7-1, as mod.rs has it in `read_byte`); 0x27 reads the RAM.
-use Rattle.std.specs.Prelude.{Bool, List, [], ◌∷◌, ℕ, ◌+◌, ◌*◌, ◌/◌, ◌%◌, ltb, get_or, drop}
+use Rattle.std.specs.Prelude.{Bool, List, [], ◌∷◌, ℕ, ◌+◌, ◌*◌, ◌/◌, ◌%◌, ltb, get_or, drop, Option, Some, None}
 use Rattle.numbers.specs.Choice.{pick}
 use Rattle.numbers.specs.Rows.{TableRow, lookup}
-use Rattle.ram.specs.declared.Byte.{Byte}
-use Rattle.ram.specs.declared.Byte.TheVariants.{Is, Nothing}
 use Rattle.device.specs.declared.Registers.{Registers}
 use Rattle.device.specs.declared.Status.{Status}
 
@@ -17,8 +15,8 @@ abbrev pub answer : ℕ → List ℕ → ReadBytes
 answer count bytes = record { count = count; bytes = bytes }
 
 -- byte `index` of an answer; past its end there is none
-abbrev pub byte_of : ReadBytes → ℕ → Byte
-byte_of a index = pick (ltb index a.count) (Is (get_or a.bytes index 0)) Nothing
+abbrev pub byte_of : ReadBytes → ℕ → Option ℕ
+byte_of a index = pick (ltb index a.count) (Some (get_or a.bytes index 0)) None
 
 -- 0x1B: A[11:4] of the temperature, then A[3:0] in the high nibble; bits above the twelve are dropped
 abbrev pub temperature_bytes : Registers → List ℕ
@@ -42,5 +40,5 @@ read_rows r s busy =
     []
 
 -- byte `index` that a command gives; any other command gives none
-unfoldable pub read_register : Registers → Status → Bool → ℕ → ℕ → Byte
+unfoldable pub read_register : Registers → Status → Bool → ℕ → ℕ → Option ℕ
 read_register r s busy command index = byte_of (lookup (answer 0 []) command (read_rows r s busy)) index

@@ -19,8 +19,8 @@ pub fn reset(user_id: [u8; 10]) -> Registers
     lut[107] = 0xA8;
     lut[108] = 0x32;
     let gate_scan = GateScan::default();
-    let entry = Entry::reset();
-    let window = Window::reset();
+    let entry = Entry::default();
+    let window = Window::default();
     let counter = Counter { x: 0, y: 0 };
     Registers {
         mux: 0x2A7,

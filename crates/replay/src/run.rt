@@ -1,81 +1,241 @@
-// A run as far as it has gone, but for the buffers.
-ghost use Rattle.std.specs.Prelude.{◌≤◌, ◌<◌};
-
+// A run: the lines that it takes, and what each does.
+use crate::answers::Answers;
+use crate::buffers::{Buffers, Lengths};
+use crate::setup::Setup;
+use crate::{dump, handed, picture};
 use device::Ssd1677;
+use event::Event;
+use guard::Refusal;
+use line::Line;
+use power_on::StartRefusal;
+use std::io;
 
-// Pixels and rows of the largest panel.
-pub const PIXELS: usize = 652800;
-
-pub const ROWS: usize = 680;
-
-// A plane and the log's 1,024 records of 16 bytes, with one byte more, and the counts of 256 greys, with one more, so that they can be lent
-// too long.
-pub const PLANE: usize = 81601;
-
-pub const LOG: usize = 16385;
-
-pub const COUNTS: usize = 257;
-
-// Places that a line can name.
-pub const OTP: usize = 10000;
-
-pub const FIELDS: usize = 54;
-
-// Buffers that a line can name: the seven of the device without its counts, the table, and the counts.
-pub const BUFFERS: usize = 9;
-
-// A buffer that no line names is lent as long as the panel asks.
-pub const RIGHT: usize = 18446744073709551615;
-
-#[derive(Clone, Copy)]
-pub struct Progress {
+#[derive(Drop)]
+pub struct Run<'a> {
+    // None before a start.
+    device: Option<Ssd1677>,
+    buffers: Buffers<'a>,
+    setup: Setup,
+    answers: Answers,
     // Lines taken.
-    pub lines: u64,
-    pub started: bool,
-    // A count waits for the next data or read line.
-    pub waits: bool,
-    pub count: u64,
-    // Bytes of the OTP as lines have set it, and of the table that the last start took.
-    pub otp: usize,
-    pub table: usize,
-    // The lengths that buffers are lent with.
-    pub lent: [usize; BUFFERS],
-    // The place of the next byte of text.
-    pub at: usize,
+    lines: u64,
+    // How often the next data or read line is made, where a line has said so.
+    repeat: Option<u64>,
     // After a bad line nothing is taken any more.
-    pub ended: bool,
+    ended: bool,
 }
 
-#[derive(Clone, Copy)]
-pub struct Run {
-    pub progress: Progress,
-    pub state: Ssd1677,
-}
-
-pub fn fresh() -> Progress {
-    Progress {
-        lines: 0,
-        started: false,
-        waits: false,
-        count: 0,
-        otp: 0,
-        table: 0,
-        lent: [RIGHT; BUFFERS],
-        at: 0,
-        ended: false,
-    }
-}
-
-// Where a part of some size ends that begins at a place, or the whole.
-pub fn part_end(at: usize, size: usize, length: usize) -> usize
-    requires { at < length }
-    ensures { (at < result) × (result ≤ length) }
-{
-    let left = length - at;
-    if 0 < size {
-        if size <= left {
-            return at + size;
+impl<'a> Run<'a> {
+    pub fn new(buffers: Buffers<'a>) -> Run<'a> {
+        Run {
+            device: None,
+            buffers,
+            setup: Setup::new(),
+            answers: Answers::new(),
+            lines: 0,
+            repeat: None,
+            ended: false,
         }
     }
-    length
+
+    // Takes a line, and writes the text when there is enough of it.
+    pub fn take(&mut self, rt: &(impl Print + Eprint), bytes: &[u8]) -> io::Result<()> {
+        if self.ended {
+            return Ok(());
+        }
+        self.answers.flush_when_long(rt)?;
+        self.lines = self.lines.saturating_add(1);
+        match line::parse(bytes) {
+            Some(line) => self.obey(rt, line),
+            None => {
+                self.answers.line(b"bad line", self.lines);
+                self.ended = true;
+                Ok(())
+            }
+        }
+    }
+
+    pub fn flush(&mut self, rt: &(impl Print + Eprint)) -> io::Result<()> {
+        self.answers.flush(rt)
+    }
+
+    fn obey(&mut self, rt: &(impl Print + Eprint), line: Line) -> io::Result<()> {
+        match line {
+            Line::Event(event) => self.event(rt, event)?,
+            Line::Repeat(count) => self.repeat = Some(count),
+            Line::Case(value) => self.case(value),
+            Line::Field(field, n) => self.setup.fields.set(field, n),
+            Line::Otp(place, byte) => self.setup.otp.set(place, byte),
+            Line::Start => self.start(),
+            Line::Lent(buffer, length) => self.setup.lend(buffer, length),
+            _ => {
+                if let Some(device) = self.device {
+                    self.ask(rt, line, device)?;
+                }
+            }
+        }
+        Ok(())
+    }
+
+    // The lines that are no events and do nothing before a start: what is asked of the device, and what the host changes in it.
+    fn ask(&mut self, rt: &(impl Print + Eprint), line: Line, device: Ssd1677) -> io::Result<()> {
+        let lengths = self.setup.lengths(device.config.panel);
+        match line {
+            Line::Query(time) => self.query(device, time),
+            Line::Dump => dump::put(&mut self.answers, &device, &self.buffers.hashes(&lengths)),
+            Line::Ambient(register) => self.set_ambient(device, register),
+            Line::TakeDiagnostics => self.take_diagnostics(device),
+            Line::State(field, n) => self.device = Some(handed::with(device, field, n)),
+            Line::Picture => self.picture(rt, device, &lengths)?,
+            Line::Counts => self.counts(device, &lengths),
+            _ => (),
+        }
+        Ok(())
+    }
+
+    fn refused(&mut self, refusal: Refusal) {
+        self.answers.line(b"refused", u64::from(u8::from(refusal)));
+    }
+
+    fn case(&mut self, value: u16) {
+        self.setup.clear();
+        self.device = None;
+        self.answers.line(b"case", u64::from(value));
+    }
+
+    // Where a start is refused, nothing is started.
+    fn start(&mut self) {
+        self.setup.keep_table();
+        let config = self.setup.fields.config();
+        let lengths = self.setup.lengths(config.panel);
+        let table = self.setup.table.front(lengths.table);
+        match self.buffers.start(&lengths, config, table) {
+            Ok(device) => {
+                self.device = Some(device);
+                self.answers.word(b"start ok\n");
+            }
+            Err(error) => {
+                self.device = None;
+                self.start_refused(StartRefusal::from(error));
+            }
+        }
+    }
+
+    fn start_refused(&mut self, refusal: StartRefusal) {
+        self.answers.word(b"start refused");
+        self.answers.field(u64::from(refusal.number));
+        self.answers.field(refusal.value as u64);
+        self.answers.end_line();
+    }
+
+    // How often an event is made: a count is used up by data and reads, before a start too.
+    fn times(&mut self, event: Event) -> u64 {
+        match event {
+            Event::Data(_, _) | Event::Read(_) => self.repeat.take().unwrap_or(1),
+            _ => 1,
+        }
+    }
+
+    // The event is handed to the device, as often as its count asks.
+    fn event(&mut self, rt: &(impl Print + Eprint), event: Event) -> io::Result<()> {
+        let times = self.times(event);
+        if let Some(device) = self.device {
+            let lengths = self.setup.lengths(device.config.panel);
+            let mut next = device;
+            for _ in 0..times {
+                next = self.tell(&lengths, next, event);
+                self.answers.flush_when_long(rt)?;
+            }
+            self.device = Some(next);
+        }
+        Ok(())
+    }
+
+    fn tell(&mut self, lengths: &Lengths, device: Ssd1677, event: Event) -> Ssd1677 {
+        let table = self.setup.table.front(lengths.table);
+        match self.buffers.tell(lengths, device, table, event) {
+            Ok(reading) => {
+                if let Event::Read(_) = event {
+                    self.read(reading.byte);
+                }
+                reading.state
+            }
+            Err(refused) => {
+                self.refused(refused.refusal);
+                refused.state
+            }
+        }
+    }
+
+    // The byte of a read, or that nothing is driven.
+    fn read(&mut self, byte: Option<u8>) {
+        match byte {
+            Some(byte) => {
+                self.answers.word(b"read");
+                self.answers.hex_field(&[byte]);
+                self.answers.end_line();
+            }
+            None => self.answers.word(b"read --\n"),
+        }
+    }
+
+    fn query(&mut self, device: Ssd1677, time: u64) {
+        let busy = query_busy::is_busy(device, time);
+        let pin = query_busy::busy_pin(device, time);
+        match (busy, pin) {
+            (Ok(busy), Ok(pin)) => {
+                self.answers.word(b"query");
+                self.answers.truth_field(busy);
+                self.answers.truth_field(pin);
+                self.answers.end_line();
+            }
+            (Err(refusal), _) | (_, Err(refusal)) => self.refused(refusal),
+        }
+    }
+
+    fn set_ambient(&mut self, device: Ssd1677, register: u16) {
+        match query::set_ambient(device, register) {
+            Ok(device) => self.device = Some(device),
+            Err(refused) => self.refused(refused.refusal),
+        }
+    }
+
+    fn take_diagnostics(&mut self, device: Ssd1677) {
+        match query::take_diagnostics(device) {
+            Ok(taken) => {
+                self.device = Some(taken.state);
+                self.answers.line(b"taken", u64::from(taken.count));
+            }
+            Err(refused) => self.refused(refused.refusal),
+        }
+    }
+
+    fn picture(
+        &mut self,
+        rt: &(impl Print + Eprint),
+        device: Ssd1677,
+        lengths: &Lengths,
+    ) -> io::Result<()> {
+        match query_state::panel_image(device) {
+            Ok(image) => picture::put(rt, &mut self.answers, image, self.buffers.picture(lengths)),
+            Err(refusal) => {
+                self.refused(refusal);
+                Ok(())
+            }
+        }
+    }
+
+    // The counts of greys, and the entry of the last waveform loaded.
+    fn counts(&mut self, device: Ssd1677, lengths: &Lengths) {
+        match query::check_state(device) {
+            Ok(()) => {
+                let hash = self.buffers.hash_of_counts(lengths);
+                self.answers.word(b"counts");
+                self.answers.field(hash);
+                self.answers.field(u64::from(device.regs.waveform));
+                self.answers.end_line();
+            }
+            Err(refusal) => self.refused(refusal),
+        }
+    }
 }

@@ -3,13 +3,13 @@
 
 ghost use Rattle.std.specs.Prelude.{◌≡◌};
 ghost use Rattle.guard.specs.Refusals.{refusal_number};
-ghost use Rattle.query.specs.Outcome.{outcome};
+ghost use Rattle.query.specs.Outcome.{outcome, answer_in, state_in};
 ghost use Rattle.counts.specs.Counts.{picture};
 ghost use Rattle.world.specs.World.{with_glass_log};
 ghost use Rattle.res.specs.Line.{line_moved};
 
 use device::Ssd1677;
-use query::CallAnswer;
+use guard::Refused;
 
 // Drives RES#: `asserted` is the line low. Asserting it stops whatever runs (a display keeps what it drove so far) and restores the
 // registers; releasing it wakes a sleeping chip, which stays busy for the hardware-reset time.
@@ -22,8 +22,8 @@ pub fn set_reset(
     log: &mut [u8],
     time: u64,
     asserted: bool,
-) -> CallAnswer
-    ensures { outcome (refusal_number result.refusal) (with_glass_log result.state states.new (picture pixels.new counts.new) log.new) ≡ line_moved luts.now time asserted (with_glass_log state states.old (picture pixels.old counts.old) log.old) }
+) -> Result<Ssd1677, Refused>
+    ensures { outcome (refusal_number (answer_in result)) (with_glass_log (state_in result) states.new (picture pixels.new counts.new) log.new) ≡ line_moved luts.now time asserted (with_glass_log state states.old (picture pixels.old counts.old) log.old) }
 {
     let lengths = guard_lengths::glass_log_lent(
         states.len(),
@@ -32,11 +32,11 @@ pub fn set_reset(
         counts.len(),
         log.len(),
     );
-    let refusal = guard::check(state, lengths);
-    if guard::is_accepted(refusal) {
-        let present = clock::advance(state, states, luts, pixels, counts, time);
-        let state = reset::set_line(present, states, luts, pixels, counts, log, asserted);
-        return CallAnswer { refusal, state };
+    match guard::check(state, lengths) {
+        Ok(()) => {
+            let present = clock::advance(state, states, luts, pixels, counts, time);
+            Ok(reset::set_line(present, states, luts, pixels, counts, log, asserted))
+        }
+        Err(refusal) => Err(Refused { refusal, state }),
     }
-    CallAnswer { refusal, state }
 }

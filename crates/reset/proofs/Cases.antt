@@ -1,9 +1,9 @@
 -- What each return of the code hands over, over plain variables. Assumes nothing.
+use Rattle.std.specs.Prelude.{Some}
 use Prim.Native.Nat.{ℕ}
 use mathlib.Core.Path.{◌≡◌}
 use mathlib.Core.Bool.{Bool, true, false}
 use mathlib.Core.List.{List}
-use Rattle.waveform.specs.declared.Until.TheVariants.{Cut}
 use Rattle.diagnostic.specs.declared.DiagnosticKind.TheVariants.{ResetDuringDisplay}
 use Rattle.panel.specs.declared.Display.{Display}
 use Rattle.panel.specs.Finish.{Glass, finished}
@@ -30,7 +30,7 @@ restores d r g e f = rw (f, e)
 
 pub shortens : (luts : List ℕ) (g : WithGlass) (into : ℕ) (after : Glass) (off : Display) (r : Ssd1677)
     → into ≡ ns_between g.device.config.frequency g.device.display.started g.device.now
-    → after ≡ finished (ending_of g.device g.device.now (Cut into)) luts (glass_of g)
+    → after ≡ finished (ending_of g.device g.device.now (Some into)) luts (glass_of g)
     → off ≡ stopped g.device.display → r ≡ part.with_panel_and_display g.device after.panel off
     → with_glass r after.states after.picture ≡ display_cut luts g
 unfolding display_cut

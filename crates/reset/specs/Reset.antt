@@ -1,14 +1,12 @@
 -- What a reset does (mod.rs, `set_reset`, `restore_registers`; SCOPE, Commands: a reset before driving drops the refresh).
-use Rattle.std.specs.Prelude.{ℕ, Bool, true, false, ◌&&◌, List, leb}
+use Rattle.std.specs.Prelude.{ℕ, Bool, true, false, ◌&&◌, List, leb, Some, None}
 use Rattle.numbers.specs.Choice.{pick}
-use Rattle.waveform.specs.declared.Until.TheVariants.{Cut}
 use Rattle.diagnostic.specs.declared.DiagnosticKind.TheVariants.{ResetDuringDisplay}
 use Rattle.panel.specs.Finish.{finished}
 use Rattle.device.specs.declared.Ssd1677.{Ssd1677}
 use Rattle.device.specs.declared.Power.{Power}
 use Rattle.device.specs.declared.Power.TheVariants.{Running, Asleep, InReset}
 use Rattle.device.specs.declared.Current.TheVariants.{Idle, Ignoring}
-use Rattle.device.specs.declared.Deadline.TheVariants.{Never}
 use Rattle.device.specs.Parts.{with_bus, with_display, with_powers}
 use Rattle.world.specs.World.{WithGlass, WithGlassLog, on, device_in_glass_log, log_in_glass_log, glass_in_glass_log}
 use Rattle.registers.specs.Reset.{reset_of}
@@ -29,7 +27,7 @@ is_driving d = d.display.running && leb d.display.started d.now
 unfoldable pub display_cut : List ℕ → WithGlass → WithGlass
 display_cut luts g =
     let d = g.device in
-    glass_published g (finished (ending_of d d.now (Cut (ns_between d.config.frequency d.display.started d.now))) luts (glass_of g))
+    glass_published g (finished (ending_of d d.now (Some (ns_between d.config.frequency d.display.started d.now))) luts (glass_of g))
 
 -- the display is stopped, and the glass stays as it is
 abbrev pub display_dropped : Ssd1677 → Ssd1677
@@ -41,7 +39,7 @@ cut luts w = pick (is_driving w.device) (on glass_in_glass_log (display_cut luts
 
 -- RES# is low: no command is current and BUSY has no end
 unfoldable pub in_reset : Ssd1677 → Ssd1677
-in_reset d = with_bus d (record { power = InReset; current = Ignoring; busy_until = Never })
+in_reset d = with_bus d (record { power = InReset; current = Ignoring; busy_until = None })
 
 -- RES# falls: 26 if parameters lack, the display cut or dropped, the registers restored
 unfoldable pub asserted : List ℕ → WithGlassLog → WithGlassLog

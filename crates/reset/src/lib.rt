@@ -7,9 +7,8 @@ ghost use Rattle.world.specs.World.{with_glass, with_glass_log};
 ghost use Rattle.clock.specs.Advance.{Ready};
 ghost use Rattle.reset.specs.Reset.{restored, display_cut, cut, in_reset, asserted, released, by_line};
 
-use device::{Bus, Current, Deadline, Power, Ssd1677, Status, part};
+use device::{Bus, Current, Power, Ssd1677, Status, part};
 use diagnostic::DiagnosticKind;
-use waveform::Until;
 
 // The registers at their reset values, the supplies off and the status bits cleared; the RAM stays.
 pub fn restore_registers(state: Ssd1677) -> Ssd1677
@@ -49,7 +48,7 @@ fn finish_cut(
         optics.positive_drives_black,
         periods,
         state.now,
-        Until::Cut(into),
+        Some(into),
         &mut states[..],
         luts,
         &mut pixels[..],
@@ -88,7 +87,7 @@ fn enter_reset(state: Ssd1677) -> Ssd1677
     let bus = Bus {
         power: Power::InReset,
         current: Current::Ignoring,
-        busy_until: Deadline::Never,
+        busy_until: None,
     };
     part::set_bus(state, bus)
 }

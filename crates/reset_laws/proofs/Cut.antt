@@ -1,5 +1,6 @@
 -- The law of one cut (#101): `set_reset` lets RES# fall in any state that 13 lets pass, while a refresh is driving. Each state from 0 to S is then
 -- its exact reckoning up to the converted span, and its pixel shows the grey of it. Assumes nothing.
+use Rattle.std.specs.Prelude.{Option, Some, None}
 use Prim.Native.Nat.{ℕ, ◌≤◌, ◌<◌, max}
 use mathlib.Core.Path.{◌≡◌, refl, sym, ap, subst, ◌∙◌}
 use mathlib.Core.Bool.{Bool, true, false, ◌&&◌}
@@ -14,14 +15,11 @@ use Rattle.numbers.specs.Choice.{pick}
 use Rattle.numbers.specs.Saturation.{most}
 use Rattle.numbers.proofs.Lin.{whole, le_out}
 use Rattle.glass.specs.Greys.{gray_z}
-use Rattle.waveform.specs.declared.Until.TheVariants.{Whole, Cut}
 use Rattle.diagnostic.specs.declared.DiagnosticKind.TheVariants.{ResetDuringDisplay}
 use Rattle.panel.specs.Pixels.{states_by, grays}
 use Rattle.panel.specs.Finish.{finished, published}
 use Rattle.panel_laws.proofs.Exactly.{by_lut, exact_after, state_exactly, states_length, pixel_shows}
 use Rattle.device.specs.declared.Bus.{Bus}
-use Rattle.device.specs.declared.Deadline.{Deadline}
-use Rattle.device.specs.declared.Deadline.TheVariants.{Never, At}
 use Rattle.device.specs.declared.Power.{Power}
 use Rattle.device.specs.declared.Power.TheVariants.{Running, Asleep, InReset}
 use Rattle.device.specs.declared.Ssd1677.{Ssd1677}
@@ -37,11 +35,11 @@ use Rattle.reset.specs.Reset.{restored, display_cut, display_dropped, cut, in_re
 use Rattle.res.specs.Line.{line_taken}
 use Rattle.reset_laws.specs.Cut.{span_to, cut_ending, Cuttable}
 
-lowered_power : (until : Deadline) (bus : Bus) (t : ℕ) → (lowered until bus t).power ≡ bus.power
-lowered_power Never bus t = refl
-lowered_power (At until) bus t = by (leb until t)
+lowered_power : (until : Option ℕ) (bus : Bus) (t : ℕ) → (lowered until bus t).power ≡ bus.power
+lowered_power None bus t = refl
+lowered_power (Some until) bus t = by (leb until t)
   where
-    by : (b : Bool) → (pick b (with_until bus Never) bus).power ≡ bus.power
+    by : (b : Bool) → (pick b (with_until bus None) bus).power ≡ bus.power
     by true = refl
     by false = refl
 
@@ -68,7 +66,7 @@ module _ (luts : List ℕ) (time : ℕ) (w : WithGlassLog) (S : ℕ) (h : Cuttab
   moved : advanced luts time g ≡ quieted (clocked time g)
   unfolding advanced ended
   moved =
-      ap (λ (b : Bool). quieted (pick b (glass_published x (finished (ending_of x.device x.device.display.ends Whole) luts (glass_of x))) x)) not_over
+      ap (λ (b : Bool). quieted (pick b (glass_published x (finished (ending_of x.device x.device.display.ends None) luts (glass_of x))) x)) not_over
     where
       x : WithGlass
       x = clocked time g
@@ -120,14 +118,14 @@ module _ (luts : List ℕ) (time : ℕ) (w : WithGlassLog) (S : ℕ) (h : Cuttab
   unfolding in_reset restored display_cut logged closed finished next
   states_are =
       ap (λ (x : WithGlassLog). x.states) fell
-      ∙ ap (λ (n : ℕ). states_by (by_lut (ending_of d t (Cut n)) d.panel.swing) luts w.states) converted
+      ∙ ap (λ (n : ℕ). states_by (by_lut (ending_of d t (Some n)) d.panel.swing) luts w.states) converted
       ∙ ap (λ (s : ℤ). states_by (by_lut (cut_ending d t) s) luts w.states) h.swing
 
   pixels_are : (line_taken luts time true w).picture.pixels ≡ grays (pos S) next
   unfolding in_reset restored display_cut logged closed finished published next
   pixels_are =
       ap (λ (x : WithGlassLog). x.picture.pixels) fell
-      ∙ ap (λ (n : ℕ). grays d.panel.swing (states_by (by_lut (ending_of d t (Cut n)) d.panel.swing) luts w.states)) converted
+      ∙ ap (λ (n : ℕ). grays d.panel.swing (states_by (by_lut (ending_of d t (Some n)) d.panel.swing) luts w.states)) converted
       ∙ ap (λ (s : ℤ). grays s (states_by (by_lut (cut_ending d t) s) luts w.states)) h.swing
 
   module _ (i x : ℕ) (inside : i < length w.states) (is : get_or w.states i (pos 0) ≡ pos x) (within : x ≤ S) where

@@ -1,6 +1,5 @@
 -- What the law of one cut speaks of: `set_reset` lets RES# fall while a refresh is driving, in any state that 13 lets pass (SCOPE, Time; #101).
-use Rattle.std.specs.Prelude.{ℕ, ◌-◌, ◌*◌, ◌/◌, ◌≤◌, ◌<◌, max, ◌≡◌, true, pos}
-use Rattle.waveform.specs.declared.Until.TheVariants.{Cut}
+use Rattle.std.specs.Prelude.{ℕ, ◌-◌, ◌*◌, ◌/◌, ◌≤◌, ◌<◌, max, ◌≡◌, true, pos, Some}
 use Rattle.panel.specs.Finish.{Ending}
 use Rattle.device.specs.declared.Power.TheVariants.{InReset}
 use Rattle.device.specs.declared.Ssd1677.{Ssd1677}
@@ -13,7 +12,7 @@ span_to d t = (t - d.display.started) * 1000000000 / d.config.frequency
 
 -- the refresh up to there
 abbrev pub cut_ending : Ssd1677 → ℕ → Ending
-cut_ending d t = ending_of d t (Cut (span_to d t))
+cut_ending d t = ending_of d t (Some (span_to d t))
 
 -- a state of swing S handed to `set_reset` at a time: 13 lets it pass, RES# is high, a refresh drives at the moment of the call, the later of the
 -- clock and the time, and the converted span is at most 2^64 − 2

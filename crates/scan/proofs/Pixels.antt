@@ -1,5 +1,6 @@
 -- Laws of the LUT of a pixel: a bit that lies in the RAM, the pixel of a row and a column, and the source of a column.
 -- Assumes nothing.
+use Rattle.std.specs.Prelude.{Option, Some}
 use mathlib.Core.Path.{◌≡◌}
 use mathlib.Core.Bool.{Bool, true, false}
 use mathlib.Core.List.{List}
@@ -10,21 +11,19 @@ use lib.ListN.{length, get_or}
 use borrow.Author.Tests.{lt-ltb}
 use Rattle.numbers.specs.Choice.{pick, bit_of}
 use Rattle.config.specs.declared.PanelGeometry.{PanelGeometry}
-use Rattle.ram.specs.declared.Pixel.TheVariants as pixel
 use Rattle.ram.specs.Plane.{index_of, read_at, bit_at}
-use Rattle.gates.specs.declared.Row.{Row}
 use Rattle.scan.specs.declared.Scan.{Scan}
 use Rattle.gates.specs.Gates.{row_of_gate}
 use Rattle.scan.specs.Luts.{source_of, lut_in_row, lut_of}
 
 pub bit_there : (plane : List ℕ) (x row : ℕ) → length plane ≡ 81600 → x < 960 → row < 680
-    → bit_at plane x row ≡ pixel.Is (bit_of (get_or plane (row * 120 + x / 8) 0) (7 - x % 8))
+    → bit_at plane x row ≡ Some (bit_of (get_or plane (row * 120 + x / 8) 0) (7 - x % 8))
 unfolding bit_at read_at index_of
 bit_there plane x row whole there row_in_ram =
     rw (lt-ltb (x / 8) 120 (omega arith), lt-ltb row 680 row_in_ram, lt-ltb (row * 120 + x / 8) (length plane) (omega arith))
 
 -- pixel y * width + x is the one in column x and row y
-pub pixel_is : {r source : ℕ} {row : Row} (gates red black_white : List ℕ) (g : PanelGeometry) (s : Scan) (x y : ℕ) → x < g.width
+pub pixel_is : {r source : ℕ} {row : Option ℕ} (gates red black_white : List ℕ) (g : PanelGeometry) (s : Scan) (x y : ℕ) → x < g.width
     → row ≡ row_of_gate (get_or gates y 0) s.order s.lines → source ≡ source_of g x → r ≡ lut_in_row row red black_white s source
     → r ≡ lut_of gates red black_white g s (y * g.width + x)
 unfolding lut_of

@@ -1,16 +1,12 @@
 -- The LUT of each pixel (panel.rs, `Panel::start`).
-use Rattle.std.specs.Prelude.{Bool, false, not, List, ℕ, ◌+◌, ◌-◌, ◌*◌, ◌/◌, ◌%◌, eqb, get_or}
+use Rattle.std.specs.Prelude.{Bool, false, not, List, ℕ, ◌+◌, ◌-◌, ◌*◌, ◌/◌, ◌%◌, eqb, get_or, Option, Some, None}
 use Rattle.numbers.specs.Choice.{pick}
 use Rattle.config.specs.declared.PanelGeometry.{PanelGeometry}
 use Rattle.ram.specs.Plane.{bit_at}
-use Rattle.ram.specs.declared.Pixel.{Pixel}
-use Rattle.ram.specs.declared.Pixel.TheVariants as pixel
 use Rattle.panel.specs.Pixels.{undriven}
 use Rattle.scan.specs.declared.PlaneOption.{PlaneOption}
 use Rattle.scan.specs.declared.PlaneOption.TheVariants.{Normal, Zero, Inverse}
 use Rattle.scan.specs.declared.Scan.{Scan}
-use Rattle.gates.specs.declared.Row.{Row}
-use Rattle.gates.specs.declared.Row.TheVariants.{Is, Nothing}
 use Rattle.gates.specs.Gates.{row_of_gate}
 
 -- the option of a plane by the low four bits: 4 bypass as 0, 8 inverse, any other normal (0x21, as panel.rs cites it)
@@ -28,15 +24,15 @@ unfoldable pub lut_of_bits : Bool → Bool → ℕ
 lut_of_bits red black_white = 2 * pick red 1 0 + pick black_white 1 0
 
 -- the LUT of a pixel's bits in both planes; where one lies outside RAM the pixel is undriven (SCOPE, Panel)
-unfoldable pub lut_of_pixels : Scan → Pixel → Pixel → ℕ
-lut_of_pixels s (pixel.Is red) (pixel.Is black_white) = lut_of_bits (applied s.red red) (applied s.black_white black_white)
-lut_of_pixels s (pixel.Is red) pixel.Nothing = undriven
-lut_of_pixels s pixel.Nothing black_white = undriven
+unfoldable pub lut_of_pixels : Scan → Option Bool → Option Bool → ℕ
+lut_of_pixels s (Some red) (Some black_white) = lut_of_bits (applied s.red red) (applied s.black_white black_white)
+lut_of_pixels s (Some red) None = undriven
+lut_of_pixels s None black_white = undriven
 
 -- the LUT of a source's pixel in a row of both planes; with no row it is undriven (SCOPE, Panel)
-unfoldable pub lut_in_row : Row → List ℕ → List ℕ → Scan → ℕ → ℕ
-lut_in_row (Is row) red black_white s source = lut_of_pixels s (bit_at red source row) (bit_at black_white source row)
-lut_in_row Nothing red black_white s source = undriven
+unfoldable pub lut_in_row : Option ℕ → List ℕ → List ℕ → Scan → ℕ → ℕ
+lut_in_row (Some row) red black_white s source = lut_of_pixels s (bit_at red source row) (bit_at black_white source row)
+lut_in_row None red black_white s source = undriven
 
 -- the source of column x: from the first source on, or from the last one back (panel.rs, `ram_pixel`)
 unfoldable pub source_of : PanelGeometry → ℕ → ℕ

@@ -5,12 +5,11 @@
 ghost use Rattle.std.specs.Prelude.{◌≡◌, ◌+◌, ◌*◌, ◌≤◌, ◌<◌, length};
 ghost use Rattle.numbers.specs.Lists.{tab};
 ghost use Rattle.ram.specs.Plane.{bit_at};
-ghost use Rattle.ram.specs.declared.Pixel.TheVariants as pixel;
 ghost use Rattle.gates.specs.Gates.{row_or};
 ghost use Rattle.scan.specs.Luts.{option_of, applied, lut_of_bits, lut_in_row, source_of, lut_of};
 
 use config::{GateScan, PanelGeometry};
-pub use gates::{Row, gate_of_row, ram_row_of_gate};
+pub use gates::{gate_of_row, ram_row_of_gate};
 use panel::UNDRIVEN;
 
 // The RAM-plane options of 0x21: a nibble per plane, normal, read as 0, or inverted.
@@ -68,21 +67,21 @@ fn bit_in_row(plane: &[u8], row: u16, source: usize) -> bool
     requires whole { length plane.now ≡ 81600 }
     requires in_ram { row < 680 }
     requires driven { source < 960 }
-    ensures { pixel.Is result ≡ bit_at plane.now source row }
+    ensures { Some result ≡ bit_at plane.now source row }
 {
     let byte = plane[row as usize * ram::ROW_BYTES + source / 8];
     (byte >> (7 - source % 8)) & 1 == 1
 }
 
 // The LUT of a source's pixel in a row.
-fn lut_in_row(row: Row, red: &[u8], black_white: &[u8], scan: Scan, source: usize) -> u8
+fn lut_in_row(row: Option<u16>, red: &[u8], black_white: &[u8], scan: Scan, source: usize) -> u8
     requires whole_red { length red.now ≡ 81600 }
     requires whole_black_white { length black_white.now ≡ 81600 }
     requires in_ram { row_or row 0 < 680 }
     requires driven { source < 960 }
     ensures { result ≡ lut_in_row row red.now black_white.now scan source }
 {
-    let Row::Is(at) = row else {
+    let Some(at) = row else {
         return UNDRIVEN;
     };
     let red_option = scan.red;

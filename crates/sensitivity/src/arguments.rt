@@ -1,20 +1,11 @@
 // The arguments: VOLTAGE BEFORE AFTER [SWING [PERIOD | sixteen PERIODs]].
-use column::read::Column;
 use config::Ssd1677Timing;
 use glass::Optics;
-use shift_report::words::{CodeWord, VoltageWord};
 use std::env::{Env, FillError};
+use voltage_shift::DrivingVoltage;
 
 // Bytes of the longest argument, a number of 64 bits. A longer one is read as an empty one, which is none that is asked for.
 const LONGEST: usize = 20;
-
-// The frame period of each frame-rate code.
-#[derive(Clone, Copy)]
-pub struct GivenPeriods {
-    pub frame_period: [u64; 16],
-    // The first argument that is no number; 0 where each is one.
-    pub bad: usize,
-}
 
 fn is_given(rt: &impl Env, place: usize) -> bool {
     let mut byte = [0u8; 1];
@@ -35,30 +26,30 @@ pub fn is_asked(given: usize) -> bool {
     (given == 3) | (given == 4) | (given == 5) | (given == 20)
 }
 
-pub fn voltage(rt: &impl Env, place: usize) -> VoltageWord {
+pub fn voltage(rt: &impl Env, place: usize) -> Option<DrivingVoltage> {
     let mut word = [0u8; LONGEST];
     let length = rt.arg(place, &mut word).unwrap_or(0);
     shift_report::words::voltage(&word[..length])
 }
 
-pub fn code(rt: &impl Env, place: usize) -> CodeWord {
+pub fn code(rt: &impl Env, place: usize) -> Option<u8> {
     let mut word = [0u8; LONGEST];
     let length = rt.arg(place, &mut word).unwrap_or(0);
     shift_report::words::code(&word[..length])
 }
 
 // A decimal below 2^64 without leading zeros, as in a column: blanks in front are taken.
-fn number(rt: &impl Env, place: usize) -> Column {
+fn number(rt: &impl Env, place: usize) -> Option<u64> {
     let mut word = [0u8; LONGEST];
     let length = rt.arg(place, &mut word).unwrap_or(0);
     column::read::number(&word[..length])
 }
 
 // The default where it is not given.
-pub fn swing(rt: &impl Env, given: usize) -> Column {
+pub fn swing(rt: &impl Env, given: usize) -> Option<u64> {
     if given < 4 {
         let optics = Optics::default();
-        return Column::Number(optics.full_swing);
+        return Some(optics.full_swing);
     }
     number(rt, 4)
 }
@@ -69,44 +60,24 @@ pub fn default_periods() -> [u64; 16] {
 }
 
 // One for all codes.
-fn same_period(rt: &impl Env) -> GivenPeriods {
-    let Column::Number(period) = number(rt, 5) else {
-        return GivenPeriods {
-            frame_period: [0; 16],
-            bad: 5,
-        };
-    };
-    GivenPeriods {
-        frame_period: [period; 16],
-        bad: 0,
-    }
+fn same_period(rt: &impl Env) -> Result<[u64; 16], usize> {
+    let period = number(rt, 5).ok_or(5usize)?;
+    Ok([period; 16])
 }
 
 // One for each code.
-fn own_periods(rt: &impl Env) -> GivenPeriods {
+fn own_periods(rt: &impl Env) -> Result<[u64; 16], usize> {
     let mut frame_period = [0u64; 16];
     for code in 0..16 {
-        let Column::Number(period) = number(rt, 5 + code) else {
-            return GivenPeriods {
-                frame_period,
-                bad: 5 + code,
-            };
-        };
-        frame_period[code] = period;
+        frame_period[code] = number(rt, 5 + code).ok_or(5 + code)?;
     }
-    GivenPeriods {
-        frame_period,
-        bad: 0,
-    }
+    Ok(frame_period)
 }
 
-pub fn periods(rt: &impl Env, given: usize) -> GivenPeriods {
+// The frame period of each frame-rate code, or the first argument that is no number.
+pub fn periods(rt: &impl Env, given: usize) -> Result<[u64; 16], usize> {
     if given < 5 {
-        let frame_period = default_periods();
-        return GivenPeriods {
-            frame_period,
-            bad: 0,
-        };
+        return Ok(default_periods());
     }
     if given == 5 {
         return same_period(rt);

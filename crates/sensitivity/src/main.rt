@@ -5,11 +5,8 @@
 mod arguments;
 mod say;
 
-use arguments::GivenPeriods;
-use column::read::Column;
 use full_read::read_full;
 use glass::Optics;
-use shift_report::words::{CodeWord, VoltageWord};
 use std::io;
 use std::io::{Input, Read};
 use voltage_shift::DrivingVoltage;
@@ -69,40 +66,28 @@ fn report(
     }
 }
 
-fn with_periods(
-    rt: &(impl Input + Print + Eprint),
-    periods: GivenPeriods,
-    swing: u64,
-    driving: DrivingVoltage,
-    before: u8,
-    after: u8,
-) -> io::Result<()> {
-    if periods.bad != 0 {
-        return say::decimal(rt, periods.bad);
-    }
-    let frame_period = periods.frame_period;
-    let mut optics = Optics::default();
-    optics.full_swing = swing;
-    report(rt, optics, frame_period, driving, before, after)
-}
-
 fn main(rt: HostRuntime) -> io::Result<()> {
     let given = arguments::given(&rt);
     if !arguments::is_asked(given) {
         return say::usage(&rt);
     }
-    let VoltageWord::Names(driving) = arguments::voltage(&rt, 1) else {
+    let Some(driving) = arguments::voltage(&rt, 1) else {
         return say::voltage(&rt, 1);
     };
-    let CodeWord::Writes(before) = arguments::code(&rt, 2) else {
+    let Some(before) = arguments::code(&rt, 2) else {
         return say::code(&rt, 2);
     };
-    let CodeWord::Writes(after) = arguments::code(&rt, 3) else {
+    let Some(after) = arguments::code(&rt, 3) else {
         return say::code(&rt, 3);
     };
-    let Column::Number(swing) = arguments::swing(&rt, given) else {
+    let Some(swing) = arguments::swing(&rt, given) else {
         return say::decimal(&rt, 4);
     };
-    let periods = arguments::periods(&rt, given);
-    with_periods(&rt, periods, swing, driving, before, after)
+    let frame_period = match arguments::periods(&rt, given) {
+        Ok(frame_period) => frame_period,
+        Err(place) => return say::decimal(&rt, place),
+    };
+    let mut optics = Optics::default();
+    optics.full_swing = swing;
+    report(&rt, optics, frame_period, driving, before, after)
 }

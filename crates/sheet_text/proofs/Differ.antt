@@ -1,4 +1,5 @@
 -- Two texts compared byte by byte. Assumes nothing.
+use Rattle.std.specs.Prelude.{Option, Some, None}
 use mathlib.Core.Path.{◌≡◌, refl, sym, ap, ◌∙◌}
 use mathlib.Core.Bool.{Bool, true, false}
 use mathlib.Core.List.{List, ◌∷◌}
@@ -17,7 +18,7 @@ not_below i n h = omega arith
 
 module _ (text other : List ℕ) where
   -- what is left to compare from place i on, in line n
-  abbrev pub from : ℕ → ℕ → ℕ
+  abbrev pub from : ℕ → ℕ → Option ℕ
   from n i = differs_in n (drop i text) (drop i other)
 
   module _ (n i : ℕ) (l : i < length text) (m : i < length other) where
@@ -32,28 +33,28 @@ module _ (text other : List ℕ) where
         ∙ ap (from (line_after n (get_or text i 0))) (sym (add-one i))
 
     -- or two
-    pub stops : (get_or text i 0 ≡ get_or other i 0 → ⊥) → n ≡ from n i
+    pub stops : (get_or text i 0 ≡ get_or other i 0 → ⊥) → Some n ≡ from n i
     unfolding differs_in
     stops e = passed _ _ _ _ (ne_eqb (get_or text i 0) (get_or other i 0) e) refl ∙ sym split
 
   -- both end
-  pub ends : (n i : ℕ) → length text ≤ i → length other ≤ i → 0 ≡ from n i
+  pub ends : (n i : ℕ) → length text ≤ i → length other ≤ i → None ≡ from n i
   unfolding differs_in
   ends n i l m = sym (λ j. differs_in n (drop_of_length-le text l j) (drop_of_length-le other m j))
 
   -- one of them ends, and the other does not
-  text_ends : (n i : ℕ) → length text ≤ i → i < length other → n ≡ from n i
+  text_ends : (n i : ℕ) → length text ≤ i → i < length other → Some n ≡ from n i
   unfolding differs_in
   text_ends n i l m = sym (λ j. differs_in n (drop_of_length-le text l j) (drop-cons other i 0 m j))
 
-  other_ends : (n i : ℕ) → i < length text → length other ≤ i → n ≡ from n i
+  other_ends : (n i : ℕ) → i < length text → length other ≤ i → Some n ≡ from n i
   unfolding differs_in
   other_ends n i l m = sym (λ j. differs_in n (drop-cons text i 0 l j) (drop_of_length-le other m j))
 
-  pub one_ends : (n i : ℕ) → i ≤ length text → i ≤ length other → (i < length text → i < length other → ⊥) → (length text ≡ length other → ⊥) → n ≡ from n i
+  pub one_ends : (n i : ℕ) → i ≤ length text → i ≤ length other → (i < length text → i < length other → ⊥) → (length text ≡ length other → ⊥) → Some n ≡ from n i
   one_ends n i l m h d = by (ltb i (length text)) refl
     where
-      by : (t : Bool) → ltb i (length text) ≡ t → n ≡ from n i
+      by : (t : Bool) → ltb i (length text) ≡ t → Some n ≡ from n i
       by true e =
           let a = ltb-true i (length text) e in
           other_ends n i a (not_below i (length other) (h a))

@@ -1,5 +1,5 @@
 -- What `sheet` writes of a text (docs/drive-sheet.md; #104): the setting, the number of a refusal, or the line that is bad.
-use Rattle.std.specs.Prelude.{List, [], ◌∷◌, ◌++◌, ℕ, eqb, ltb, length, drop, replicate}
+use Rattle.std.specs.Prelude.{List, [], ◌∷◌, ◌++◌, ℕ, ltb, length, drop, replicate, Option, Some, None}
 use Rattle.numbers.specs.Choice.{pick}
 use Rattle.config.specs.Answer.{Answer, accepted, refused}
 use Rattle.column.specs.Columns.{natural, line_end, Buffer, buffer}
@@ -29,9 +29,14 @@ bad_line_text n = (98 ∷ 97 ∷ 100 ∷ 32 ∷ 108 ∷ 105 ∷ 110 ∷ 101 ∷ 
 unfoldable pub setting_text : Sheet → List ℕ
 setting_text h = reply_text h (written_of h (replicate setting_length 0)).answer
 
+-- the line that is bad, and where none is, what is answered of the sheet
+abbrev pub drawing_text : Option ℕ → Sheet → List ℕ
+drawing_text None h = setting_text h
+drawing_text (Some line) h = bad_line_text line
+
 -- of a text
 unfoldable pub answer_text : List ℕ → List ℕ
-answer_text text = pick (eqb (bad_line_of text) 0) (setting_text (sheet_in text)) (bad_line_text (bad_line_of text))
+answer_text text = drawing_text (bad_line_of text) (sheet_in text)
 
 -- at the front of the bytes lent, and its length; where they are fewer than a setting's, nothing
 unfoldable pub answered_in : List ℕ → List ℕ → Buffer

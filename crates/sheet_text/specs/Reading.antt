@@ -1,6 +1,6 @@
 -- What a text says of a drive sheet (docs/drive-sheet.md; #104): the sheet of the numbers at their places, where writing that sheet gives
 -- the text back, and otherwise the line in which it does not.
-use Rattle.std.specs.Prelude.{Bool, List, [], ◌∷◌, ℕ, ◌+◌, ◌-◌, ◌*◌, ◌/◌, ◌%◌, eqb, ℤ, pos, neg_ℤ, get_or}
+use Rattle.std.specs.Prelude.{Bool, List, [], ◌∷◌, ℕ, ◌+◌, ◌-◌, ◌*◌, ◌/◌, ◌%◌, eqb, ℤ, pos, neg_ℤ, get_or, Option, Some, None}
 use Rattle.numbers.specs.Choice.{pick}
 use Rattle.numbers.specs.Lists.{tab}
 use Rattle.waveform.specs.declared.GroupCodes.{GroupCodes}
@@ -56,15 +56,15 @@ sheet_in text =
 abbrev pub line_after : ℕ → ℕ → ℕ
 line_after n byte = pick (eqb byte 10) (n + 1) n
 
--- the line, counted from n, in which a text first differs from another; 0 where it is the other
-unfoldable pub differs_in : ℕ → List ℕ → List ℕ → ℕ
-differs_in n [] [] = 0
-differs_in n [] (y ∷ ys) = n
-differs_in n (x ∷ xs) [] = n
-differs_in n (x ∷ xs) (y ∷ ys) = pick (eqb x y) (differs_in (line_after n x) xs ys) n
+-- the line, counted from n, in which a text first differs from another; none where it is the other
+unfoldable pub differs_in : ℕ → List ℕ → List ℕ → Option ℕ
+differs_in n [] [] = None
+differs_in n [] (y ∷ ys) = Some n
+differs_in n (x ∷ xs) [] = Some n
+differs_in n (x ∷ xs) (y ∷ ys) = pick (eqb x y) (differs_in (line_after n x) xs ys) (Some n)
 
--- the first line of a text that no sheet that fits the columns has there, counted from 1; 0 where the text is such a sheet's
-abbrev pub bad_line_of : List ℕ → ℕ
+-- the first line of a text that no sheet that fits the columns has there, counted from 1; none where the text is such a sheet's
+abbrev pub bad_line_of : List ℕ → Option ℕ
 bad_line_of text = differs_in 1 text (sheet_text (sheet_in text))
 
 -- what is read of a text

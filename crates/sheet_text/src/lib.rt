@@ -20,8 +20,8 @@ pub const SETTING_BYTES: usize = 112;
 // What a text says.
 #[derive(Clone, Copy)]
 pub struct Drawing {
-    // The first line that no sheet that fits the columns has there, counted from 1; 0 where the text is such a sheet's.
-    pub bad_line: usize,
+    // The first line that no sheet that fits the columns has there, counted from 1; none where the text is such a sheet's.
+    pub bad_line: Option<usize>,
     // The numbers at their places.
     pub sheet: Sheet,
 }
@@ -50,26 +50,24 @@ fn line_after(line: usize, byte: u8) -> usize
     line
 }
 
-// The line, counted from 1, in which a text first differs from a sheet's; 0 where it is that.
-fn differing_line(text: &[u8], written: &[u8]) -> usize
+// The line, counted from 1, in which a text first differs from a sheet's; none where it is that.
+fn differing_line(text: &[u8], written: &[u8]) -> Option<usize>
     requires { length written.now ≡ 580 }
     ensures { result ≡ differs_in 1 text.now written.now }
 {
     let end = numbers::min_u64(text.len() as u64, TEXT_BYTES as u64) as usize;
     let mut line: usize = 1;
-    let mut i: usize = 0;
-    while i < end {
+    for i in 0..end {
         let byte = text[i];
         if byte != written[i] {
-            return line;
+            return Some(line);
         }
         line = line_after(line, byte);
-        i += 1;
     }
     if text.len() == TEXT_BYTES {
-        return 0;
+        return None;
     }
-    line
+    Some(line)
 }
 
 pub fn read(text: &[u8]) -> Drawing
@@ -121,12 +119,10 @@ fn put_setting(out: &mut [u8], sheet: Sheet) -> usize
     ensures end { result ≤ 112 }
 {
     let mut setting = [0u8; SETTING_BYTES];
-    let written = drive_sheet::write(sheet, &mut setting);
-    let number = drive_sheet::number(written);
-    if number == 0 {
-        return lines::put_text(out, 0, &setting);
+    match drive_sheet::write(sheet, &mut setting) {
+        Ok(()) => lines::put_text(out, 0, &setting),
+        Err(error) => put_number(out, numbers::wide(drive_sheet::number(error))),
     }
-    put_number(out, numbers::wide(number))
 }
 
 // What a text is answered with, to the front of `out`, and its length: the 112 bytes of its setting, the number of a refusal, or the line
@@ -139,9 +135,8 @@ pub fn answer(text: &[u8], out: &mut [u8]) -> usize
         return 0;
     }
     let drawing = read(text);
-    if drawing.bad_line == 0 {
-        let sheet = drawing.sheet;
-        return put_setting(out, sheet);
+    match drawing.bad_line {
+        Some(line) => put_bad_line(out, line),
+        None => put_setting(out, drawing.sheet),
     }
-    put_bad_line(out, drawing.bad_line)
 }

@@ -13,10 +13,8 @@ pub(crate) fn put_text(out: &mut [u8], at: usize, text: &[u8]) -> usize
     ensures text { buffer result out.new ≡ appended (buffer at out.old) text.now }
     ensures end { result ≡ at + length text.now }
 {
-    let mut i: usize = 0;
-    while i < text.len() {
+    for i in 0..text.len() {
         out[at + i] = text[i];
-        i += 1;
     }
     at + text.len()
 }
@@ -28,11 +26,9 @@ fn put_digits(out: &mut [u8], at: usize, group: GroupCodes, lut: usize) -> usize
     ensures end { result ≡ at + 4 }
 {
     let mut next = at;
-    let mut phase: usize = 0;
-    while phase < 4 {
+    for phase in 0..4 {
         let code = numbers::wide(group.codes[4 * lut + phase]);
         next = column::put(out, next, 1, false, code);
-        phase += 1;
     }
     next
 }
@@ -53,10 +49,8 @@ fn put_luts(out: &mut [u8], at: usize, group: GroupCodes) -> usize
     ensures end { result ≡ at + 25 }
 {
     let mut next = at;
-    let mut lut: usize = 0;
-    while lut < 5 {
+    for lut in 0..5 {
         next = put_codes(out, next, group, lut);
-        lut += 1;
     }
     next
 }
@@ -67,11 +61,9 @@ fn put_frames(out: &mut [u8], at: usize, group: GroupCodes) -> usize
     ensures end { result ≡ at + 16 }
 {
     let mut next = at;
-    let mut phase: usize = 0;
-    while phase < 4 {
+    for phase in 0..4 {
         let frames = numbers::wide(group.frames[phase]);
         next = column::put(out, next, 4, false, frames);
-        phase += 1;
     }
     next
 }
@@ -95,10 +87,8 @@ fn put_groups(out: &mut [u8], sheet: Sheet) -> usize
     ensures end { result ≡ 520 }
 {
     let mut at: usize = 0;
-    let mut number: usize = 0;
-    while number < 10 {
+    for number in 0..10 {
         at = put_group(out, at, sheet.groups[number], number);
-        number += 1;
     }
     at
 }

@@ -37,11 +37,9 @@ fn number_at(text: &[u8], at: usize, width: usize) -> u64
     ensures small { result < 2 ^ 32 }
 {
     let mut n: u64 = 0;
-    let mut i: usize = 0;
-    while i < width {
+    for i in 0..width {
         let digit = digit_at(text, at + i);
         n = 10 * n + numbers::wide(digit);
-        i += 1;
     }
     n
 }
@@ -50,13 +48,11 @@ fn minus_at(text: &[u8], at: usize) -> bool
     requires { at ≤ 580 }
     ensures { result ≡ minus_at text.now at }
 {
-    let mut i: usize = 0;
     let mut minus = false;
-    while i < 7 {
+    for i in 0..7 {
         let byte = byte_at(text, at + i);
         let one = byte == b'-';
         minus = minus | one;
-        i += 1;
     }
     minus
 }

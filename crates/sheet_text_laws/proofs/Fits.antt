@@ -1,4 +1,5 @@
 -- A text without a bad line is that of a sheet that fits the columns. Assumes nothing.
+use Rattle.std.specs.Prelude.{None}
 use mathlib.Core.Path.{◌≡◌, refl, sym, ap, subst, ◌∙◌}
 use mathlib.Core.Bool.{Bool, true, false, ◌&&◌, ◌||◌, false≢true}
 use mathlib.Core.List.{List}
@@ -190,6 +191,6 @@ module _ (text : List ℕ) (own : text ≡ sheet_text (sheet_in text)) where
       }
 
 -- the sheet that is read from a text without a bad line fits the columns
-pub read_fits : (text : List ℕ) → bad_line_of text ≡ 0 → SheetFits (drawing_of text).sheet
+pub read_fits : (text : List ℕ) → bad_line_of text ≡ None → SheetFits (drawing_of text).sheet
 unfolding drawing_of
 read_fits text e = own_fits text (read_is_text text e)

@@ -1,4 +1,5 @@
 -- The number of a column that was written, with its sign. Assumes nothing.
+use Rattle.std.specs.Prelude.{Some, None}
 use mathlib.Core.Path.{◌≡◌, refl, sym, ap, ◌∙◌}
 use mathlib.Core.Bool.{Bool, true, false, ◌&&◌, ◌||◌, true≢false}
 use mathlib.Core.Logic.{⊎_elim}
@@ -16,17 +17,16 @@ use Rattle.numbers.proofs.Lin.{le_out}
 use Rattle.otp.specs.Search.{any_of}
 use Rattle.column.specs.Columns.{has_digit, symbol_at, column_of, natural, whole}
 use Rattle.column.specs.Reading.{same, value_from, value_of, read_of}
-use Rattle.column.specs.declared.read.Column.TheVariants.{Number, Other}
 use Rattle.column.proofs.Columns.{column_at_is}
 use Rattle.column.proofs.Reading.{written_read}
 use Rattle.sheet_text_laws.specs.Fits.{ColumnFits}
 
 -- ---- the digits
-read_value : (bytes : List ℕ) (n : ℕ) → read_of bytes ≡ Number n → value_of bytes ≡ n
+read_value : (bytes : List ℕ) (n : ℕ) → read_of bytes ≡ Some n → value_of bytes ≡ n
 unfolding read_of
 read_value bytes n = go (ltb 0 (length bytes) && same bytes (natural (length bytes) (value_of bytes)) && ltb (value_of bytes) (2 ^ 64))
   where
-    go : (t : Bool) → pick t (Number (value_of bytes)) Other ≡ Number n → value_of bytes ≡ n
+    go : (t : Bool) → pick t (Some (value_of bytes)) None ≡ Some n → value_of bytes ≡ n
     go true e = cc
     go false e = let z : ◌≡◌ {A = ℕ} 0 1 = cc in absurd (omega arith)
 

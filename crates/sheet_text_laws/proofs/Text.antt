@@ -1,5 +1,6 @@
 -- Each text that is read as a sheet is the one that is written for it, and each sheet that fits its columns is read from its text. Assumes
 -- nothing.
+use Rattle.std.specs.Prelude.{Some, None}
 use mathlib.Core.Path.{◌≡◌, refl, sym, ap, ◌∙◌}
 use mathlib.Core.Bool.{Bool, true, false}
 use mathlib.Core.List.{List, [], ◌∷◌}
@@ -20,46 +21,39 @@ use Rattle.column.proofs.Columns.{column_length, column_at_is}
 use Rattle.otp.specs.Search.{any_of}
 use Rattle.drive_sheet.specs.declared.Sheet.{Sheet}
 use Rattle.drive_sheet.specs.Bytes.{no_group_codes, group_at, code_at, setting_of, Formed}
-use Rattle.drive_sheet.specs.Tests.{Writable, told_of, Reply, written_of}
+use Rattle.drive_sheet.specs.Tests.{Writable, Reply, written_of}
 use Rattle.drive_sheet.proofs.Back.{tabled}
 use Rattle.drive_sheet.proofs.Order.{all_written}
 use Rattle.sheet_text.specs.declared.Drawing.{Drawing}
 use Rattle.sheet_text.specs.Text.{group_line, sheet_text}
 use Rattle.sheet_text.specs.Reading.{value_at, whole_at, group_drawn, sheet_in, line_after, differs_in, bad_line_of, drawing_of}
-use Rattle.sheet_text.specs.Answer.{reply_text, setting_text, answer_text}
+use Rattle.sheet_text.specs.Answer.{reply_text, setting_text, drawing_text, answer_text}
 use Rattle.sheet_text_laws.specs.Fits.{ColumnFits, SheetFits}
 use Rattle.sheet_text_laws.proofs.Holds.{Holds, at_place, column_back}
 use Rattle.sheet_text_laws.proofs.Signs.{natural_value, any_same, whole_back}
 use Rattle.sheet_text_laws.proofs.Places.{frames_in, repeats_in, rate_in, code_in_is, group_holds, gate_holds, vsh1_holds, vsh2_holds, vsl_holds, vcom_holds}
 
 -- ---- a text that is compared with itself, and one that does not differ
-differs_not : (n : ℕ) (t : List ℕ) → differs_in n t t ≡ 0
+differs_not : (n : ℕ) (t : List ℕ) → differs_in n t t ≡ None
 unfolding differs_in
 differs_not n [] = refl
 differs_not n (x ∷ xs) = sym (took _ _ _ _ (eq-eqb x x refl) refl) ∙ differs_not (line_after n x) xs
 
-line_from : (n x : ℕ) → 0 < n → 0 < line_after n x
-line_from n x l = by (eqb x 10)
-  where
-    by : (b : Bool) → 0 < pick b (n + 1) n
-    by true = omega arith
-    by false = l
-
-same_texts : (n : ℕ) (s t : List ℕ) → 0 < n → differs_in n s t ≡ 0 → s ≡ t
+same_texts : (n : ℕ) (s t : List ℕ) → differs_in n s t ≡ None → s ≡ t
 unfolding differs_in
-same_texts n [] [] l e = refl
-same_texts n [] (y ∷ ys) l e = absurd (omega arith)
-same_texts n (x ∷ xs) [] l e = absurd (omega arith)
-same_texts n (x ∷ xs) (y ∷ ys) l e = by (eqb x y) refl e (same_texts (line_after n x) xs ys (line_from n x l))
+same_texts n [] [] e = refl
+same_texts n [] (y ∷ ys) e = cc
+same_texts n (x ∷ xs) [] e = cc
+same_texts n (x ∷ xs) (y ∷ ys) e = by (eqb x y) refl e (same_texts (line_after n x) xs ys)
   where
-    by : (b : Bool) → eqb x y ≡ b → pick b (differs_in (line_after n x) xs ys) n ≡ 0 → (differs_in (line_after n x) xs ys ≡ 0 → xs ≡ ys) → x ∷ xs ≡ y ∷ ys
+    by : (b : Bool) → eqb x y ≡ b → pick b (differs_in (line_after n x) xs ys) (Some n) ≡ None → (differs_in (line_after n x) xs ys ≡ None → xs ≡ ys) → x ∷ xs ≡ y ∷ ys
     by true q f more = λ i. eqb-true x y q i ∷ more f i
-    by false q f more = absurd (omega arith)
+    by false q f more = cc
 
 -- a text without a bad line is the text of the sheet that is read from it
-pub read_is_text : (text : List ℕ) → bad_line_of text ≡ 0 → text ≡ sheet_text (drawing_of text).sheet
+pub read_is_text : (text : List ℕ) → bad_line_of text ≡ None → text ≡ sheet_text (drawing_of text).sheet
 unfolding drawing_of
-read_is_text text e = same_texts 1 text (sheet_text (sheet_in text)) (omega arith) e
+read_is_text text e = same_texts 1 text (sheet_text (sheet_in text)) e
 
 -- ---- columns, read back
 module _ (text : List ℕ) (at : ℕ) where
@@ -141,7 +135,7 @@ module _ (h : Sheet) (formed : Formed h) (fits : SheetFits h) where
       }
 
   -- a sheet that fits its columns is read from its text, and no line is bad
-  pub text_is_read : drawing_of text ≡ record { bad_line = 0; sheet = h }
+  pub text_is_read : drawing_of text ≡ record { bad_line = None; sheet = h }
   unfolding drawing_of
   text_is_read =
       λ i. record { bad_line = (ap (λ (s : Sheet). differs_in 1 text (sheet_text s)) sheet_read ∙ differs_not 1 text) i; sheet = sheet_read i }
@@ -150,12 +144,11 @@ module _ (h : Sheet) (formed : Formed h) (fits : SheetFits h) where
   pub text_is_told : answer_text text ≡ setting_text h
   unfolding answer_text drawing_of
   text_is_told =
-      sym (took _ _ _ _ (eq-eqb (bad_line_of text) 0 (ap (λ (d : Drawing). d.bad_line) text_is_read)) refl)
-      ∙ ap setting_text sheet_read
+      ap (λ (d : Drawing). drawing_text d.bad_line d.sheet) text_is_read
 
   -- its setting, where `write` accepts it
   pub text_is_answered : Writable h → answer_text text ≡ setting_of h
-  unfolding setting_text told_of
+  unfolding setting_text
   text_is_answered w =
       let lent : List ℕ = replicate 112 0 in
       let told : accepted ≡ (written_of h lent).answer = ap (λ (r : Reply). r.answer) (all_written h lent (setting_of h) (length-replicate {A = ℕ} 112 0) w refl) in

@@ -1,20 +1,17 @@
 -- The words of `sensitivity` for a voltage and a code (SCOPE, Sensitivity), in ASCII.
-use Rattle.std.specs.Prelude.{Bool, ◌&&◌, List, [], ◌∷◌, ℕ, ◌+◌, ◌-◌, ◌*◌, eqb, leb, ltb, length, get_or}
+use Rattle.std.specs.Prelude.{Bool, ◌&&◌, List, [], ◌∷◌, ℕ, ◌+◌, ◌-◌, ◌*◌, eqb, leb, ltb, length, get_or, Option, Some, None}
 use Rattle.numbers.specs.Choice.{pick}
 use Rattle.column.specs.Reading.{same}
 use Rattle.voltage_shift.specs.declared.DrivingVoltage.TheVariants.{Vsh1, Vsh2, Vsl}
-use Rattle.shift_report.specs.declared.words.VoltageWord.{VoltageWord}
-use Rattle.shift_report.specs.declared.words.VoltageWord.TheVariants.{Names, NoVoltage}
-use Rattle.shift_report.specs.declared.words.CodeWord.{CodeWord}
-use Rattle.shift_report.specs.declared.words.CodeWord.TheVariants.{Writes, NoCode}
+use Rattle.voltage_shift.specs.declared.DrivingVoltage.{DrivingVoltage}
 
 -- "vsh1", "vsh2", "vsl"
-unfoldable pub voltage_word : List ℕ → VoltageWord
+unfoldable pub voltage_word : List ℕ → Option DrivingVoltage
 voltage_word word =
-    pick (same word (118 ∷ 115 ∷ 104 ∷ 49 ∷ [])) (Names Vsh1)
-    (pick (same word (118 ∷ 115 ∷ 104 ∷ 50 ∷ [])) (Names Vsh2)
-    (pick (same word (118 ∷ 115 ∷ 108 ∷ [])) (Names Vsl)
-    NoVoltage))
+    pick (same word (118 ∷ 115 ∷ 104 ∷ 49 ∷ [])) (Some Vsh1)
+    (pick (same word (118 ∷ 115 ∷ 104 ∷ 50 ∷ [])) (Some Vsh2)
+    (pick (same word (118 ∷ 115 ∷ 108 ∷ [])) (Some Vsl)
+    None))
 
 -- what a hexadecimal digit of either case counts, and 16 for any other byte
 unfoldable pub hex_value : ℕ → ℕ
@@ -30,5 +27,5 @@ is_code_word w =
     eqb (length w) 4 && eqb (get_or w 0 0) 48 && eqb (get_or w 1 0) 120 && ltb (hex_value (get_or w 2 0)) 16 && ltb (hex_value (get_or w 3 0)) 16
 
 -- the byte that they write
-unfoldable pub code_word : List ℕ → CodeWord
-code_word w = pick (is_code_word w) (Writes (16 * hex_value (get_or w 2 0) + hex_value (get_or w 3 0))) NoCode
+unfoldable pub code_word : List ℕ → Option ℕ
+code_word w = pick (is_code_word w) (Some (16 * hex_value (get_or w 2 0) + hex_value (get_or w 3 0))) None

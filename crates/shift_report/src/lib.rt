@@ -4,14 +4,14 @@
 pub mod words;
 
 ghost use Rattle.std.specs.Prelude.{◌≡◌, ◌+◌, ◌<◌, ◌≤◌, length};
-ghost use Rattle.config.specs.Answer.{answer_of};
+ghost use Rattle.config.specs.Answer.{refused_by};
 ghost use Rattle.column.specs.Columns.{buffer, appended};
-ghost use Rattle.voltage_shift.specs.Bounds.{shift_answer};
+ghost use Rattle.voltage_shift.specs.Bounds.{shift_refusal, shift_answer};
 ghost use Rattle.shift_report.specs.Report.{shift_line, shift_lines, answer_number, number_line, shift_text, at_front, bounds_text};
 
 use config::ConfigError;
 use glass::Optics;
-use voltage_shift::{Bounded, DrivingVoltage, Shift, Shifts};
+use voltage_shift::{DrivingVoltage, Shift, ShiftError, Shifts};
 
 // The bytes of four lines.
 pub const ROOM: usize = 112;
@@ -50,11 +50,10 @@ fn put_number(out: &mut [u8], number: u64) -> usize
 }
 
 // 4 and 5 are the ones that bounds are refused with.
-fn number_of(error: ConfigError) -> u64
-    ensures { result ≡ answer_number (answer_of error) }
+fn config_number(error: ConfigError) -> u64
+    ensures { result ≡ answer_number (refused_by error) }
 {
     match error {
-        ConfigError::Accepted => 0,
         ConfigError::EmptyPanel => 1,
         ConfigError::PanelOutsideRam => 2,
         ConfigError::OddRowsWithGd => 3,
@@ -66,16 +65,24 @@ fn number_of(error: ConfigError) -> u64
     }
 }
 
-fn put(out: &mut [u8], bounded: Bounded) -> usize
+fn number_of(error: ShiftError) -> u64
+    ensures { result ≡ answer_number (shift_refusal error) }
+{
+    match error {
+        ShiftError::Parameters(error) => config_number(error),
+        ShiftError::NotASetting => 11,
+        ShiftError::UnlistedCode => 91,
+    }
+}
+
+fn put(out: &mut [u8], bounded: Result<Shifts, ShiftError>) -> usize
     requires { 112 ≤ length out.old }
     ensures text { buffer result out.new ≡ appended (buffer 0 out.old) (shift_text (shift_answer bounded)) }
     ensures end { result ≤ 112 }
 {
     match bounded {
-        Bounded::Within(shifts) => put_lines(out, shifts),
-        Bounded::Refused(error) => put_number(out, number_of(error)),
-        Bounded::NotASetting => put_number(out, 11),
-        Bounded::UnlistedCode => put_number(out, 91),
+        Ok(shifts) => put_lines(out, shifts),
+        Err(error) => put_number(out, number_of(error)),
     }
 }
 

@@ -5,48 +5,26 @@ ghost use Rattle.shift_report.specs.Words.{voltage_word, hex_value, code_word};
 
 use voltage_shift::DrivingVoltage;
 
-#[derive(Clone, Copy)]
-pub enum VoltageWord {
-    Names(DrivingVoltage),
-    NoVoltage,
-}
-
-#[derive(Clone, Copy)]
-pub enum CodeWord {
-    Writes(u8),
-    NoCode,
-}
-
 fn is_word(given: &[u8], word: &[u8]) -> bool
     ensures { result ≡ same given.now word.now }
 {
-    if given.len() != word.len() {
-        return false;
-    }
-    let mut i: usize = 0;
-    while i < given.len() {
-        if given[i] != word[i] {
-            return false;
-        }
-        i += 1;
-    }
-    true
+    given == word
 }
 
 // `vsh1`, `vsh2` or `vsl`.
-pub fn voltage(word: &[u8]) -> VoltageWord
+pub fn voltage(word: &[u8]) -> Option<DrivingVoltage>
     ensures { result ≡ voltage_word word.now }
 {
     if is_word(word, b"vsh1") {
-        return VoltageWord::Names(DrivingVoltage::Vsh1);
+        return Some(DrivingVoltage::Vsh1);
     }
     if is_word(word, b"vsh2") {
-        return VoltageWord::Names(DrivingVoltage::Vsh2);
+        return Some(DrivingVoltage::Vsh2);
     }
     if is_word(word, b"vsl") {
-        return VoltageWord::Names(DrivingVoltage::Vsl);
+        return Some(DrivingVoltage::Vsl);
     }
-    VoltageWord::NoVoltage
+    None
 }
 
 // What a hexadecimal digit counts; 16 for any other byte.
@@ -66,16 +44,16 @@ fn hex_value(byte: u8) -> u8
 }
 
 // `0x` and two hexadecimal digits, and nothing else: 41 alone could be meant in decimal or not.
-pub fn code(word: &[u8]) -> CodeWord
+pub fn code(word: &[u8]) -> Option<u8>
     ensures { result ≡ code_word word.now }
 {
     if word.len() != 4 {
-        return CodeWord::NoCode;
+        return None;
     }
     let high = hex_value(word[2]);
     let low = hex_value(word[3]);
     if (word[0] == b'0') & (word[1] == b'x') & (high < 16) & (low < 16) {
-        return CodeWord::Writes(16 * high + low);
+        return Some(16 * high + low);
     }
-    CodeWord::NoCode
+    None
 }

@@ -5,12 +5,14 @@
 #![tactic(auto)]
 
 pub use command::is_read_command;
-pub use driven::{ReadAnswer, read_data};
+pub use driven::read_data;
+pub use guard::{Refusal, Refused};
 pub use high::write_data;
 pub use low::write_command;
 pub use power_on::new;
 pub use query::{set_ambient, take_diagnostics};
 pub use query_busy::{busy_pin, is_busy, next_deadline};
 pub use query_state::{config, dropped_diagnostics, panel_image};
+pub use reading::Reading;
 pub use res::set_reset;
 pub use wait::advance;

@@ -1,4 +1,5 @@
 -- What each return of the stages hands over, over plain variables. Assumes nothing.
+use Rattle.std.specs.Prelude.{Option, Some, None}
 use Prim.Native.Nat.{ℕ, ◌%◌, ◌+◌, min}
 use mathlib.Core.Path.{◌≡◌}
 use mathlib.Core.Bool.{false}
@@ -8,8 +9,6 @@ use borrow.Author.Tests.{eq-eqb, ne_eqb}
 use Rattle.numbers.specs.Saturation.{largest}
 use Rattle.config.specs.declared.Ssd1677Config.{Ssd1677Config}
 use Rattle.config.specs.declared.DisplayMode.{DisplayMode}
-use Rattle.config.specs.declared.ExternalSensor.{ExternalSensor}
-use Rattle.config.specs.declared.ExternalSensor.TheVariants.{Absent, Reads}
 use Rattle.diagnostic.specs.declared.DiagnosticKind.{DiagnosticKind}
 use Rattle.diagnostic.specs.declared.DiagnosticKind.TheVariants.{NoWaveform, NoExternalSensor}
 use Rattle.diagnostic.specs.Log.{Entries, entries, reported}
@@ -27,11 +26,11 @@ pub waits : (ns n : ℕ) (r : Run) → n ≡ min (r.ns + ns) (largest 64) → wi
 unfolding waited
 waits ns n r h = rw h
 
-module _ (time ns : ℕ) (x : ExternalSensor) (s z : Step) where
-  pub reads : (t : ℕ) → x ≡ Reads t → z ≡ through (λ (r : Run). waited ns (with_temperature (t % 4096) r)) s → z ≡ by_external time ns x s
+module _ (time ns : ℕ) (x : Option ℕ) (s z : Step) where
+  pub reads : (t : ℕ) → x ≡ Some t → z ≡ through (λ (r : Run). waited ns (with_temperature (t % 4096) r)) s → z ≡ by_external time ns x s
   reads t e f = rw e f
 
-  pub reads_none : x ≡ Absent → z ≡ through (waited ns) (noted time NoExternalSensor s) → z ≡ by_external time ns x s
+  pub reads_none : x ≡ None → z ≡ through (waited ns) (noted time NoExternalSensor s) → z ≡ by_external time ns x s
   reads_none e f = rw e f
 
 module _ (time : ℕ) (mode : DisplayMode) (otp : List ℕ) (s : Step) (e : List ℕ) (is : e ≡ entry_for mode otp s.run.temperature) where

@@ -1,11 +1,9 @@
 -- The stages of an activation up to its display, in the order of 0x22's bits (mod.rs, `activate`).
-use Rattle.std.specs.Prelude.{ℕ, ◌%◌, Bool, true, false, ◌&&◌, not, List, eqb, length, take, drop}
+use Rattle.std.specs.Prelude.{ℕ, ◌%◌, Bool, true, false, ◌&&◌, not, List, eqb, length, take, drop, Option, Some, None}
 use Rattle.numbers.specs.Choice.{pick}
 use Rattle.config.specs.declared.Ssd1677Config.{Ssd1677Config}
 use Rattle.config.specs.declared.DisplayMode.{DisplayMode}
 use Rattle.config.specs.declared.DisplayMode.TheVariants.{One, Two}
-use Rattle.config.specs.declared.ExternalSensor.{ExternalSensor}
-use Rattle.config.specs.declared.ExternalSensor.TheVariants.{Absent, Reads}
 use Rattle.diagnostic.specs.declared.DiagnosticKind.TheVariants.{WithoutClock, NoWaveform, NoExternalSensor}
 use Rattle.diagnostic.specs.declared.Stage.TheVariants.{AnalogOn, TemperatureLoad, LutLoad}
 use Rattle.otp.specs.Table.{entry_bytes}
@@ -28,12 +26,12 @@ analog_on time wanted ns s =
     s
 
 -- the external sensor, where there is one, else 36; the load takes its time in both cases
-abbrev pub by_external : ℕ → ℕ → ExternalSensor → Step → Step
-by_external time ns (Reads register) s = through (λ (r : Run). waited ns (with_temperature (register % 4096) r)) s
-by_external time ns Absent s = through (waited ns) (noted time NoExternalSensor s)
+abbrev pub by_external : ℕ → ℕ → Option ℕ → Step → Step
+by_external time ns (Some register) s = through (λ (r : Run). waited ns (with_temperature (register % 4096) r)) s
+by_external time ns None s = through (waited ns) (noted time NoExternalSensor s)
 
 -- the temperature load: the internal sensor where 0x18 is 80h, else the external one (mod.rs, `load_temperature`)
-unfoldable pub sensed : ℕ → ℕ → Ssd1677Config → ExternalSensor → Step → Step
+unfoldable pub sensed : ℕ → ℕ → Ssd1677Config → Option ℕ → Step → Step
 sensed time sensor config external s =
     pick (eqb sensor 0x80)
     (through (λ (r : Run). waited config.timing.temperature_internal (with_temperature (config.ambient % 4096) r)) s)

@@ -64,7 +64,7 @@ pub fn note(run: Run, log: &mut [u8], time: u64, kind: DiagnosticKind) -> Run
 pub fn wait(run: Run, ns: u64) -> Run
     ensures { result ≡ waited ns run }
 {
-    let sum = numbers::saturating_add_u64(run.ns, ns);
+    let sum = run.ns.saturating_add(ns);
     let mut next = run;
     next.ns = sum;
     next

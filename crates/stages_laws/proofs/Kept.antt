@@ -1,5 +1,6 @@
 -- The stages of an activation change the journal and the log by reports alone, and the temperature to one of twelve bits alone: what both
 -- keep, the stages keep. Assumes nothing.
+use Rattle.std.specs.Prelude.{Option, Some, None}
 use Prim.Native.Nat.{ℕ, ◌%◌}
 use mathlib.Core.Bool.{Bool, true, false, ◌&&◌, not}
 use mathlib.Core.List.{List}
@@ -8,8 +9,6 @@ use lib.ListN.{length}
 use Rattle.numbers.specs.Choice.{pick}
 use Rattle.config.specs.declared.Ssd1677Config.{Ssd1677Config}
 use Rattle.config.specs.declared.DisplayMode.{DisplayMode}
-use Rattle.config.specs.declared.ExternalSensor.{ExternalSensor}
-use Rattle.config.specs.declared.ExternalSensor.TheVariants.{Absent, Reads}
 use Rattle.diagnostic.specs.declared.DiagnosticKind.{DiagnosticKind}
 use Rattle.diagnostic.specs.declared.DiagnosticKind.TheVariants.{WithoutClock, NoWaveform, NoExternalSensor}
 use Rattle.diagnostic.specs.declared.Stage.TheVariants.{AnalogOn, TemperatureLoad, LutLoad}
@@ -59,15 +58,15 @@ module _ (Q : ℕ → Entries → Type 0)
         (either Holds s.run.clock on off (waited_holds ns (with_analog true s.run) s.log h) (noted_holds time (WithoutClock AnalogOn) s h))
         h
 
-    external_holds : (ns : ℕ) (external : ExternalSensor) (s : Step) → Holds s → Holds (by_external time ns external s)
-    external_holds ns (Reads register) s h =
+    external_holds : (ns : ℕ) (external : Option ℕ) (s : Step) → Holds s → Holds (by_external time ns external s)
+    external_holds ns (Some register) s h =
         waited_holds ns (with_temperature (register % 4096) s.run) s.log
         (loads s.run.temperature register (entries s.run.journal s.log) h)
-    external_holds ns Absent s h =
+    external_holds ns None s h =
         let t = noted time NoExternalSensor s in
         waited_holds ns t.run t.log (noted_holds time NoExternalSensor s h)
 
-    sensed_holds : (sensor : ℕ) (config : Ssd1677Config) (external : ExternalSensor) (s : Step) → Holds s → Holds (sensed time sensor config external s)
+    sensed_holds : (sensor : ℕ) (config : Ssd1677Config) (external : Option ℕ) (s : Step) → Holds s → Holds (sensed time sensor config external s)
     unfolding sensed
     sensed_holds sensor config external s h =
         let inside = with_temperature (config.ambient % 4096) s.run in

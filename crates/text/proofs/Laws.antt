@@ -7,24 +7,44 @@ use native.Mathlib.Nat.{pow-suc, one-le-pow, pow-le-pow_right, zero-lt-suc}
 use native.Mathlib.Numerals.{add-one}
 use native.Mathlib.Omega.{arith}
 use lib.Dec.{leb}
-use lib.ListN.{length, take, get_or}
+use lib.ListN.{length, take, get_or, set}
 use lib.Seq.{take-suc}
+use Rattle.std.proofs.lemmas.List.{take_more_set, length-take-le}
 use borrow.Author.Tests.{leb-true, leb-false, lt-ltb, le-ltb}
 use Rattle.io.specs.Digits.{hex_digit_ascii, last_digits, IsDigitCount}
+use lib.IntN.{ℤ, pos, negsuc, nat_abs}
+use lib.Signed.{lt_z}
 use Rattle.numbers.specs.Choice.{pick}
-use Rattle.text.specs.Text.{Gathered, put_of, written, decimal_from, decimal_of, digit_of, hex_of}
+use Rattle.numbers.proofs.Cases.{took, passed}
+use Rattle.numbers.proofs.Lin.{whole, lt_true}
+use Rattle.text.specs.Text.{put_of, written, decimal_from, decimal_of, signed_of, digit_of, hex_of}
 
-pub written_more : (g : Gathered) (s t : List ℕ) → written g (s ++ t) ≡ written (written g s) t
+-- a byte after the first n of a buffer, and none where there is no room
+module _ (bytes : List ℕ) (n b : ℕ) {g : List ℕ} (l : length bytes ≡ 65536) (e : take n bytes ≡ g) (m : n ≤ 65536) where
+  long : length g ≡ n
+  long = ap length (sym e) ∙ length-take-le n bytes (omega arith)
+
+  pub put_more : n < 65536 → take (n + 1) (set bytes n b) ≡ put_of g b
+  unfolding put_of
+  put_more h =
+      took _ _ _ _ (lt-ltb (length g) 65536 (omega (arith, long)))
+      (take_more_set bytes n b (omega arith) ∙ ap (λ (x : List ℕ). x ++ (b ∷ [])) e)
+
+  pub put_none : 65536 ≤ n → take n bytes ≡ put_of g b
+  unfolding put_of
+  put_none h = passed _ _ _ _ (le-ltb (length g) 65536 (omega (arith, long))) e
+
+pub written_more : (g : List ℕ) (s t : List ℕ) → written g (s ++ t) ≡ written (written g s) t
 unfolding written
 written_more g [] t = refl
 written_more g (c ∷ s) t = written_more (put_of g c) s t
 
 -- a text as far as its first i bytes, f of which is what is written
-module _ (g : Gathered) (l : List ℕ) (i : ℕ) (h : i < length l) {a b : Gathered} where
+module _ (g : List ℕ) (l : List ℕ) (i : ℕ) (h : i < length l) {a b : List ℕ} where
   pub word_step : a ≡ written g (take i l) → b ≡ put_of a (get_or l i 0) → b ≡ written g (take (i + 1) l)
   unfolding written
   word_step e f =
-      f ∙ ap (λ (x : Gathered). put_of x (get_or l i 0)) e ∙ sym (written_more g (take i l) (get_or l i 0 ∷ []))
+      f ∙ ap (λ (x : List ℕ). put_of x (get_or l i 0)) e ∙ sym (written_more g (take i l) (get_or l i 0 ∷ []))
       ∙ ap (written g) (sym (take-suc l i 0 h)) ∙ ap (λ (n : ℕ). written g (take n l)) (sym (add-one i))
 
 hex_more : (s : List ℕ) (c : ℕ) → hex_of (s ++ (c ∷ [])) ≡ hex_of s ++ hex_of (c ∷ [])
@@ -32,10 +52,10 @@ unfolding hex_of
 hex_more [] c = refl
 hex_more (b ∷ s) c = ap (λ (t : List ℕ). digit_of (b / 16) ∷ digit_of (b % 16) ∷ t) (hex_more s c)
 
-module _ (g : Gathered) (l : List ℕ) (i : ℕ) (h : i < length l) {a b : Gathered} where
+module _ (g : List ℕ) (l : List ℕ) (i : ℕ) (h : i < length l) {a b : List ℕ} where
   pub hex_step : a ≡ written g (hex_of (take i l)) → b ≡ written a (hex_of (get_or l i 0 ∷ [])) → b ≡ written g (hex_of (take (i + 1) l))
   hex_step e f =
-      f ∙ ap (λ (x : Gathered). written x (hex_of (get_or l i 0 ∷ []))) e ∙ sym (written_more g (hex_of (take i l)) (hex_of (get_or l i 0 ∷ [])))
+      f ∙ ap (λ (x : List ℕ). written x (hex_of (get_or l i 0 ∷ []))) e ∙ sym (written_more g (hex_of (take i l)) (hex_of (get_or l i 0 ∷ [])))
       ∙ ap (written g) (sym (hex_more (take i l) (get_or l i 0))) ∙ ap (λ (t : List ℕ). written g (hex_of t)) (sym (take-suc l i 0 h))
       ∙ ap (λ (n : ℕ). written g (hex_of (take n l))) (sym (add-one i))
 
@@ -78,3 +98,14 @@ decimal_is n (suc c) k f = spelt 19 c n (few (leb c 19) refl) f.1 large
         let p : 10 ^ 20 ≤ 10 ^ c = pow-le-pow_right {n = 10} (zero-lt-suc 9) {i = 20} {j = c} (omega arith) in
         let q = large (omega arith) in
         absurd (omega arith)
+
+-- ---- a negative number has its sign in front of its size
+pub minus_of : (z : ℤ) → lt_z z (pos 0) ≡ true → signed_of z ≡ 45 ∷ decimal_of (nat_abs z)
+unfolding signed_of
+minus_of (pos n) h = absurd (omega (whole, lt_true (pos n) (pos 0) h))
+minus_of (negsuc n) h = ap (λ (m : ℕ). 45 ∷ decimal_of m) (add-one n)
+
+pub plus_of : (z : ℤ) → lt_z z (pos 0) ≡ false → signed_of z ≡ decimal_of (nat_abs z)
+unfolding signed_of
+plus_of (pos n) h = refl
+plus_of (negsuc n) h = cc

@@ -1,22 +1,13 @@
 -- Text gathered in a buffer, numbers in decimal and bytes in hexadecimal (docs/replay-format.md), in ASCII.
-use Rattle.std.specs.Prelude.{Bool, List, [], ◌∷◌, ◌++◌, ℕ, zero, suc, ◌+◌, ◌/◌, ◌%◌, ltb, set}
+use Rattle.std.specs.Prelude.{Bool, List, [], ◌∷◌, ◌++◌, ℕ, ℤ, pos, negsuc, zero, suc, ◌+◌, ◌/◌, ◌%◌, ltb, length}
 use Rattle.numbers.specs.Choice.{pick}
 
--- bytes, and the place where the next goes
-pub record Gathered : Type 0 where
-  pub at : ℕ
-  pub bytes : List ℕ
-
--- the two as one
-abbrev pub gathered : ℕ → List ℕ → Gathered
-gathered at bytes = record { at = at; bytes = bytes }
-
 -- a byte more, where there is room for it
-unfoldable pub put_of : Gathered → ℕ → Gathered
-put_of g byte = pick (ltb g.at 65536) (gathered (g.at + 1) (set g.bytes g.at byte)) g
+unfoldable pub put_of : List ℕ → ℕ → List ℕ
+put_of g byte = pick (ltb (length g) 65536) (g ++ (byte ∷ [])) g
 
 -- a text more
-unfoldable pub written : Gathered → List ℕ → Gathered
+unfoldable pub written : List ℕ → List ℕ → List ℕ
 written g [] = g
 written g (byte ∷ text) = written (put_of g byte) text
 
@@ -28,6 +19,11 @@ decimal_from (suc k) n = pick (ltb n 10) ((48 + n) ∷ []) (decimal_from k (n / 
 -- a number of 64 bits has 20 at most
 abbrev pub decimal_of : ℕ → List ℕ
 decimal_of n = decimal_from 19 n
+
+-- the same of a number that may be negative
+unfoldable pub signed_of : ℤ → List ℕ
+signed_of (pos n) = decimal_of n
+signed_of (negsuc n) = 45 ∷ decimal_of (n + 1)
 
 -- a digit below 16, from a on in lower case
 abbrev pub digit_of : ℕ → ℕ

@@ -1,114 +1,143 @@
-// The text of docs/replay-format.md's answers, gathered in a buffer and written when there is enough of it. What does not fit is left
-// out, and standard error says that it may be.
+// The text of a program's answers, gathered in a buffer and written when there is enough of it. What does not fit is left out, and
+// standard error says that it may be.
 #![tactic(auto)]
 
-ghost use Rattle.std.specs.Prelude.{◌≡◌, ◌<◌, [], ◌∷◌};
-ghost use Rattle.text.specs.Text.{gathered, put_of, written, decimal_of, digit_of, hex_of, truth_of};
+ghost use Rattle.std.specs.Prelude.{◌≡◌, ◌<◌, ◌≤◌, [], ◌∷◌, length, take, List, ℕ};
+ghost use Rattle.text.specs.Text.{put_of, written, decimal_of, signed_of, digit_of, hex_of, truth_of};
+
+use std::marker::Model;
 
 // Bytes that are gathered at most.
 pub const ROOM: usize = 65536;
 
-// A byte at a place, and the place after it.
-pub fn put(text: &mut [u8; ROOM], at: usize, byte: u8) -> usize
-    ensures { gathered result text.new ≡ put_of (gathered at text.old) byte }
-{
-    if at < ROOM {
-        text[at] = byte;
-        return at + 1;
-    }
-    at
+// From so many bytes on the text is written by `flush_when_long`.
+pub const LONG: usize = 57344;
+
+// The bytes that are gathered.
+#[derive(Drop)]
+pub struct Text {
+    bytes: [u8; ROOM],
+    len: usize,
 }
 
-pub fn word(text: &mut [u8; ROOM], at: usize, word: &[u8]) -> usize
-    ensures { gathered result text.new ≡ written (gathered at text.old) word.now }
-{
-    let mut to = at;
-    let mut i: usize = 0;
-    while i < word.len() {
-        to = put(text, to, word[i]);
-        i += 1;
-    }
-    to
-}
+impl Model for Text {
+    ghost Value = { List ℕ };
 
-pub fn number(text: &mut [u8; ROOM], at: usize, n: u64) -> usize
-    ensures { gathered result text.new ≡ written (gathered at text.old) (decimal_of n) }
-{
-    let mut digits = [0u8; 20];
-    let count = io::decimal(n, &mut digits);
-    word(text, at, &digits[..count])
-}
+    ghost view = { λ t. take t.len t.bytes };
 
-pub fn truth(text: &mut [u8; ROOM], at: usize, is: bool) -> usize
-    ensures { gathered result text.new ≡ put_of (gathered at text.old) (truth_of is) }
-{
-    if is {
-        return put(text, at, b'1');
-    }
-    put(text, at, b'0')
+    ghost invariant = { λ t. t.len ≤ 65536 };
 }
 
 fn digit(d: u8) -> u8
     requires { d < 16 }
     ensures { result ≡ digit_of d }
 {
-    if d < 10 {
-        return 48 + d;
+    if d < 10 { 48 + d } else { 87 + d }
+}
+
+impl Text {
+    pub fn new() -> Text
+        ensures { result ≡ [] }
+    {
+        Text {
+            bytes: [0; ROOM],
+            len: 0,
+        }
     }
-    87 + d
-}
 
-fn hex_byte(text: &mut [u8; ROOM], at: usize, byte: u8) -> usize
-    ensures { gathered result text.new ≡ written (gathered at text.old) (hex_of (byte ∷ [])) }
-{
-    let next = put(text, at, digit(byte / 16));
-    put(text, next, digit(byte % 16))
-}
-
-// Two digits a byte.
-pub fn hex(text: &mut [u8; ROOM], at: usize, bytes: &[u8]) -> usize
-    ensures { gathered result text.new ≡ written (gathered at text.old) (hex_of bytes.now) }
-{
-    let mut to = at;
-    let mut i: usize = 0;
-    while i < bytes.len() {
-        to = hex_byte(text, to, bytes[i]);
-        i += 1;
+    pub fn len(&self) -> usize
+        ensures { result ≡ length self.now }
+    {
+        self.len
     }
-    to
-}
 
-// The place to go on at, and whether all was written.
-fn write_front(rt: &impl Print, text: &[u8], at: usize) -> (usize, std::io::Result<()>)
-    ensures { result.0 ≡ 0 }
-{
-    if at <= text.len() {
-        return (0, rt.write_all(&text[0..at]));
+    // A byte more.
+    pub fn put(&mut self, byte: u8)
+        ensures { self.new ≡ put_of self.old byte }
+    {
+        if self.len < ROOM {
+            self.bytes[self.len] = byte;
+            self.len += 1;
+        }
     }
-    (0, Ok(()))
-}
 
-// Only a text that has used up all its room can lack something.
-fn say_if_full(rt: &impl Eprint, at: usize) -> std::io::Result<()> {
-    if at == ROOM {
-        eprintln!(rt; "no room left for the text: it may be cut")?;
+    pub fn word(&mut self, word: &[u8])
+        ensures { self.new ≡ written self.old word.now }
+    {
+        for byte in word {
+            self.put(*byte);
+        }
     }
-    Ok(())
-}
 
-// Writes what is gathered to standard output, and answers the place to go on at and whether all was written. Where no room was left,
-// standard error says so.
-pub fn flush(
-    rt: &(impl Print + Eprint),
-    text: &[u8; ROOM],
-    at: usize,
-) -> (usize, std::io::Result<()>)
-    ensures { result.0 ≡ 0 }
-{
-    let said = say_if_full(rt, at);
-    let (to, written) = write_front(rt, text, at);
-    match said {
-        Ok(()) => (to, written),
-        Err(error) => (to, Err(error)),
+    pub fn number(&mut self, n: u64)
+        ensures { self.new ≡ written self.old (decimal_of n) }
+    {
+        let mut digits = [0u8; 20];
+        let count = io::decimal(n, &mut digits);
+        self.word(&digits[..count]);
+    }
+
+    pub fn signed(&mut self, z: i64)
+        ensures { self.new ≡ written self.old (signed_of z) }
+    {
+        if z < 0 {
+            self.put(b'-');
+        }
+        self.number(z.unsigned_abs());
+    }
+
+    pub fn truth(&mut self, is: bool)
+        ensures { self.new ≡ put_of self.old (truth_of is) }
+    {
+        if is {
+            self.put(b'1');
+        } else {
+            self.put(b'0');
+        }
+    }
+
+    fn hex_byte(&mut self, byte: u8)
+        ensures { self.new ≡ written self.old (hex_of (byte ∷ [])) }
+    {
+        self.word(&[digit(byte / 16), digit(byte % 16)]);
+    }
+
+    // Two digits a byte.
+    pub fn hex(&mut self, bytes: &[u8])
+        ensures { self.new ≡ written self.old (hex_of bytes.now) }
+    {
+        for byte in bytes {
+            self.hex_byte(*byte);
+        }
+    }
+
+    // Only a text that has used up all its room can lack something.
+    fn say_if_full(&self, rt: &impl Eprint) -> std::io::Result<()> {
+        if self.len == ROOM {
+            eprintln!(rt; "no room left for the text: it may be cut")?;
+        }
+        Ok(())
+    }
+
+    // Writes what is gathered to standard output, and begins anew. Where no room was left, standard error says so.
+    pub fn flush(&mut self, rt: &(impl Print + Eprint)) -> std::io::Result<()>
+        ensures { self.new ≡ [] }
+    {
+        let said = self.say_if_full(rt);
+        let written = rt.write_all(&self.bytes[..self.len]);
+        self.len = 0;
+        said?;
+        written
+    }
+
+    // The same once there is enough.
+    pub fn flush_when_long(&mut self, rt: &(impl Print + Eprint)) -> std::io::Result<()>
+        ensures short { length self.old < 57344 → self.new ≡ self.old }
+        ensures long { 57344 ≤ length self.old → self.new ≡ [] }
+    {
+        if self.len < LONG {
+            return Ok(());
+        }
+        self.flush(rt)
     }
 }

@@ -1,4 +1,5 @@
 -- RAM data written in a burst is RAM data written a byte a call: feeding goes on alike from where the burst ends. Assumes nothing.
+use Rattle.std.specs.Prelude.{Result, Ok, Err, is_ok}
 use mathlib.Core.Path.{◌≡◌, refl, sym, ap, subst, ◌∙◌}
 use mathlib.Core.Bool.{Bool, true, false, ◌&&◌}
 use mathlib.Core.List.{List, [], ◌∷◌}
@@ -36,10 +37,8 @@ use Rattle.guard_laws.proofs.Joined.{each}
 use Rattle.guard_laws.proofs.Accepted.{fine_registers, accepted_state, accepted_lengths, accepted_counts}
 use Rattle.guard_laws.proofs.Kept.{registers_pass, state_passes}
 use Rattle.guard.specs.declared.Refusal.{Refusal}
-use Rattle.guard.specs.declared.Refusal.TheVariants.{Accepted}
-use Rattle.guard.specs.Refusals.{refusal_number, accepts, guarded}
+use Rattle.guard.specs.Refusals.{guarded}
 use Rattle.query.specs.Outcome.{Outcome, outcome}
-use Rattle.entry_laws.proofs.Passed.{only_accepted}
 use Rattle.event.specs.declared.Event.{Event}
 use Rattle.event.specs.declared.Event.TheVariants.{Data}
 use Rattle.event.specs.Events.{event_of}
@@ -51,7 +50,7 @@ use Rattle.burst.specs.Running.{takes, onward, Ran, ran, running}
 use Rattle.burst.proofs.Running.{from_on, not_past}
 use Rattle.burst.specs.Burst.{course_of, start_of, received_as, reached_by, Bursted, bursted, ran_into, burstOf}
 use Rattle.traffic.specs.Traffic.{event_at, feeding, unread, made, EndsAlike}
-use Rattle.traffic.proofs.Feeding.{going_on, one}
+use Rattle.traffic.proofs.Feeding.{never, going_on, one}
 
 -- ---- 13 and 11 refuse no byte of a burst
 
@@ -101,7 +100,7 @@ module _ (d : Ssd1677) (a : Active) (is : d.bus.current ≡ current.Active a) (f
       }))
       (passed 4) (still_current s.received) (passed 6)
 
-accepted : (d : Ssd1677) (l : Lengths) → state_fine d ≡ true → lengths_fit d.config.panel l ≡ true → l.counts ≡ 256 → guarded d l ≡ Accepted
+accepted : (d : Ssd1677) (l : Lengths) → state_fine d ≡ true → lengths_fit d.config.panel l ≡ true → l.counts ≡ 256 → guarded d l ≡ Ok tt
 unfolding guarded
 accepted d l e f k = rw (e, f, eq-eqb l.counts 256 k)
 
@@ -173,11 +172,10 @@ module _ (d : Ssd1677) (a : Active) (is : d.bus.current ≡ current.Active a) (f
   written_one time byte s p ten fit quiet there =
       let l = planes_log_lent (length states) (length luts) (length shown.pixels) (length shown.counts) (length log) (length (pick white p other)) (length (pick white other p)) in
       let ok = accepted (reached_by d a s) l (fine_reached d a is fine s ten) fit counted in
-      ap (λ (r : Refusal). outcome (refusal_number r) (planes (onward (course_of d) time s) (written_at p s.counter byte))) (sym ok)
-      ∙ data_rests luts time byte (planes s p) l (guarded (reached_by d a s) l) (accepts (guarded (reached_by d a s) l)) refl refl refl
+      data_rests luts time byte (planes s p) l refl (sym ok)
       (with_now (reached_by d a s) (max s.latest time)) true
       (with_ram (reached_by d a (onward (course_of d) time s)) (pick white (written_at p s.counter byte) other) (pick white other (written_at p s.counter byte)) log)
-      (ap accepts ok) refl (sym quiet) refl (put_one time byte s p there)
+      refl (sym quiet) refl (put_one time byte s p there)
 
   -- ---- and so is a burst
   module _ (otp kinds times values : List ℕ) where
@@ -283,7 +281,7 @@ module _ (kinds times values : List ℕ) (count i : ℕ) (within : i ≤ count) 
   abbrev ends : Active → List ℕ → Ran
   ends a p = running kinds times values (course_of d) (count - i) i (start_of d a) p
 
-  module _ (a : Active) (is : d.bus.current ≡ current.Active a) (streams : is_stream a.kind ≡ true) (passes : guarded d lengths ≡ Accepted) where
+  module _ (a : Active) (is : d.bus.current ≡ current.Active a) (streams : is_stream a.kind ≡ true) (passes : guarded d lengths ≡ Ok tt) where
     abbrev fine : state_fine d ≡ true
     fine = accepted_state d lengths passes
 
@@ -335,7 +333,7 @@ module _ (kinds times values : List ℕ) (count i : ℕ) (within : i ≤ count) 
     by_plane false e = burst_goes false e red black_white refl refl
 
   -- whatever is current
-  pub bursts : guarded d lengths ≡ Accepted → Goes (burstOf kinds times values (count - i) i d black_white red d.bus.current)
+  pub bursts : guarded d lengths ≡ Ok tt → Goes (burstOf kinds times values (count - i) i d black_white red d.bus.current)
   unfolding burstOf ran_into
   bursts passes = by d.bus.current refl
     where
@@ -355,6 +353,7 @@ module _ (kinds times values : List ℕ) (count i : ℕ) (within : i ≤ count) 
       by (current.Active a) is = by_kind a is (is_stream a.kind) refl
 
   -- by the guard's answer
-  pub burst_made : (r : Refusal) (t : Bool) (b : Bursted) → r ≡ guarded d lengths → t ≡ accepts r → t ≡ true
+  pub burst_made : (r : Result Unit Refusal) (t : Bool) (b : Bursted) → r ≡ guarded d lengths → t ≡ is_ok r → t ≡ true
       → b ≡ burstOf kinds times values (count - i) i d black_white red d.bus.current → Goes b
-  burst_made r t b is tells h e = subst (λ (x : Bursted). Goes x) (sym e) (bursts (sym is ∙ only_accepted r (sym tells ∙ h)))
+  burst_made (Ok value) t b is tells h e = subst (λ (x : Bursted). Goes x) (sym e) (bursts (sym is))
+  burst_made (Err refusal) t b is tells h e = absurd (never (sym tells ∙ h))

@@ -1,9 +1,8 @@
 // Events made of a device one after the other, up to the first call that is refused: what #102 feeds from a file.
 #![tactic(auto)]
 
-ghost use Rattle.std.specs.Prelude.{◌≡◌, true, ◌+◌, ◌-◌, ◌^◌, ◌≤◌, ◌<◌, min, length};
-ghost use Rattle.numbers.specs.Choice.{pick};
-ghost use Rattle.guard.specs.Refusals.{refusal_number, accepts};
+ghost use Rattle.std.specs.Prelude.{◌≡◌, true, ◌+◌, ◌-◌, ◌≤◌, ◌<◌, min, length, is_ok};
+ghost use Rattle.guard.specs.Refusals.{refusal_number};
 ghost use Rattle.counts.specs.Counts.{picture};
 ghost use Rattle.world.specs.World.{world};
 ghost use Rattle.burst.specs.Burst.{bursted};
@@ -14,21 +13,12 @@ use device::Ssd1677;
 use guard::Refusal;
 use guard_lengths::Lengths;
 
-// How events ended: the refusal of the last call, the state that they leave, and how many of them were made before a refused one.
+// How events ended: what the last call answered, the state that they leave, and how many of them were made before a refused one.
 #[derive(Clone, Copy)]
 pub struct Fed {
-    pub refusal: Refusal,
+    pub answer: Result<(), Refusal>,
     pub state: Ssd1677,
     pub made: usize,
-}
-
-fn shorter(one: usize, other: usize) -> usize
-    ensures { result ≡ min one other }
-{
-    if one < other {
-        return one;
-    }
-    other
 }
 
 // RAM data from a place on, which would be accepted a byte a call, made at once: how many events are then made, and the state.
@@ -48,24 +38,11 @@ fn stream(
     ensures ends_alike { EndsAlike kinds.now times.now values.now count lengths (bursted from state black_white.old red.old) (bursted result.made result.state black_white.new red.new) }
 {
     if kinds[from] == DATA {
-        let refusal = guard::check(state, lengths);
-        if guard::is_accepted(refusal) {
+        if guard::check(state, lengths).is_ok() {
             return burst::write_burst(state, black_white, red, kinds, times, values, from, count);
         }
-        return Burst { made: from, state };
     }
     Burst { made: from, state }
-}
-
-// How many events are made, with the one at a place accepted or refused.
-fn counted(refusal: Refusal, at: usize) -> usize
-    requires { at + 1 < 2 ^ 64 }
-    ensures { result ≡ pick (accepts refusal) (at + 1) at }
-{
-    if guard::is_accepted(refusal) {
-        return at + 1;
-    }
-    at
 }
 
 // The event at a place, where one is left.
@@ -87,12 +64,12 @@ fn one(
     count: usize,
 ) -> Fed
     requires { (at ≤ count) × (count ≤ length kinds.now) × (count ≤ length times.now) × (count ≤ length values.now) }
-    ensures made_value { accepts result.refusal ≡ true → result.made ≡ min count (at + 1) }
-    ensures log_after { ended (made otp.now (event_at kinds.now times.now values.now)) count (fed (refusal_number result.refusal) result.made (world result.state states.new luts.new (picture pixels.new counts.new) black_white.new red.new gates.now log.new)) ≡ feeding (made otp.now (event_at kinds.now times.now values.now)) (count - at) at (world state states.old luts.old (picture pixels.old counts.old) black_white.old red.old gates.now log.old) }
+    ensures made_value { is_ok result.answer ≡ true → result.made ≡ min count (at + 1) }
+    ensures log_after { ended (made otp.now (event_at kinds.now times.now values.now)) count (fed (refusal_number result.answer) result.made (world result.state states.new luts.new (picture pixels.new counts.new) black_white.new red.new gates.now log.new)) ≡ feeding (made otp.now (event_at kinds.now times.now values.now)) (count - at) at (world state states.old luts.old (picture pixels.old counts.old) black_white.old red.old gates.now log.old) }
 {
     if count <= at {
         return Fed {
-            refusal: Refusal::Accepted,
+            answer: Ok(()),
             state,
             made: at,
         };
@@ -111,13 +88,17 @@ fn one(
         otp,
         event,
     );
-    let refusal = answer.refusal;
-    let state = answer.state;
-    let made = counted(refusal, at);
-    Fed {
-        refusal,
-        state,
-        made,
+    match answer {
+        Ok(reading) => Fed {
+            answer: Ok(()),
+            state: reading.state,
+            made: at + 1,
+        },
+        Err(refused) => Fed {
+            answer: Err(refused.refusal),
+            state: refused.state,
+            made: at,
+        },
     }
 }
 
@@ -140,8 +121,8 @@ fn turn(
     count: usize,
 ) -> Fed
     requires { (from < count) × (count ≤ length kinds.now) × (count ≤ length times.now) × (count ≤ length values.now) }
-    ensures from_lt_made { accepts result.refusal ≡ true → (from < result.made) × (result.made ≤ count) }
-    ensures log_after { ended (made otp.now (event_at kinds.now times.now values.now)) count (fed (refusal_number result.refusal) result.made (world result.state states.new luts.new (picture pixels.new counts.new) black_white.new red.new gates.now log.new)) ≡ feeding (made otp.now (event_at kinds.now times.now values.now)) (count - from) from (world state states.old luts.old (picture pixels.old counts.old) black_white.old red.old gates.now log.old) }
+    ensures from_lt_made { is_ok result.answer ≡ true → (from < result.made) × (result.made ≤ count) }
+    ensures log_after { ended (made otp.now (event_at kinds.now times.now values.now)) count (fed (refusal_number result.answer) result.made (world result.state states.new luts.new (picture pixels.new counts.new) black_white.new red.new gates.now log.new)) ≡ feeding (made otp.now (event_at kinds.now times.now values.now)) (count - from) from (world state states.old luts.old (picture pixels.old counts.old) black_white.old red.old gates.now log.old) }
 {
     let lengths = guard_lengths::planes_log_lent(
         states.len(),
@@ -200,11 +181,12 @@ pub fn feed(
     times: &[u64],
     values: &[u8],
 ) -> Fed
-    ensures { fed (refusal_number result.refusal) result.made (world result.state states.new luts.new (picture pixels.new counts.new) black_white.new red.new gates.now log.new) ≡ feeding (made otp.now (event_at kinds.now times.now values.now)) (shortest kinds.now times.now values.now) 0 (world state states.old luts.old (picture pixels.old counts.old) black_white.old red.old gates.now log.old) }
+    ensures { fed (refusal_number result.answer) result.made (world result.state states.new luts.new (picture pixels.new counts.new) black_white.new red.new gates.now log.new) ≡ feeding (made otp.now (event_at kinds.now times.now values.now)) (shortest kinds.now times.now values.now) 0 (world state states.old luts.old (picture pixels.old counts.old) black_white.old red.old gates.now log.old) }
 {
-    let count = shorter(kinds.len(), shorter(times.len(), values.len()));
+    let count = kinds.len().min(times.len().min(values.len()));
     let mut next = state;
     let mut i: usize = 0;
+    // By as many places as a turn has made: RAM data are one turn, however many bytes they are.
     while i < count {
         let fed = turn(
             next,
@@ -223,15 +205,14 @@ pub fn feed(
             i,
             count,
         );
-        let refusal = fed.refusal;
-        if !guard::is_accepted(refusal) {
+        if fed.answer.is_err() {
             return fed;
         }
         next = fed.state;
         i = fed.made;
     }
     Fed {
-        refusal: Refusal::Accepted,
+        answer: Ok(()),
         state: next,
         made: i,
     }

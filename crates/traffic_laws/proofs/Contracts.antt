@@ -1,5 +1,7 @@
 -- The contracts of `dispatch` and `feed` give the theorem too: History holds of every mixture of calls, events and lists of events that were made of
 -- a device which `new` has started. Weaken an `ensures` of these, and this is refused. Assumes nothing.
+use Rattle.std.specs.Prelude.{Result}
+use Rattle.device.specs.declared.Ssd1677.{Ssd1677}
 use Prim.Native.Nat.{ℕ, zero, suc, ◌+◌, ◌≤◌}
 use mathlib.Core.Path.{◌≡◌, refl, sym, ap, subst, ◌∙◌}
 use mathlib.Core.Bool.{Bool, true, false}
@@ -35,7 +37,7 @@ use Rattle.traffic_laws.specs.Claims.{Dispatches, Feeds, Traffic, done, calls, e
 use Rattle.traffic_laws.proofs.Events.{dispatched_called}
 
 -- ---- an event
-pub dispatches_called : {otp : List ℕ} {w v : World} {sent : Event} {reason : Refusal} → Dispatches otp w sent reason v
+pub dispatches_called : {otp : List ℕ} {w v : World} {sent : Event} {reason : Result Unit Refusal} → Dispatches otp w sent reason v
     → outcome (refusal_number reason) v ≡ called otp w (call_of sent)
 dispatches_called (contracts.dispatch κs a r s q) =
     let w =
@@ -120,7 +122,7 @@ traffic_runs {otp = otp} (none_made {w = w} {v = v} {u = u} {handed = handed} {b
     subst (λ (x : World). Runs otp x more u) (beside_same w handed back v (one_end (feeds_runs f)) b) (traffic_runs rest)
 
 -- the theorem: whatever is then made of a device that `new` has started, what is left agrees with the reckoning
-pub traffic_agrees : (c : Ssd1677Config) (otp : List ℕ) (b : Buffers) (error : StartError) (p : Powered) → New c otp b error p
-    → is_accepted (start_answer_of error) ≡ true → c.optics.initial_gray ≤ 255 → (list : List Call) (u : World) → Traffic otp (world_of p) list u
+pub traffic_agrees : (c : Ssd1677Config) (otp : List ℕ) (b : Buffers) (answer : Result Ssd1677 StartError) (p : Powered) → New c otp b answer p
+    → is_accepted (start_answer_of answer) ≡ true → c.optics.initial_gray ≤ 255 → (list : List Call) (u : World) → Traffic otp (world_of p) list u
     → Agrees u (reckon otp (first_reckoning (core_of (world_of p))) list)
-traffic_agrees c otp b error p begins ok byte list u t = new_agrees c otp b error p begins ok byte list u (traffic_runs t)
+traffic_agrees c otp b answer p begins ok byte list u t = new_agrees c otp b answer p begins ok byte list u (traffic_runs t)

@@ -8,24 +8,23 @@ ghost use Rattle.otp.specs.Table.{entry_count, unlisted_voltage, voltages_test, 
 
 use config::{ConfigError, Ssd1677Config};
 use otp::ENTRY_BYTES;
-use voltage::is_voltage;
 
 fn is_unlisted_source(code: u8) -> bool
     ensures { result ≡ not (is_voltage (source_voltage code)) }
 {
-    !is_voltage(voltage::source_millivolts(code))
+    voltage::source_millivolts(code).is_none()
 }
 
 fn is_unlisted_vsl(code: u8) -> bool
     ensures { result ≡ not (is_voltage (vsl_voltage code)) }
 {
-    !is_voltage(voltage::vsl_millivolts(code))
+    voltage::vsl_millivolts(code).is_none()
 }
 
 fn is_unlisted_vcom(code: u8) -> bool
     ensures { result ≡ not (is_voltage (vcom_voltage code)) }
 {
-    !is_voltage(voltage::vcom_millivolts(code))
+    voltage::vcom_millivolts(code).is_none()
 }
 
 // Bytes 106 to 109 of the setting, which begins at byte 6 of the entry.
@@ -41,31 +40,23 @@ fn has_unlisted_voltage(otp: &[u8], entry: usize) -> bool
     vsh1 | vsh2 | vsl | vcom
 }
 
-fn voltages_error(otp: &[u8]) -> ConfigError
+fn check_voltages(otp: &[u8]) -> Result<(), ConfigError>
     ensures { answer_of result ≡ first_of (voltages_test otp.now ∷ []) }
 {
     let entries = otp.len() / ENTRY_BYTES;
-    let mut entry: usize = 0;
-    while entry < entries {
+    for entry in 0..entries {
         if has_unlisted_voltage(otp, entry) {
-            return ConfigError::OtpVoltage(entry);
+            return Err(ConfigError::OtpVoltage(entry));
         }
-        entry += 1;
     }
-    ConfigError::Accepted
+    Ok(())
 }
 
 // The parameters a model cannot be built on.
-pub fn validate(config: Ssd1677Config, otp: &[u8]) -> ConfigError
+pub fn validate(config: Ssd1677Config, otp: &[u8]) -> Result<(), ConfigError>
     ensures { answer_of result ≡ first_of (start_tests config otp.now) }
 {
-    let parameters = config::config_error(config);
-    if config::is_accepted(parameters) {
-        let table = otp::table_error(otp);
-        if config::is_accepted(table) {
-            return voltages_error(otp);
-        }
-        return table;
-    }
-    parameters
+    config::check(config)?;
+    otp::check_table(otp)?;
+    check_voltages(otp)
 }

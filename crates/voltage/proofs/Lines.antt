@@ -1,4 +1,5 @@
 -- Whether a code stands in a line of a list, from its bounds. Assumes nothing.
+use Rattle.std.specs.Prelude.{Option, Some}
 use mathlib.Core.Path.{◌≡◌, refl}
 use mathlib.Core.Bool.{Bool, true, false, ◌&&◌}
 use mathlib.Core.List.{List, ◌∷◌}
@@ -7,8 +8,6 @@ use lib.Dec.{leb, eqb}
 use lib.IntN.{ℤ}
 use borrow.Author.Tests.{leb-true, eqb-true, le-leb, eq-eqb}
 use Rattle.numbers.proofs.Cases.{left, right}
-use Rattle.voltage.specs.declared.Millivolts.{Millivolts}
-use Rattle.voltage.specs.declared.Millivolts.TheVariants.{Listed}
 use Rattle.voltage.specs.Codes.{Line, has, at, voltage}
 
 module _ (l : Line) (code : ℕ) where
@@ -46,11 +45,11 @@ module _ (l : Line) (code : ℕ) where
 
 module _ (sign : ℕ → ℤ) (l : Line) (ls : List Line) (code : ℕ) where
   -- a code of the first line
-  pub first_line : In l code → Listed (sign (at l code)) ≡ voltage sign (l ∷ ls) code
+  pub first_line : In l code → Some (sign (at l code)) ≡ voltage sign (l ∷ ls) code
   unfolding voltage
   first_line h = rw (is_in l code h)
 
   -- a code that is not in it
-  pub next_line : {v : Millivolts} → (In l code → ⊥) → v ≡ voltage sign ls code → v ≡ voltage sign (l ∷ ls) code
+  pub next_line : {v : Option ℤ} → (In l code → ⊥) → v ≡ voltage sign ls code → v ≡ voltage sign (l ∷ ls) code
   unfolding voltage
   next_line h e = rw (not_in l code h) e

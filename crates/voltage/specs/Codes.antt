@@ -1,13 +1,10 @@
 -- The voltage codes that the datasheet lists (commands 0x03, 0x04 and 0x2C, as waveform.rs cites them).
-use Rattle.std.specs.Prelude.{Bool, true, false, ◌&&◌, List, [], ◌∷◌, ℕ, ◌+◌, ◌-◌, ◌*◌, ◌/◌, ◌%◌, leb, eqb, ℤ, pos, neg_ℤ}
+use Rattle.std.specs.Prelude.{Bool, true, ◌&&◌, List, [], ◌∷◌, ℕ, ◌+◌, ◌-◌, ◌*◌, ◌/◌, ◌%◌, leb, eqb, ℤ, pos, neg_ℤ, Option, Some, None, is_some}
 use Rattle.numbers.specs.Choice.{pick}
-use Rattle.voltage.specs.declared.Millivolts.{Millivolts}
-use Rattle.voltage.specs.declared.Millivolts.TheVariants.{Listed, Unlisted}
 
 -- the code stands for a voltage
-abbrev pub is_voltage : Millivolts → Bool
-is_voltage (Listed millivolts) = true
-is_voltage Unlisted = false
+abbrev pub is_voltage : Option ℤ → Bool
+is_voltage millivolts = is_some millivolts
 
 -- a line of a list of codes: from the first to the last by `every`; `base` millivolts at the first, `step` more at each next
 pub record Line : Type 0 where
@@ -26,9 +23,9 @@ abbrev pub at : Line → ℕ → ℕ
 at l code = l.base + (code - l.first) / l.every * l.step
 
 -- what the lines give for a code, with the list's sign
-unfoldable pub voltage : (ℕ → ℤ) → List Line → ℕ → Millivolts
-voltage sign [] code = Unlisted
-voltage sign (l ∷ ls) code = pick (has l code) (Listed (sign (at l code))) (voltage sign ls code)
+unfoldable pub voltage : (ℕ → ℤ) → List Line → ℕ → Option ℤ
+voltage sign [] code = None
+voltage sign (l ∷ ls) code = pick (has l code) (Some (sign (at l code))) (voltage sign ls code)
 
 -- below 0 V
 abbrev pub below : ℕ → ℤ
@@ -43,7 +40,7 @@ abbrev pub source_low : Line
 source_low = record { first = 0x8E; last = 0xCE; every = 1; base = 2400; step = 100 }
 
 -- what a code of VSH1 or VSH2 stands for (0x04, bytes A and B)
-abbrev pub source_voltage : ℕ → Millivolts
+abbrev pub source_voltage : ℕ → Option ℤ
 source_voltage = voltage pos (source_high ∷ source_low ∷ [])
 
 -- VSL, from −9 V by −0.5 V: even codes 1Ah–3Ah
@@ -51,7 +48,7 @@ abbrev pub vsl_line : Line
 vsl_line = record { first = 0x1A; last = 0x3A; every = 2; base = 9000; step = 500 }
 
 -- what a code of VSL stands for (0x04, byte C)
-abbrev pub vsl_voltage : ℕ → Millivolts
+abbrev pub vsl_voltage : ℕ → Option ℤ
 vsl_voltage = voltage below (vsl_line ∷ [])
 
 -- DCVCOM, 0 V: 00h
@@ -63,7 +60,7 @@ abbrev pub vcom_line : Line
 vcom_line = record { first = 0x08; last = 0xA0; every = 4; base = 200; step = 100 }
 
 -- what a code of DCVCOM stands for (0x2C)
-abbrev pub vcom_voltage : ℕ → Millivolts
+abbrev pub vcom_voltage : ℕ → Option ℤ
 vcom_voltage = voltage below (vcom_zero ∷ vcom_line ∷ [])
 
 -- VGH: 00h, and 07h–17h

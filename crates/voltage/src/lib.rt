@@ -4,25 +4,8 @@
 mod sheet;
 
 ghost use Rattle.std.specs.Prelude.{◌≡◌};
-ghost use Rattle.voltage.specs.Codes.{is_voltage, source_voltage, vsl_voltage, vcom_voltage, gate_listed};
+ghost use Rattle.voltage.specs.Codes.{source_voltage, vsl_voltage, vcom_voltage, gate_listed};
 ghost use Rattle.voltage.specs.Sheet.{figure};
-
-// What a code stands for, or that the datasheet does not list it.
-#[derive(Clone, Copy)]
-pub enum Millivolts {
-    Listed(i64),
-    Unlisted,
-}
-
-// Whether a code stands for a voltage.
-pub fn is_voltage(millivolts: Millivolts) -> bool
-    ensures { result ≡ is_voltage millivolts }
-{
-    match millivolts {
-        Millivolts::Listed(_) => true,
-        Millivolts::Unlisted => false,
-    }
-}
 
 // The sheet's figures for two codes.
 #[derive(Clone, Copy)]
@@ -44,17 +27,17 @@ fn look_up(first: u8, second: u8) -> Figures
 }
 
 // What a figure of the sheet says.
-fn told(found: u16) -> Millivolts
+fn told(found: u16) -> Option<i64>
     ensures { result ≡ figure found }
 {
     if found != sheet::UNLISTED {
-        return Millivolts::Listed(found as i64);
+        return Some(found as i64);
     }
-    Millivolts::Unlisted
+    None
 }
 
 // VSH1 or VSH2 (0x04, bytes A and B).
-pub fn source_millivolts(code: u8) -> Millivolts
+pub fn source_millivolts(code: u8) -> Option<i64>
     ensures { result ≡ source_voltage code }
 {
     told(look_up(code, code).first)
@@ -63,8 +46,8 @@ pub fn source_millivolts(code: u8) -> Millivolts
 // VSH1 and VSH2 of one setting.
 #[derive(Clone, Copy)]
 pub struct SourcePair {
-    pub vsh1: Millivolts,
-    pub vsh2: Millivolts,
+    pub vsh1: Option<i64>,
+    pub vsh2: Option<i64>,
 }
 
 pub fn source_pair(vsh1: u8, vsh2: u8) -> SourcePair
@@ -79,29 +62,29 @@ pub fn source_pair(vsh1: u8, vsh2: u8) -> SourcePair
 }
 
 // VSL (0x04, byte C).
-pub fn vsl_millivolts(code: u8) -> Millivolts
+pub fn vsl_millivolts(code: u8) -> Option<i64>
     ensures { result ≡ vsl_voltage code }
 {
     if code % 2 == 1 {
-        return Millivolts::Unlisted;
+        return None;
     }
     match code {
-        0x1A..=0x3A => Millivolts::Listed(-((9000 + (code - 0x1A) as u64 / 2 * 500) as i64)),
-        _ => Millivolts::Unlisted,
+        0x1A..=0x3A => Some(-((9000 + (code - 0x1A) as u64 / 2 * 500) as i64)),
+        _ => None,
     }
 }
 
 // DCVCOM (0x2C).
-pub fn vcom_millivolts(code: u8) -> Millivolts
+pub fn vcom_millivolts(code: u8) -> Option<i64>
     ensures { result ≡ vcom_voltage code }
 {
     if code % 4 != 0 {
-        return Millivolts::Unlisted;
+        return None;
     }
     match code {
-        0x00 => Millivolts::Listed(0),
-        0x08..=0xA0 => Millivolts::Listed(-((200 + (code - 0x08) as u64 / 4 * 100) as i64)),
-        _ => Millivolts::Unlisted,
+        0x00 => Some(0),
+        0x08..=0xA0 => Some(-((200 + (code - 0x08) as u64 / 4 * 100) as i64)),
+        _ => None,
     }
 }
 

@@ -1,17 +1,17 @@
 -- What `bounds` answers (SCOPE, Sensitivity; #112): a bound for each LUT 0 to 3, or one of the refusals 4, 5, 11 and 91.
-use Rattle.std.specs.Prelude.{not, ◌||◌, List, [], ◌∷◌, ℕ, min, nat_abs, ◌-ℤ◌, length}
+use Rattle.std.specs.Prelude.{not, ◌||◌, List, [], ◌∷◌, ℕ, min, nat_abs, ◌-ℤ◌, length, Result, Ok, Err}
 use Rattle.numbers.specs.Saturation.{largest}
 use Rattle.glass.specs.declared.Optics.{Optics}
 use Rattle.voltage.specs.Codes.{is_voltage}
 use Rattle.waveform.specs.declared.Group.{Group}
 use Rattle.waveform.specs.Voltages.{or_zero}
 use Rattle.waveform.specs.Setting.{waveform_of}
-use Rattle.config.specs.Answer.{Answer, accepted, refused, Test, first_of, answer_of}
+use Rattle.config.specs.Answer.{Answer, accepted, refused, Test, first_of, refused_by}
 use Rattle.config.specs.Tests.{swing_test, periods_test, lent_test}
-use Rattle.voltage_shift.specs.declared.Bounded.{Bounded}
-use Rattle.voltage_shift.specs.declared.Bounded.TheVariants.{Within, Refused, NotASetting, UnlistedCode}
 use Rattle.voltage_shift.specs.declared.DrivingVoltage.{DrivingVoltage}
 use Rattle.voltage_shift.specs.declared.Shift.{Shift}
+use Rattle.voltage_shift.specs.declared.ShiftError.{ShiftError}
+use Rattle.voltage_shift.specs.declared.ShiftError.TheVariants.{Parameters, NotASetting, UnlistedCode}
 use Rattle.voltage_shift.specs.declared.Shifts.{Shifts}
 use Rattle.voltage_shift.specs.Shift.{driving_millivolts, bound_of, gray_steps}
 
@@ -63,9 +63,13 @@ shifting_unless (refused n v) b = refusing (refused n v)
 unfoldable pub bounds_of : Optics → List ℕ → List ℕ → DrivingVoltage → ℕ → ℕ → ShiftAnswer
 bounds_of o p s v before after = shifting_unless (first_of (bounds_tests o p s v before after)) (shifts_for o p s v before after)
 
+-- the number and the value of each error
+unfoldable pub shift_refusal : ShiftError → Answer
+shift_refusal (Parameters error) = refused_by error
+shift_refusal NotASetting = refused 11 0
+shift_refusal UnlistedCode = refused 91 0
+
 -- what each case of the answer stands for
-unfoldable pub shift_answer : Bounded → ShiftAnswer
-shift_answer (Within b) = shifting b
-shift_answer (Refused e) = refusing (answer_of e)
-shift_answer NotASetting = refusing (refused 11 0)
-shift_answer UnlistedCode = refusing (refused 91 0)
+unfoldable pub shift_answer : Result Shifts ShiftError → ShiftAnswer
+shift_answer (Ok b) = shifting b
+shift_answer (Err error) = refusing (shift_refusal error)

@@ -1,7 +1,6 @@
 -- How far a change of VSH1, VSH2 or VSL can move a state (SCOPE, Sensitivity; #112).
-use Rattle.std.specs.Prelude.{Bool, false, not, List, ℕ, zero, suc, ◌+◌, ◌-◌, ◌*◌, ◌/◌, ◌%◌, min, eqb, get_or}
+use Rattle.std.specs.Prelude.{Bool, false, not, List, ℕ, zero, suc, ◌+◌, ◌-◌, ◌*◌, ◌/◌, ◌%◌, min, eqb, get_or, ℤ, Option}
 use Rattle.numbers.specs.Choice.{pick}
-use Rattle.voltage.specs.declared.Millivolts.{Millivolts}
 use Rattle.voltage.specs.Codes.{source_voltage, vsl_voltage}
 use Rattle.waveform.specs.declared.Group.{Group}
 use Rattle.waveform.specs.Phases.{no_group}
@@ -15,7 +14,7 @@ voltage_byte Vsh2 = 107
 voltage_byte Vsl = 108
 
 -- what a code of it stands for (0x04)
-abbrev pub driving_millivolts : DrivingVoltage → ℕ → Millivolts
+abbrev pub driving_millivolts : DrivingVoltage → ℕ → Option ℤ
 driving_millivolts Vsh1 = source_voltage
 driving_millivolts Vsh2 = source_voltage
 driving_millivolts Vsl = vsl_voltage

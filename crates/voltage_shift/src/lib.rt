@@ -7,12 +7,12 @@ ghost use Rattle.config.specs.Answer.{first_of};
 ghost use Rattle.voltage.specs.Codes.{is_voltage};
 ghost use Rattle.waveform.specs.Setting.{waveform_of};
 ghost use Rattle.waveform.specs.Voltages.{or_zero, Listable};
+ghost use Rattle.voltage_shift.specs.declared.ShiftError.TheVariants.{Parameters};
 ghost use Rattle.voltage_shift.specs.Shift.{driving_millivolts, source_uses, vcom_uses, uses_one, changing_frames, group_shift, shift_of, gray_steps};
 ghost use Rattle.voltage_shift.specs.Bounds.{optics_swing, setting_tests, change_of, lut_shift, lut_shifts, shifts_for, shifting_unless, bounds_of, shift_answer};
 
 use config::ConfigError;
 use glass::Optics;
-use voltage::Millivolts;
 use waveform::{Group, Waveform};
 
 // The voltages that drive (0x04).
@@ -40,15 +40,23 @@ pub struct Shifts {
     pub lut3: Shift,
 }
 
+// What refuses bounds.
 #[derive(Clone, Copy)]
-pub enum Bounded {
-    Within(Shifts),
+pub enum ShiftError {
     // 4 or 5.
-    Refused(ConfigError),
+    Parameters(ConfigError),
     // 11.
     NotASetting,
     // 91.
     UnlistedCode,
+}
+
+impl From<ConfigError> for ShiftError {
+    ghost from_gives = { λ error made. made ≡ Parameters error };
+
+    fn from(error: ConfigError) -> ShiftError {
+        ShiftError::Parameters(error)
+    }
 }
 
 pub const SETTING_BYTES: usize = 112;
@@ -56,7 +64,7 @@ pub const SETTING_BYTES: usize = 112;
 // 2^63 − 1.
 const LARGEST_SWING: u64 = 9223372036854775807;
 
-fn driving_millivolts(driving: DrivingVoltage, code: u8) -> Millivolts
+fn driving_millivolts(driving: DrivingVoltage, code: u8) -> Option<i64>
     ensures is { result ≡ driving_millivolts driving code }
     ensures range { Listable (or_zero result) }
 {
@@ -70,7 +78,7 @@ fn driving_millivolts(driving: DrivingVoltage, code: u8) -> Millivolts
 fn is_listed(driving: DrivingVoltage, code: u8) -> bool
     ensures { result ≡ is_voltage (driving_millivolts driving code) }
 {
-    voltage::is_voltage(driving_millivolts(driving, code))
+    driving_millivolts(driving, code).is_some()
 }
 
 // A code that is not listed drives with 0, as in a waveform.
@@ -78,10 +86,7 @@ fn driving_level(driving: DrivingVoltage, code: u8) -> i64
     ensures is { result ≡ or_zero (driving_millivolts driving code) }
     ensures range { Listable result }
 {
-    match driving_millivolts(driving, code) {
-        Millivolts::Listed(millivolts) => millivolts,
-        Millivolts::Unlisted => 0,
-    }
+    driving_millivolts(driving, code).unwrap_or(0)
 }
 
 fn rise(low: i64, high: i64) -> u64
@@ -176,11 +181,9 @@ fn waveform_shift(change: u64, driving: DrivingVoltage, waveform: Waveform, lut:
     ensures { result ≡ min (shift_of change driving waveform.groups lut) (largest 64) }
 {
     let mut total: u64 = 0;
-    let mut k: usize = 0;
-    while k < 10 {
+    for k in 0..10 {
         let group = waveform.groups[k];
         total = numbers::saturating_add_u64(total, group_shift(change, driving, group, lut));
-        k += 1;
     }
     total
 }
@@ -253,22 +256,22 @@ fn setting_bounds(
     driving: DrivingVoltage,
     before: u8,
     after: u8,
-) -> Bounded
+) -> Result<Shifts, ShiftError>
     requires { 1 ≤ optics.full_swing }
     ensures { shift_answer result ≡ shifting_unless (first_of (setting_tests setting.now driving before after)) (shifts_for optics frame_period setting.now driving before after) }
 {
     let whole = setting.len() == SETTING_BYTES;
     let listed = is_listed(driving, before) & is_listed(driving, after);
-    if whole {
-        if listed {
-            let waveform = waveform_of(setting, frame_period);
-            let millivolts = change(driving, before, after);
-            let swing = swing_of(optics);
-            return Bounded::Within(lut_shifts(swing, millivolts, driving, waveform));
-        }
-        return Bounded::UnlistedCode;
+    if !whole {
+        return Err(ShiftError::NotASetting);
     }
-    Bounded::NotASetting
+    if !listed {
+        return Err(ShiftError::UnlistedCode);
+    }
+    let waveform = waveform_of(setting, frame_period);
+    let millivolts = change(driving, before, after);
+    let swing = swing_of(optics);
+    Ok(lut_shifts(swing, millivolts, driving, waveform))
 }
 
 // How far each LUT's states may shift when the code of `driving` changes from `before` to `after`, whatever `setting` has for it.
@@ -279,16 +282,10 @@ pub fn bounds(
     driving: DrivingVoltage,
     before: u8,
     after: u8,
-) -> Bounded
+) -> Result<Shifts, ShiftError>
     ensures { shift_answer result ≡ bounds_of optics frame_period setting.now driving before after }
 {
-    let swing = config::swing_error(optics);
-    if config::is_accepted(swing) {
-        let periods = config::periods_error(frame_period);
-        if config::is_accepted(periods) {
-            return setting_bounds(optics, frame_period, setting, driving, before, after);
-        }
-        return Bounded::Refused(periods);
-    }
-    Bounded::Refused(swing)
+    config::check_swing(optics)?;
+    config::check_periods(frame_period)?;
+    setting_bounds(optics, frame_period, setting, driving, before, after)
 }

@@ -5,6 +5,7 @@
 --     bounds-answered   where 4, 5, 11 and 91 find nothing, the answer is the bounds, each the smaller of the exact sum and S
 --     optics-swing-is   its S is the panel's
 -- Assumes nothing.
+use Rattle.std.specs.Prelude.{Option, Some, None, Result, Ok, Err}
 use mathlib.Core.Path.{◌≡◌, refl, sym, ap, subst, ◌∙◌}
 use mathlib.Core.Bool.{Bool, true, false, not, ◌||◌}
 use mathlib.Core.List.{List, [], ◌∷◌}
@@ -21,11 +22,8 @@ use Rattle.numbers.proofs.Hold.{clamp_high, clamp_mid}
 use Rattle.glass.specs.declared.Optics.{Optics}
 use Rattle.glass.specs.Greys.{gray_z}
 use Rattle.glass.specs.Transfers.{apply_t}
-use Rattle.voltage.specs.declared.Millivolts.{Millivolts}
-use Rattle.voltage.specs.declared.Millivolts.TheVariants.{Listed, Unlisted}
 use Rattle.voltage.specs.Codes.{is_voltage}
 use Rattle.waveform.specs.declared.Drive.TheVariants.{Lut}
-use Rattle.waveform.specs.declared.Until.{Until}
 use Rattle.waveform.specs.Voltages.{or_zero}
 use Rattle.waveform.specs.Setting.{waveform_of}
 use Rattle.config.specs.Answer.{Answer, accepted, refused, Test, first_of}
@@ -34,10 +32,9 @@ use Rattle.config.proofs.Answers.{passes, none_left}
 use Rattle.config.proofs.Lowest.{lowest_none}
 use Rattle.panel.specs.Finish.{setting_transfer}
 use Rattle.panel.specs.Start.{swing_of}
-use Rattle.voltage_shift.specs.declared.Bounded.{Bounded}
-use Rattle.voltage_shift.specs.declared.Bounded.TheVariants.{Within, Refused, NotASetting, UnlistedCode}
 use Rattle.voltage_shift.specs.declared.DrivingVoltage.{DrivingVoltage}
 use Rattle.voltage_shift.specs.declared.Shift.{Shift}
+use Rattle.voltage_shift.specs.declared.ShiftError.{ShiftError}
 use Rattle.voltage_shift.specs.declared.Shifts.{Shifts}
 use Rattle.voltage_shift.specs.Shift.{voltage_byte, driving_millivolts}
 use Rattle.voltage_shift.specs.Bounds.{optics_swing, listed_test, bounds_tests, change_of, lut_shift, lut_shifts, shifts_for, shifting, shifting_unless, bounds_of, shift_answer}
@@ -46,7 +43,7 @@ use Rattle.voltage_shift_laws.specs.Claims.{BoundsAnswers, bounds}
 use Rattle.voltage_shift_laws.proofs.Sensitivity.{codes_bounded, codes_grays}
 
 -- ---- the equation of the contract
-pub answer_is : {o : Optics} {p s : List ℕ} {v : DrivingVoltage} {before after : ℕ} {r : Bounded} → BoundsAnswers o p s v before after r
+pub answer_is : {o : Optics} {p s : List ℕ} {v : DrivingVoltage} {before after : ℕ} {r : Result Shifts ShiftError} → BoundsAnswers o p s v before after r
     → shift_answer r ≡ bounds_of o p s v before after
 answer_is (bounds κs a r s q) = q
 
@@ -68,9 +65,9 @@ both true true e = (refl, refl)
 both true false e = absurd (let z : ◌≡◌ {A = ℕ} 0 1 = cc in omega arith)
 both false b e = absurd (let z : ◌≡◌ {A = ℕ} 0 1 = cc in omega arith)
 
-listed : (m : Millivolts) → is_voltage m ≡ true → m ≡ Listed (or_zero m)
-listed (Listed v) e = refl
-listed Unlisted e = absurd (let z : ◌≡◌ {A = ℕ} 0 1 = cc in omega arith)
+listed : (m : Option ℤ) → is_voltage m ≡ true → m ≡ Some (or_zero m)
+listed (Some v) e = refl
+listed None e = absurd (let z : ◌≡◌ {A = ℕ} 0 1 = cc in omega arith)
 
 -- S of the bounds is the panel's swing
 pub optics_swing_is : (o : Optics) → swing_of o ≡ pos (optics_swing o)
@@ -87,12 +84,12 @@ shift_is S change v s p (suc (suc zero)) h = refl
 shift_is S change v s p (suc (suc (suc zero))) h = refl
 shift_is S change v s p (suc (suc (suc (suc n)))) h = absurd (omega arith)
 
-module _ (o : Optics) (p s : List ℕ) (v : DrivingVoltage) (before after : ℕ) (b : Shifts) (answers : BoundsAnswers o p s v before after (Within b)) where
+module _ (o : Optics) (p s : List ℕ) (v : DrivingVoltage) (before after : ℕ) (b : Shifts) (answers : BoundsAnswers o p s v before after (Ok b)) where
   -- what the tests found, and which bounds these are
   record Found : Type 0 where
     some : 1 ≤ optics_swing o
-    was : driving_millivolts v before ≡ Listed (or_zero (driving_millivolts v before))
-    will : driving_millivolts v after ≡ Listed (or_zero (driving_millivolts v after))
+    was : driving_millivolts v before ≡ Some (or_zero (driving_millivolts v before))
+    will : driving_millivolts v after ≡ Some (or_zero (driving_millivolts v after))
     are : shifts_for o p s v before after ≡ b
 
   found : Found
@@ -117,7 +114,7 @@ module _ (o : Optics) (p s : List ℕ) (v : DrivingVoltage) (before after : ℕ)
 
   -- the results differ by no more than the bound
   pub bounds_hold : (t u : List ℕ) → AgreeBut v s t → AgreeBut v s u → get_or t (voltage_byte v) 0 ≡ before → get_or u (voltage_byte v) 0 ≡ after
-      → (black : Bool) (until : Until) (lut x : ℕ) → lut < 4 → x ≤ optics_swing o
+      → (black : Bool) (until : Option ℕ) (lut x : ℕ) → lut < 4 → x ≤ optics_swing o
       → nat_abs (apply_t (setting_transfer t p (Lut lut) (swing_of o) black until) (pos x) -ℤ apply_t (setting_transfer u p (Lut lut) (swing_of o) black until) (pos x)) ≤ (shift_at b lut).bound
   bounds_hold t u agree-t agree-u is-before is-after black until lut x l h =
       let f = found in
@@ -133,7 +130,7 @@ module _ (o : Optics) (p s : List ℕ) (v : DrivingVoltage) (before after : ℕ)
 
   -- and the greys shown by no more than its steps
   pub grays_hold : (t u : List ℕ) → AgreeBut v s t → AgreeBut v s u → get_or t (voltage_byte v) 0 ≡ before → get_or u (voltage_byte v) 0 ≡ after
-      → (black : Bool) (until : Until) (lut x : ℕ) → lut < 4 → x ≤ optics_swing o
+      → (black : Bool) (until : Option ℕ) (lut x : ℕ) → lut < 4 → x ≤ optics_swing o
       → nat_abs (pos (gray_z (apply_t (setting_transfer t p (Lut lut) (swing_of o) black until) (pos x)) (swing_of o)) -ℤ pos (gray_z (apply_t (setting_transfer u p (Lut lut) (swing_of o) black until) (pos x)) (swing_of o)))
       ≤ (shift_at b lut).steps
   grays_hold t u agree-t agree-u is-before is-after black until lut x l h =
@@ -150,20 +147,18 @@ module _ (o : Optics) (p s : List ℕ) (v : DrivingVoltage) (before after : ℕ)
       h))
 
 -- ---- where bounds are answered: a full swing and periods from 1 on, 112 bytes, and two listed codes
-is_within : (r : Bounded) (x : Shifts) → shift_answer r ≡ shifting x → r ≡ Within x
+is_ok_of : (r : Result Shifts ShiftError) (x : Shifts) → shift_answer r ≡ shifting x → r ≡ Ok x
 unfolding shift_answer
-is_within (Within b) x e = ap Within cc
-is_within (Refused a) x e = absurd (let z : ◌≡◌ {A = ℕ} 0 1 = cc in omega arith)
-is_within NotASetting x e = absurd (let z : ◌≡◌ {A = ℕ} 0 1 = cc in omega arith)
-is_within UnlistedCode x e = absurd (let z : ◌≡◌ {A = ℕ} 0 1 = cc in omega arith)
+is_ok_of (Ok b) x e = ap Ok cc
+is_ok_of (Err error) x e = absurd (let z : ◌≡◌ {A = ℕ} 0 1 = cc in omega arith)
 
-pub bounds_answered : (o : Optics) (p s : List ℕ) (v : DrivingVoltage) (before after : ℕ) (r : Bounded) → BoundsAnswers o p s v before after r
+pub bounds_answered : (o : Optics) (p s : List ℕ) (v : DrivingVoltage) (before after : ℕ) (r : Result Shifts ShiftError) → BoundsAnswers o p s v before after r
     → (was will : ℤ) → 1 ≤ o.full_swing → ((code : ℕ) → code < 16 → 1 ≤ get_or p code 0) → length s ≡ 112
-    → driving_millivolts v before ≡ Listed was → driving_millivolts v after ≡ Listed will
-    → r ≡ Within (lut_shifts (min o.full_swing 9223372036854775807) (nat_abs (was -ℤ will)) v (waveform_of s p).groups)
+    → driving_millivolts v before ≡ Some was → driving_millivolts v after ≡ Some will
+    → r ≡ Ok (lut_shifts (min o.full_swing 9223372036854775807) (nat_abs (was -ℤ will)) v (waveform_of s p).groups)
 unfolding bounds_of
 bounds_answered o p s v before after r answers was will some periods long is-was is-will =
-    is_within r _ (answer_is answers ∙ ap (λ (a : Answer). shifting_unless a (shifts_for o p s v before after)) (sym all) ∙ ap shifting change)
+    is_ok_of r _ (answer_is answers ∙ ap (λ (a : Answer). shifting_unless a (shifts_for o p s v before after)) (sym all) ∙ ap shifting change)
   where
     none : zero_period p ≡ 16
     none = lowest_none (λ code. eqb (get_or p code 0) 0) 16 (λ code h. ne_eqb (get_or p code 0) 0 (λ e. omega (arith, periods code h)))

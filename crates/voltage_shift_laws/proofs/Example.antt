@@ -1,4 +1,5 @@
 -- Worked examples of the bound: LUT 0 at code 1 for one frame of 20 ms, VSH1 from 9.0 V to 9.2 V, with 6 V·s of swing. Assumes nothing.
+use Rattle.std.specs.Prelude.{None}
 use mathlib.Core.Path.{◌≡◌, refl}
 use mathlib.Core.Bool.{false}
 use mathlib.Core.List.{List, [], ◌∷◌}
@@ -10,7 +11,6 @@ use Rattle.numbers.specs.Saturation.{clamp_z}
 use Rattle.glass.specs.Transfers.{apply_t}
 use Rattle.voltage.specs.Codes.{voltage}
 use Rattle.waveform.specs.declared.Drive.TheVariants.{Lut}
-use Rattle.waveform.specs.declared.Until.TheVariants.{Whole}
 use Rattle.waveform.specs.Voltages.{levels_of, source_level, vcom_swing}
 use Rattle.waveform.specs.Setting.{codes_of, frame_rate_of, group_codes_of, waveform_of}
 use Rattle.waveform.specs.Phases.{phase_of, driven, joined}
@@ -29,7 +29,7 @@ periods = replicate 16 20000000
 
 -- black, afterwards
 black_after : ℕ → ℤ
-black_after vsh1 = apply_t (setting_transfer (setting 0 0 vsh1) periods (Lut 0) (pos 6000000000000) false Whole) (pos 0)
+black_after vsh1 = apply_t (setting_transfer (setting 0 0 vsh1) periods (Lut 0) (pos 6000000000000) false None) (pos 0)
 
 bound : ℕ → ℕ → ℕ → DrivingVoltage → ℕ
 bound S vcom again v = bound_of S 200 v (waveform_of (setting vcom again 0x23) periods).groups 0

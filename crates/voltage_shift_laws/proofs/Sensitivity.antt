@@ -3,6 +3,7 @@
 --     grays-bounded   nor do they show greys farther apart than the bound in steps of grey, rounded up
 --     states-near     two states under one setting end no farther apart than they began
 -- Assumes nothing.
+use Rattle.std.specs.Prelude.{Option, Some, None}
 use mathlib.Core.Path.{◌≡◌, refl, ap, subst, ◌∙◌}
 use mathlib.Core.Bool.{Bool, false}
 use mathlib.Core.List.{List, [], ◌∷◌, foldl}
@@ -17,14 +18,11 @@ use Rattle.glass.specs.Greys.{gray_z}
 use Rattle.glass.specs.Transfers.{apply_t}
 use Rattle.glass.specs.Exact.{drives}
 use Rattle.glass.proofs.Exactly.{drives_le}
-use Rattle.voltage.specs.declared.Millivolts.TheVariants.{Listed}
 use Rattle.waveform.specs.declared.Drive.{Drive}
 use Rattle.waveform.specs.declared.Drive.TheVariants.{Lut}
 use Rattle.waveform.specs.declared.Driving.{Driving}
 use Rattle.waveform.specs.declared.Phase.{Phase}
 use Rattle.waveform.specs.declared.Progress.{Progress}
-use Rattle.waveform.specs.declared.Until.{Until}
-use Rattle.waveform.specs.declared.Until.TheVariants.{Whole, Cut}
 use Rattle.waveform.specs.Setting.{waveform_of}
 use Rattle.waveform.specs.Walks.{whole_step, cut_step, walk_start, driving_of, phase_end, whole_transfer, cut_transfer}
 use Rattle.waveform.specs.Exact.{all_drives, cut_drives, setting_phases}
@@ -97,23 +95,23 @@ module _ (S : ℕ) (some : 1 ≤ S) (room : S ≤ 9223372036854775807) (s t p : 
         near = cut_near S black paired until hx hy near;
       }
 
-  paired_left : (until : Until) → TwoResults S (m + n) (apply_t (setting_transfer s p drive (pos S) black until) (pos x)) (apply_t (setting_transfer t p drive (pos S) black until) (pos y))
+  paired_left : (until : Option ℕ) → TwoResults S (m + n) (apply_t (setting_transfer s p drive (pos S) black until) (pos x)) (apply_t (setting_transfer t p drive (pos S) black until) (pos y))
   unfolding whole_transfer cut_transfer
-  paired_left Whole = whole_left
-  paired_left (Cut until) = by (dec_lt until (largest 64))
+  paired_left None = whole_left
+  paired_left (Some until) = by (dec_lt until (largest 64))
     where
       by : Dec (until < largest 64) → TwoResults S (m + n) (apply_t (cut_transfer s p drive (pos S) black until) (pos x)) (apply_t (cut_transfer t p drive (pos S) black until) (pos y))
       by (yes h) = cut_left until h
       by (no h) = rw (cut_late s p drive (pos S) black until (omega arith), cut_late t p drive (pos S) black until (omega arith)) whole_left
 
-module _ (S : ℕ) (some : 1 ≤ S) (room : S ≤ 9223372036854775807) (p : List ℕ) (black : Bool) (until : Until) where
+module _ (S : ℕ) (some : 1 ≤ S) (room : S ≤ 9223372036854775807) (p : List ℕ) (black : Bool) (until : Option ℕ) where
   -- what LUT `lut` of a setting leaves of the state x
   abbrev left : List ℕ → ℕ → ℕ → ℤ
   left s lut x = apply_t (setting_transfer s p (Lut lut) (pos S) black until) (pos x)
 
   -- two settings that are s but for the code of one voltage
   codes_left : (v : DrivingVoltage) (s t u : List ℕ) (before after : ℤ) → AgreeBut v s t → AgreeBut v s u
-      → driving_millivolts v (get_or t (voltage_byte v) 0) ≡ Listed before → driving_millivolts v (get_or u (voltage_byte v) 0) ≡ Listed after → (lut x : ℕ) → x ≤ S
+      → driving_millivolts v (get_or t (voltage_byte v) 0) ≡ Some before → driving_millivolts v (get_or u (voltage_byte v) 0) ≡ Some after → (lut x : ℕ) → x ≤ S
       → TwoResults S (shift_of (nat_abs (before -ℤ after)) v (waveform_of s p).groups lut) (left t lut x) (left u lut x)
   codes_left v s t u before after agree-t agree-u is-before is-after lut x h =
       let n = shift_of (nat_abs (before -ℤ after)) v (waveform_of s p).groups lut in
@@ -122,13 +120,13 @@ module _ (S : ℕ) (some : 1 ≤ S) (room : S ≤ 9223372036854775807) (p : List
       (record { above = omega arith; below = omega arith }) until)
 
   pub codes_bounded : (v : DrivingVoltage) (s t u : List ℕ) (before after : ℤ) → AgreeBut v s t → AgreeBut v s u
-      → driving_millivolts v (get_or t (voltage_byte v) 0) ≡ Listed before → driving_millivolts v (get_or u (voltage_byte v) 0) ≡ Listed after → (lut x : ℕ) → x ≤ S
+      → driving_millivolts v (get_or t (voltage_byte v) 0) ≡ Some before → driving_millivolts v (get_or u (voltage_byte v) 0) ≡ Some after → (lut x : ℕ) → x ≤ S
       → nat_abs (left t lut x -ℤ left u lut x) ≤ bound_of S (nat_abs (before -ℤ after)) v (waveform_of s p).groups lut
   codes_bounded v s t u before after agree-t agree-u is-before is-after lut x h =
       apart_left S _ _ _ (codes_left v s t u before after agree-t agree-u is-before is-after lut x h)
 
   pub codes_grays : (v : DrivingVoltage) (s t u : List ℕ) (before after : ℤ) → AgreeBut v s t → AgreeBut v s u
-      → driving_millivolts v (get_or t (voltage_byte v) 0) ≡ Listed before → driving_millivolts v (get_or u (voltage_byte v) 0) ≡ Listed after → (lut x : ℕ) → x ≤ S
+      → driving_millivolts v (get_or t (voltage_byte v) 0) ≡ Some before → driving_millivolts v (get_or u (voltage_byte v) 0) ≡ Some after → (lut x : ℕ) → x ≤ S
       → nat_abs (pos (gray_z (left t lut x) (pos S)) -ℤ pos (gray_z (left u lut x) (pos S))) ≤ gray_steps S (bound_of S (nat_abs (before -ℤ after)) v (waveform_of s p).groups lut)
   codes_grays v s t u before after agree-t agree-u is-before is-after lut x h =
       grays_left S _ _ _ some (codes_left v s t u before after agree-t agree-u is-before is-after lut x h)
@@ -137,14 +135,14 @@ module _ (S : ℕ) (some : 1 ≤ S) (room : S ≤ 9223372036854775807) (p : List
   -- farther apart than the smaller of S and the change in millivolts × frames × period, summed exactly over all phases of all repeats
   -- where exactly one of source and VCOM uses that voltage
   pub shift_bounded : (v : DrivingVoltage) (s t : List ℕ) (before after : ℤ) → AgreeBut v s t
-      → driving_millivolts v (get_or s (voltage_byte v) 0) ≡ Listed before → driving_millivolts v (get_or t (voltage_byte v) 0) ≡ Listed after → (lut x : ℕ) → x ≤ S
+      → driving_millivolts v (get_or s (voltage_byte v) 0) ≡ Some before → driving_millivolts v (get_or t (voltage_byte v) 0) ≡ Some after → (lut x : ℕ) → x ≤ S
       → nat_abs (apply_t (setting_transfer s p (Lut lut) (pos S) black until) (pos x) -ℤ apply_t (setting_transfer t p (Lut lut) (pos S) black until) (pos x))
       ≤ bound_of S (nat_abs (before -ℤ after)) v (waveform_of s p).groups lut
   shift_bounded v s t before after agree = codes_bounded v s s t before after (λ i h. refl) agree
 
   -- and the greys that the two show
   pub grays_bounded : (v : DrivingVoltage) (s t : List ℕ) (before after : ℤ) → AgreeBut v s t
-      → driving_millivolts v (get_or s (voltage_byte v) 0) ≡ Listed before → driving_millivolts v (get_or t (voltage_byte v) 0) ≡ Listed after → (lut x : ℕ) → x ≤ S
+      → driving_millivolts v (get_or s (voltage_byte v) 0) ≡ Some before → driving_millivolts v (get_or t (voltage_byte v) 0) ≡ Some after → (lut x : ℕ) → x ≤ S
       → nat_abs (pos (gray_z (left s lut x) (pos S)) -ℤ pos (gray_z (left t lut x) (pos S))) ≤ gray_steps S (bound_of S (nat_abs (before -ℤ after)) v (waveform_of s p).groups lut)
   grays_bounded v s t before after agree = codes_grays v s s t before after (λ i h. refl) agree
 

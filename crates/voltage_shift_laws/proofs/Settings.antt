@@ -1,4 +1,5 @@
 -- Settings that differ in the code of one voltage have the same groups, and levels that differ in that voltage. Assumes nothing.
+use Rattle.std.specs.Prelude.{Some}
 use mathlib.Core.Path.{◌≡◌, sym, ap, subst}
 use mathlib.Core.List.{List}
 use Prim.Native.Nat.{ℕ, ◌+◌, ◌*◌, ◌/◌, ◌%◌, ◌<◌}
@@ -8,7 +9,6 @@ use lib.Dec.{eqb}
 use lib.ListN.{get_or}
 use Rattle.numbers.specs.Choice.{pick}
 use Rattle.numbers.proofs.Painted.{tab_ext}
-use Rattle.voltage.specs.declared.Millivolts.TheVariants.{Listed}
 use Rattle.waveform.specs.declared.Drive.TheVariants.{Lut}
 use Rattle.waveform.specs.declared.Waveform.{Waveform}
 use Rattle.waveform.specs.Voltages.{levels_of}
@@ -50,20 +50,20 @@ module _ (v : DrivingVoltage) (s t : List ℕ) (agree : AgreeBut v s t) where
   groups_same p = tab_ext 10 _ _ (λ g h. ap (timed p) (group_same g h))
 
 -- the levels of t are those of s with the one voltage set
-levels_set : (v : DrivingVoltage) (s t : List ℕ) → AgreeBut v s t → (z : ℤ) → driving_millivolts v (get_or t (voltage_byte v) 0) ≡ Listed z → levels_of t ≡ with v z (levels_of s)
+levels_set : (v : DrivingVoltage) (s t : List ℕ) → AgreeBut v s t → (z : ℤ) → driving_millivolts v (get_or t (voltage_byte v) 0) ≡ Some z → levels_of t ≡ with v z (levels_of s)
 unfolding levels_of
 levels_set Vsh1 s t h z e = rw (e, h 107 (λ o. omega arith), h 108 (λ o. omega arith))
 levels_set Vsh2 s t h z e = rw (e, h 106 (λ o. omega arith), h 108 (λ o. omega arith))
 levels_set Vsl s t h z e = rw (e, h 106 (λ o. omega arith), h 107 (λ o. omega arith))
 
-waveform_set : (v : DrivingVoltage) (s t p : List ℕ) → AgreeBut v s t → (z : ℤ) → driving_millivolts v (get_or t (voltage_byte v) 0) ≡ Listed z
+waveform_set : (v : DrivingVoltage) (s t p : List ℕ) → AgreeBut v s t → (z : ℤ) → driving_millivolts v (get_or t (voltage_byte v) 0) ≡ Some z
     → waveform_of t p ≡ record { groups = (waveform_of s p).groups; levels = with v z (levels_of s) }
 unfolding waveform_of
 waveform_set v s t p h z e = λ i. record { groups = sym (groups_same v s t h p) i; levels = levels_set v s t h z e i }
 
 -- the phases of two settings that are s but for the voltage
 pub setting_paired : (v : DrivingVoltage) (s t u p : List ℕ) (b a : ℤ) → AgreeBut v s t → AgreeBut v s u
-    → driving_millivolts v (get_or t (voltage_byte v) 0) ≡ Listed b → driving_millivolts v (get_or u (voltage_byte v) 0) ≡ Listed a → (lut : ℕ)
+    → driving_millivolts v (get_or t (voltage_byte v) 0) ≡ Some b → driving_millivolts v (get_or u (voltage_byte v) 0) ≡ Some a → (lut : ℕ)
     → Paired (setting_phases t p (Lut lut)) (setting_phases u p (Lut lut)) (shift_of (nat_abs (b -ℤ a)) v (waveform_of s p).groups lut)
 setting_paired v s t u p b a ht hu et eu lut =
     subst (λ (w : Waveform). Paired (phases_of w (Lut lut)) (setting_phases u p (Lut lut)) (shift_of (nat_abs (b -ℤ a)) v (waveform_of s p).groups lut)) (sym (waveform_set v s t p ht b et))

@@ -1,36 +1,39 @@
 -- The clock: what each return of the code hands over, over plain variables. Assumes nothing.
+use Rattle.std.specs.Prelude.{None, Result, Ok, Err}
 use Prim.Native.Nat.{ℕ}
 use mathlib.Core.Path.{◌≡◌, ap, ◌∙◌}
-use mathlib.Core.Bool.{Bool, true, false}
 use mathlib.Core.List.{List}
 use lib.ListN.{length}
 use Rattle.world.specs.World.{WithGlass}
 use Rattle.clock.specs.Advance.{Ready, advanced}
 use Rattle.guard_lengths.specs.declared.Lengths.{Lengths}
-use Rattle.guard_lengths.specs.declared.LentLength.TheVariants.{Nothing}
 use Rattle.guard.specs.declared.Refusal.{Refusal}
 use Rattle.guard_lengths.specs.Lengths.{glass_lent}
-use Rattle.guard.specs.Refusals.{refusal_number, accepts, guarded}
+use Rattle.guard.specs.Refusals.{number_of, guarded}
 use Rattle.query.specs.Outcome.{outcome}
 use Rattle.query.proofs.Cases.{grants, refuses}
 use Rattle.entry_laws.proofs.Passed.{ready_fine, state_passed, lengths_passed, counts_passed}
 use Rattle.wait.specs.Wait.{clock_moved}
 
-module _ (luts : List ℕ) (time : ℕ) (g : WithGlass) (l : Lengths) (r : Refusal) (b : Bool)
-    (lent : l ≡ glass_lent (length g.states) (length luts) (length g.picture.pixels) (length g.picture.counts)) (is : r ≡ guarded g.device l) (t : b ≡ accepts r) where
-  same : r ≡ guarded g.device (glass_lent (length g.states) (length luts) (length g.picture.pixels) (length g.picture.counts))
-  same = is ∙ ap (guarded g.device) lent
+module _ (luts : List ℕ) (time : ℕ) (g : WithGlass) (l : Lengths)
+    (lent : l ≡ glass_lent (length g.states) (length luts) (length g.picture.pixels) (length g.picture.counts)) where
+  abbrev guard : Result Unit Refusal
+  guard = guarded g.device (glass_lent (length g.states) (length luts) (length g.picture.pixels) (length g.picture.counts))
 
-  pub clock_ready : b ≡ true → Ready g.device g.states luts g.picture.pixels g.picture.counts
-  clock_ready h =
-      ready_fine g.device g.states luts g.picture.pixels g.picture.counts Nothing Nothing Nothing Nothing
-      (state_passed g.device _ r b same t h) (lengths_passed g.device _ r b same t h)
-      (counts_passed g.device _ r b same t h)
+  same : (r : Result Unit Refusal) → r ≡ guarded g.device l → r ≡ guard
+  same r is = is ∙ ap (guarded g.device) lent
 
-  pub clock_moves : (v : WithGlass) → b ≡ true → v ≡ advanced luts time g → outcome (refusal_number r) v ≡ clock_moved luts time g
+  module _ (passes : Ok tt ≡ guarded g.device l) where
+    pub clock_ready : Ready g.device g.states luts g.picture.pixels g.picture.counts
+    clock_ready =
+        ready_fine g.device g.states luts g.picture.pixels g.picture.counts None None None None
+        (state_passed g.device _ (same _ passes)) (lengths_passed g.device _ (same _ passes))
+        (counts_passed g.device _ (same _ passes))
+
+    pub clock_moves : (v : WithGlass) → v ≡ advanced luts time g → outcome 0 v ≡ clock_moved luts time g
+    unfolding clock_moved
+    clock_moves v e = grants guard g (advanced luts time g) v (same _ passes) e
+
+  pub clock_refused : (r : Refusal) → Err r ≡ guarded g.device l → outcome (number_of r) g ≡ clock_moved luts time g
   unfolding clock_moved
-  clock_moves v h e = grants r _ same g (advanced luts time g) b v t h e
-
-  pub clock_refused : b ≡ false → outcome (refusal_number r) g ≡ clock_moved luts time g
-  unfolding clock_moved
-  clock_refused h = refuses r _ same g (advanced luts time g) b t h
+  clock_refused r is = refuses guard g (advanced luts time g) r (same _ is)

@@ -3,13 +3,13 @@
 
 ghost use Rattle.std.specs.Prelude.{◌≡◌};
 ghost use Rattle.guard.specs.Refusals.{refusal_number};
-ghost use Rattle.query.specs.Outcome.{outcome};
+ghost use Rattle.query.specs.Outcome.{outcome, answer_in, state_in};
 ghost use Rattle.counts.specs.Counts.{picture};
 ghost use Rattle.world.specs.World.{with_glass};
 ghost use Rattle.wait.specs.Wait.{clock_moved};
 
 use device::Ssd1677;
-use query::CallAnswer;
+use guard::Refused;
 
 // Brings the chip to an instant: publishes a display that has ended, lowers BUSY. An instant before the latest one seen counts as the
 // latest.
@@ -20,14 +20,12 @@ pub fn advance(
     pixels: &mut [u8],
     counts: &mut [u32],
     time: u64,
-) -> CallAnswer
-    ensures { outcome (refusal_number result.refusal) (with_glass result.state states.new (picture pixels.new counts.new)) ≡ clock_moved luts.now time (with_glass state states.old (picture pixels.old counts.old)) }
+) -> Result<Ssd1677, Refused>
+    ensures { outcome (refusal_number (answer_in result)) (with_glass (state_in result) states.new (picture pixels.new counts.new)) ≡ clock_moved luts.now time (with_glass state states.old (picture pixels.old counts.old)) }
 {
     let lengths = guard_lengths::glass_lent(states.len(), luts.len(), pixels.len(), counts.len());
-    let refusal = guard::check(state, lengths);
-    if guard::is_accepted(refusal) {
-        let state = clock::advance(state, states, luts, pixels, counts, time);
-        return CallAnswer { refusal, state };
+    match guard::check(state, lengths) {
+        Ok(()) => Ok(clock::advance(state, states, luts, pixels, counts, time)),
+        Err(refusal) => Err(Refused { refusal, state }),
     }
-    CallAnswer { refusal, state }
 }

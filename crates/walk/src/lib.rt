@@ -11,7 +11,7 @@ ghost use Rattle.walk.specs.Ready.{LastingOf};
 
 use glass::Transfer;
 use phases::Lasting;
-use waveform::{Drive, DrivenPhase, Driving, Group, Phase, Progress, Until, Waveform};
+use waveform::{Drive, DrivenPhase, Driving, Group, Phase, Progress, Waveform};
 
 // ---- the whole display
 
@@ -43,13 +43,6 @@ fn whole_pass(
     whole_step(driving, fourth, three)
 }
 
-// A group's repeats, with their bound.
-fn times(repeats: u16) -> u64
-    ensures { (result ≡ repeats) × (result < 65536) }
-{
-    repeats as u64
-}
-
 // `transfer`, then one group with all its repeats.
 fn group_transfer(driving: Driving, group: Group, transfer: Transfer) -> Transfer
     requires { Drivable driving }
@@ -59,12 +52,9 @@ fn group_transfer(driving: Driving, group: Group, transfer: Transfer) -> Transfe
     let second = phases::step_of(driving, group, 1);
     let third = phases::step_of(driving, group, 2);
     let fourth = phases::step_of(driving, group, 3);
-    let repeats = times(group.repeats);
     let mut moved = transfer;
-    let mut k: u64 = 0;
-    while k < repeats {
+    for _ in 0..group.repeats {
         moved = whole_pass(driving, first, second, third, fourth, moved);
-        k += 1;
     }
     moved
 }
@@ -74,13 +64,10 @@ fn whole_groups(driving: Driving, waveform: Waveform, transfer: Transfer) -> Tra
     ensures { result ≡ foldl (whole_step driving) transfer (groups_in driving waveform) }
 {
     let mut moved = transfer;
-    let mut k: usize = 0;
-    while k < 10 {
-        let group = waveform.groups[k];
+    for group in waveform.groups {
         if !phases::idle(group) {
             moved = group_transfer(driving, group, moved);
         }
-        k += 1;
     }
     moved
 }
@@ -143,9 +130,9 @@ fn cut_phase(driving: Driving, until: u64, lasting: Lasting, progress: Progress)
     }
     let elapsed = progress.elapsed;
     let transfer = progress.transfer;
-    let end = numbers::saturating_add_u64(elapsed, lasting.length);
+    let end = elapsed.saturating_add(lasting.length);
     if until < end {
-        let left = numbers::saturating_sub_u64(until, elapsed);
+        let left = until.saturating_sub(elapsed);
         return cut_short(driving, phase, left, end, transfer);
     }
     let moved = whole_step(driving, step, transfer);
@@ -187,12 +174,9 @@ fn cut_repeats(driving: Driving, until: u64, group: Group, progress: Progress) -
     let second = phases::lasting_of(driving, group, 1);
     let third = phases::lasting_of(driving, group, 2);
     let fourth = phases::lasting_of(driving, group, 3);
-    let repeats = times(group.repeats);
     let mut moved = progress;
-    let mut k: u64 = 0;
-    while k < repeats {
+    for _ in 0..group.repeats {
         moved = cut_pass(driving, until, first, second, third, fourth, moved);
-        k += 1;
     }
     moved
 }
@@ -205,7 +189,7 @@ fn cut_group(driving: Driving, until: u64, group: Group, progress: Progress) -> 
     if progress.stopped {
         return progress;
     }
-    let end = numbers::saturating_add_u64(progress.elapsed, duration::group_ns(group));
+    let end = progress.elapsed.saturating_add(duration::group_ns(group));
     if end <= until {
         if end < u64::MAX {
             let transfer = progress.transfer;
@@ -225,13 +209,10 @@ fn cut_groups(driving: Driving, until: u64, waveform: Waveform, progress: Progre
     ensures { result ≡ foldl (cut_step driving until) progress (groups_in driving waveform) }
 {
     let mut moved = progress;
-    let mut k: usize = 0;
-    while k < 10 {
-        let group = waveform.groups[k];
+    for group in waveform.groups {
         if !phases::idle(group) {
             moved = cut_group(driving, until, group, moved);
         }
-        k += 1;
     }
     moved
 }
@@ -269,13 +250,13 @@ pub fn transfer(
     drive: Drive,
     swing: i64,
     positive_drives_black: bool,
-    until: Until,
+    until: Option<u64>,
 ) -> Transfer
     requires { Walkable waveform drive }
     ensures { result ≡ transfer_of waveform drive swing positive_drives_black until }
 {
     match until {
-        Until::Whole => transfer_whole(waveform, drive, swing, positive_drives_black),
-        Until::Cut(cut) => transfer_cut(waveform, drive, swing, positive_drives_black, cut),
+        None => transfer_whole(waveform, drive, swing, positive_drives_black),
+        Some(cut) => transfer_cut(waveform, drive, swing, positive_drives_black, cut),
     }
 }

@@ -1,15 +1,13 @@
 -- The voltages of a setting, in millivolts, and which of them a VS code selects (datasheet Table 6-6; waveform.rs, `Levels`).
-use Rattle.std.specs.Prelude.{List, ℕ, ◌%◌, ℤ, pos, negsuc, ◌≤ℤ◌, eqb, get_or}
+use Rattle.std.specs.Prelude.{List, ℕ, ◌%◌, ℤ, pos, negsuc, ◌≤ℤ◌, eqb, get_or, Option, Some, None}
 use Rattle.numbers.specs.Choice.{pick}
-use Rattle.voltage.specs.declared.Millivolts.{Millivolts}
-use Rattle.voltage.specs.declared.Millivolts.TheVariants.{Listed, Unlisted}
 use Rattle.voltage.specs.Codes.{source_voltage, vsl_voltage}
 use Rattle.waveform.specs.declared.Levels.{Levels}
 
 -- an unlisted voltage counts as 0 (SCOPE, Settings)
-abbrev pub or_zero : Millivolts → ℤ
-or_zero (Listed millivolts) = millivolts
-or_zero Unlisted = pos 0
+abbrev pub or_zero : Option ℤ → ℤ
+or_zero (Some millivolts) = millivolts
+or_zero None = pos 0
 
 -- bytes 106 to 108 are VSH1, VSH2, VSL (Figure 6-6)
 unfoldable pub levels_of : List ℕ → Levels

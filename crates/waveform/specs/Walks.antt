@@ -1,5 +1,5 @@
 -- The walks over a waveform's phases in 64 bits, step for step as the Rust has them (waveform.rs, `transfer`).
-use Rattle.std.specs.Prelude.{Bool, true, false, ℕ, ◌+◌, ◌-◌, ◌*◌, ◌/◌, min, ℤ, pos, neg_ℤ, ◌*ℤ◌, eqb, ltb}
+use Rattle.std.specs.Prelude.{Bool, true, false, ℕ, ◌+◌, ◌-◌, ◌*◌, ◌/◌, min, ℤ, pos, neg_ℤ, ◌*ℤ◌, eqb, ltb, Option, Some, None}
 use mathlib.Core.List.{List, foldl}
 use Rattle.numbers.specs.Choice.{pick}
 use Rattle.numbers.specs.Saturation.{largest, sat_z}
@@ -9,8 +9,6 @@ use Rattle.waveform.specs.declared.Drive.{Drive}
 use Rattle.waveform.specs.declared.Driving.{Driving}
 use Rattle.waveform.specs.declared.Group.{Group}
 use Rattle.waveform.specs.declared.Phase.{Phase}
-use Rattle.waveform.specs.declared.Until.{Until}
-use Rattle.waveform.specs.declared.Until.TheVariants.{Whole, Cut}
 use Rattle.waveform.specs.declared.Progress.{Progress}
 use Rattle.waveform.specs.declared.DrivenPhase.{DrivenPhase}
 use Rattle.waveform.specs.declared.Waveform.{Waveform}
@@ -116,9 +114,9 @@ abbrev pub cut_of : Waveform → Drive → ℤ → Bool → ℕ → Transfer
 cut_of w drive swing black until = (foldl (cut_step (driving_of w drive swing black) until) (walk_start swing) (phases_of w drive)).transfer
 
 -- either
-abbrev pub transfer_of : Waveform → Drive → ℤ → Bool → Until → Transfer
-transfer_of w drive swing black Whole = whole_of w drive swing black
-transfer_of w drive swing black (Cut until) = cut_of w drive swing black until
+abbrev pub transfer_of : Waveform → Drive → ℤ → Bool → Option ℕ → Transfer
+transfer_of w drive swing black None = whole_of w drive swing black
+transfer_of w drive swing black (Some until) = cut_of w drive swing black until
 
 -- the whole display of a setting: its 112 bytes, and the period of each frame-rate code
 unfoldable pub whole_transfer : List ℕ → List ℕ → Drive → ℤ → Bool → Transfer

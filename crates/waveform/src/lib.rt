@@ -7,7 +7,6 @@ ghost use Rattle.std.specs.Prelude.{◌≡◌};
 ghost use Rattle.waveform.specs.Voltages.{or_zero, levels_of, source_level, vcom_swing};
 
 use glass::Transfer;
-use voltage::Millivolts;
 
 // The voltages that a waveform drives with, in millivolts. DCVCOM drives no pixel: it cancels the kickback of the panel's
 // transistors, so a pixel sees the source level minus the swing of VCOM around it.
@@ -19,12 +18,12 @@ pub struct Levels {
 }
 
 // A code that the datasheet does not list reads 0 V; the command that wrote it reported it.
-fn or_zero(millivolts: Millivolts) -> i64
+fn or_zero(millivolts: Option<i64>) -> i64
     ensures { result ≡ or_zero millivolts }
 {
     match millivolts {
-        Millivolts::Listed(listed) => listed,
-        Millivolts::Unlisted => 0,
+        Some(listed) => listed,
+        None => 0,
     }
 }
 
@@ -116,14 +115,6 @@ pub struct Phase {
 pub struct DrivenPhase {
     pub phase: Phase,
     pub drive: i64,
-}
-
-// How much of the display counts.
-#[derive(Clone, Copy)]
-pub enum Until {
-    Whole,
-    // The frames that end within so many nanoseconds.
-    Cut(u64),
 }
 
 // What stays the same while a waveform drives a pixel.

@@ -1,5 +1,6 @@
 -- A decoded waveform is one that the walks take: its voltages lie from −17,000 to 17,000, and its groups have a frame period.
 -- Assumes nothing.
+use Rattle.std.specs.Prelude.{Some}
 use mathlib.Core.Path.{◌≡◌, refl, sym, subst}
 use mathlib.Core.Bool.{Bool, true, false, ◌&&◌}
 use mathlib.Core.List.{List, [], ◌∷◌}
@@ -13,7 +14,6 @@ use Rattle.numbers.specs.Choice.{pick}
 use Rattle.numbers.proofs.Cases.{left, right}
 use Rattle.numbers.proofs.Lin.{whole, le_in, neg_out}
 use Rattle.numbers.proofs.Painted.{get_d_tab}
-use Rattle.voltage.specs.declared.Millivolts.TheVariants.{Listed}
 use Rattle.voltage.specs.Codes.{Line, voltage, has, at, source_high, source_low, source_voltage, vsl_line, vsl_voltage, below}
 use Rattle.waveform.specs.declared.Drive.{Drive}
 use Rattle.waveform.specs.declared.Group.{Group}
@@ -30,7 +30,7 @@ line_listed : (sign : ℕ → ℤ) (l : Line) (ls : List Line) (code : ℕ) → 
 unfolding voltage
 line_listed sign l ls code f g = by (has l code) refl
   where
-    by : (t : Bool) → has l code ≡ t → Listable (or_zero (pick t (Listed (sign (at l code))) (voltage sign ls code)))
+    by : (t : Bool) → has l code ≡ t → Listable (or_zero (pick t (Some (sign (at l code))) (voltage sign ls code)))
     by true e = f (leb-true code l.last (right (leb l.first code) (leb code l.last) (left (leb l.first code && leb code l.last) (eqb ((code - l.first) % l.every) 0) e)))
     by false e = g
 

@@ -3,4 +3,4 @@ use Rattle.activation.proofs.Cases.{displays}
 use Rattle.activation.proofs.display_of.Goals as goal
 
 pub returns : goal.returns
-returns c = displays _ _ _ _ _ _ _ _ _ _ _ c.after-started.ensures c.saturating_add_u64-whole.ensures c.after-ends.ensures c.kind_of-kind.ensures
+returns c = displays _ _ _ _ _ _ _ _ _ _ _ c.after-started.ensures c.saturating_add-whole.ensures c.after-ends.ensures c.kind_of-kind.ensures

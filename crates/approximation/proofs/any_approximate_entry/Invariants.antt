@@ -1,11 +1,7 @@
 use mathlib.Core.Path.{◌≡◌}
-use Prim.Native.Nat.{◌-◌, ◌≤◌}
 use Rattle.approximation.specs.Approximation.{approximate_entry}
 use Rattle.otp.specs.Search.{any_of}
 use Rattle.approximation.proofs.any_approximate_entry.Given as goal
 
 abbrev pub invariant-loop-entry : goal.invariant-loop-entry
-invariant-loop-entry l = (l.entry ≤ l.entries) × (l.any ≡ any_of (approximate_entry l.otp) l.entry)
-
-abbrev pub decreases-loop-entry : goal.decreases-loop-entry
-decreases-loop-entry l = l.entries - l.entry
+invariant-loop-entry l = (l.any ≡ any_of (approximate_entry l.otp) l.entry)

@@ -1,19 +1,19 @@
 -- `approximation::is_approximation` meets its contract.
-use mathlib.Core.Path.{sym, ◌∙◌}
+use Rattle.std.proofs.lemmas.Result.{err_from_is_err_and}
 use Rattle.approximation.specs.Approximation.{outcome_of}
 use Rattle.approximation.proofs.Approximations.{refused_is, answered_is}
 use Rattle.approximation.proofs.is_approximation.Goals as goal
 
-pub returns-then-is_bad_table : goal.returns-then-is_bad_table
+pub returns-in_err-check_table : goal.returns-in_err-check_table
 unfolding outcome_of
-returns-then-is_bad_table c =
-    let s = c in
-    refused_is s.args.config s.args.otp.now (sym c.is_bad_table.ensures ∙ c.if-is_bad_table.true)
+returns-in_err-check_table c =
+    let s = c.args in
+    let p = err_from_is_err_and c.from_residual.result c.from_residual.ensures.1 in
+    rw (p.1, p.2) (refused_is s.config s.otp.now _ _ c.in_err-check_table.ensures)
 
 pub returns : goal.returns
 unfolding outcome_of
 returns c =
-    let d = c in
-    let s = d in
-    answered_is s.args.config s.args.otp.now _ _ _ (sym d.is_bad_table.ensures ∙ d.if-is_bad_table.false) c.is_approximate-glass.ensures
+    let s = c.args in
+    answered_is s.config s.otp.now _ _ _ _ c.in_ok-check_table.ensures c.is_approximate-glass.ensures
     c.is_approximate-durations.ensures c.any_approximate_entry-entries.ensures

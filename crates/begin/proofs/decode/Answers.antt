@@ -16,25 +16,25 @@ returns-in-Reserved c =
     let a = c.args in
     let kept = lent a.black_white.now a.red.now a.gates.now a.otp.now in
     let given = with_buffers a.state a.states.now a.luts.now (picture a.pixels.now a.counts.now) a.log.now in
-    reserved kept a.command given _ c.kind-known.ensures _ c.in-Of.is _ c.in-Reserved.is c.report-in-Reserved.ensures
+    reserved kept a.command given _ c.kind-known.ensures _ c.in-Some.is _ c.in-Reserved.is c.report-in-Reserved.ensures
 
 pub returns-in-Unsupported : goal.returns-in-Unsupported
 returns-in-Unsupported c =
     let a = c.args in
     let kept = lent a.black_white.now a.red.now a.gates.now a.otp.now in
     let given = with_buffers a.state a.states.now a.luts.now (picture a.pixels.now a.counts.now) a.log.now in
-    unsupported kept a.command given _ c.kind-known.ensures _ c.in-Of.is _ c.in-Unsupported.is c.report-in-Unsupported.ensures
+    unsupported kept a.command given _ c.kind-known.ensures _ c.in-Some.is _ c.in-Unsupported.is c.report-in-Unsupported.ensures
 
 pub returns-in-Write : goal.returns-in-Write
 returns-in-Write c =
     let a = c.args in
     let kept = lent a.black_white.now a.red.now a.gates.now a.otp.now in
     let given = with_buffers a.state a.states.now a.luts.now (picture a.pixels.now a.counts.now) a.log.now in
-    writes kept a.command given _ c.kind-known.ensures _ c.in-Of.is _ _ c.in-Write.is c.accept.ensures
+    writes kept a.command given _ c.kind-known.ensures _ c.in-Some.is _ _ c.in-Write.is c.accept.ensures
 
 pub returns-in-Read : goal.returns-in-Read
 returns-in-Read c =
     let a = c.args in
     let kept = lent a.black_white.now a.red.now a.gates.now a.otp.now in
     let given = with_buffers a.state a.states.now a.luts.now (picture a.pixels.now a.counts.now) a.log.now in
-    reads kept a.command given _ c.kind-known.ensures _ c.in-Of.is _ c.in-Read.is c.accept-in-Read.ensures
+    reads kept a.command given _ c.kind-known.ensures _ c.in-Some.is _ c.in-Read.is c.accept-in-Read.ensures

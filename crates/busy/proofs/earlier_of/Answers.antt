@@ -2,11 +2,11 @@
 use Rattle.busy.proofs.Deadlines.{the_other, the_one, of_two}
 use Rattle.busy.proofs.earlier_of.Goals as goal
 
-pub returns-in-Never : goal.returns-in-Never
-returns-in-Never c = the_other _ _ c.in-Never.is
+pub returns-in-None : goal.returns-in-None
+returns-in-None c = the_other _ _ c.in-None.is
 
-pub returns-in-Never-other : goal.returns-in-Never-other
-returns-in-Never-other c = the_one _ _ _ c.in-At.is c.in-Never-other.is
+pub returns-in-None-other : goal.returns-in-None-other
+returns-in-None-other c = the_one _ _ _ c.in-Some.is c.in-None-other.is
 
-pub returns-in-At-other : goal.returns-in-At-other
-returns-in-At-other c = of_two _ _ _ _ _ c.in-At.is c.in-At-other.is c.min_u64.ensures
+pub returns-in-Some-other : goal.returns-in-Some-other
+returns-in-Some-other c = of_two _ _ _ _ _ c.in-Some.is c.in-Some-other.is c.min.ensures

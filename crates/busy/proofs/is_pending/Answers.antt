@@ -2,10 +2,10 @@
 use Rattle.busy.specs.Busy.{pending}
 use Rattle.busy.proofs.is_pending.Goals as goal
 
-pub returns-in-Never : goal.returns-in-Never
+pub returns-in-None : goal.returns-in-None
 unfolding pending
-returns-in-Never c = rw c.in-Never.is
+returns-in-None c = rw c.in-None.is
 
-pub returns-in-At : goal.returns-in-At
+pub returns-in-Some : goal.returns-in-Some
 unfolding pending
-returns-in-At c = rw c.in-At.is
+returns-in-Some c = rw c.in-Some.is

@@ -7,24 +7,12 @@ use Rattle.charges.proofs.has_long_period.Invariants.{isLong}
 use Rattle.charges.proofs.has_long_period.Goals as goal
 
 pub loop-code-init : goal.loop-code-init
-loop-code-init c = (omega arith, any_none _)
-
-pub offset_bounds-frame_period-code : goal.offset_bounds-frame_period-code
-offset_bounds-frame_period-code c = omega arith
-
-pub bounds-frame_period-code : goal.bounds-frame_period-code
-bounds-frame_period-code c = omega arith
-
-pub overflow_add-code : goal.overflow_add-code
-overflow_add-code c = omega arith
-
-pub loop-code-smaller : goal.loop-code-smaller
-loop-code-smaller c = omega arith
+loop-code-init c = any_none _
 
 pub loop-code-preserved : goal.loop-code-preserved
-loop-code-preserved c = (omega arith, any_more (isLong c.args.frame_period) c.loop-code.code _ _ c.loop-code.invariant.1 refl)
+loop-code-preserved c = any_more (isLong c.args.frame_period) c.loop-code.code _ _ c.loop-code.invariant refl
 
 pub returns : goal.returns
 returns c =
     let e : c.loop-code.code ≡ 16 = omega arith in
-    c.loop-code.invariant.1 ∙ ap (any_of (isLong c.args.frame_period)) e
+    c.loop-code.invariant ∙ ap (any_of (isLong c.args.frame_period)) e

@@ -1,7 +1,7 @@
 use mathlib.Core.Path.{◌≡◌}
 use mathlib.Core.Bool.{Bool}
 use mathlib.Core.List.{List}
-use Prim.Native.Nat.{ℕ, ◌-◌, ◌≤◌}
+use Prim.Native.Nat.{ℕ}
 use lib.Dec.{ltb}
 use lib.ListN.{get_or}
 use Rattle.otp.specs.Search.{any_of}
@@ -12,7 +12,4 @@ abbrev pub isLong : List ℕ → ℕ → Bool
 isLong periods code = ltb longest_period (get_or periods code 0)
 
 abbrev pub invariant-loop-code : goal.invariant-loop-code
-invariant-loop-code l = (l.code ≤ 16) × (l.long ≡ any_of (isLong l.frame_period) l.code)
-
-abbrev pub decreases-loop-code : goal.decreases-loop-code
-decreases-loop-code l = 16 - l.code
+invariant-loop-code l = (l.long ≡ any_of (isLong l.frame_period) l.code)

@@ -14,35 +14,11 @@ use Rattle.charges.proofs.put_text.Invariants.{lineIn}
 use Rattle.charges.proofs.put_text.Goals as goal
 
 pub loop-entry-init : goal.loop-entry-init
-loop-entry-init c = (joined_none 0 c.args.out.now _, omega arith, omega arith, refl)
-
-pub overflow_mul-from : goal.overflow_mul-from
-overflow_mul-from c = omega arith
-
-pub overflow_add-from : goal.overflow_add-from
-overflow_add-from c = omega arith
-
-pub overflow_add-end : goal.overflow_add-end
-overflow_add-end c = omega arith
-
-pub slice_bounds-put_line-count : goal.slice_bounds-put_line-count
-slice_bounds-put_line-count c = omega arith
-
-pub slice_bounds-put_line-start : goal.slice_bounds-put_line-start
-slice_bounds-put_line-start c = omega arith
-
-pub slice_bounds-put_line-end : goal.slice_bounds-put_line-end
-slice_bounds-put_line-end c = omega arith
+loop-entry-init c = (joined_none 0 c.args.out.now _, omega arith, refl)
 
 pub put_line-at-requires : goal.put_line-at-requires
 put_line-at-requires c =
     let s = c in record { room = omega (arith, s.requires.room); setting = simp (length-take, length-drop) (omega arith); periods = s.requires.periods }
-
-pub overflow_add-entry : goal.overflow_add-entry
-overflow_add-entry c = omega arith
-
-pub loop-entry-smaller : goal.loop-entry-smaller
-loop-entry-smaller c = omega arith
 
 -- the part of the table that the call is lent is the setting
 as_setting : (b : Buffer) {d : Buffer} (periods otp : List ℕ) (from entry : ℕ) → d ≡ appended b (charge_line periods (take (from + 112 - from) (drop from otp)) entry)
@@ -60,11 +36,10 @@ loop-entry-preserved c =
           (as_setting (buffer l.loop-entry.at l.loop-entry.out) s.frame_period.now s.otp.now (118 * l.loop-entry.entry + 6) l.loop-entry.entry put.put_line-at.ensures.text),
       omega (arith, put.put_line-at.ensures.end),
       omega arith,
-      omega arith,
     )
 
 pub shape_of-out : goal.shape_of-out
-shape_of-out c = c.loop-entry.invariant.3
+shape_of-out c = c.loop-entry.invariant.2
 
 pub returns : goal.returns
 unfolding charge_text

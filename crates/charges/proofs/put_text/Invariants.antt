@@ -1,6 +1,6 @@
 use mathlib.Core.Path.{◌≡◌}
 use mathlib.Core.List.{List}
-use Prim.Native.Nat.{ℕ, ◌*◌, ◌-◌, ◌≤◌}
+use Prim.Native.Nat.{ℕ, ◌*◌}
 use lib.ListN.{length}
 use Rattle.waveform.specs.Phases.{joined}
 use Rattle.column.specs.Columns.{buffer, appended}
@@ -12,8 +12,5 @@ lineIn periods otp entry = charge_line periods (setting_bytes otp entry) entry
 
 abbrev pub invariant-loop-entry : goal.invariant-loop-entry
 invariant-loop-entry l =
-    (buffer l.at l.out ≡ appended (buffer 0 l.initial.out) (joined l.entry (lineIn l.frame_period l.otp)))
-    × (l.at ≡ 88 * l.entry) × (l.entry ≤ l.entries) × (length l.out ≡ length l.initial.out)
-
-abbrev pub decreases-loop-entry : goal.decreases-loop-entry
-decreases-loop-entry l = l.entries - l.entry
+    (buffer l.at l.out ≡ appended (buffer 0 l.initial.out) (joined l.entry (lineIn l.frame_period l.otp))) × (l.at ≡ 88 * l.entry)
+    × (length l.out ≡ length l.initial.out)

@@ -14,6 +14,3 @@ of d s p group at = driven (phase_in d (timed_group s p group) at)
 
 abbrev pub invariant-loop-at : goal.invariant-loop-at
 invariant-loop-at l = (l.at ≤ 4) × (l.moved ≡ foldl (whole_step l.driving) l.initial.moved (joined l.at (of l.driving l.setting l.frame_period l.group)))
-
-abbrev pub decreases-loop-at : goal.decreases-loop-at
-decreases-loop-at l = 4 - l.at

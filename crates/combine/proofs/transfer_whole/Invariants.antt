@@ -15,6 +15,3 @@ of d s p k = group_in d (get_or (waveform_of s p).groups k no_group)
 
 abbrev pub invariant-loop-k : goal.invariant-loop-k
 invariant-loop-k l = (l.k ≤ 10) × ActsAs (swing_in l.driving) l.moved (driven_by l.driving (joined l.k (of l.driving l.setting l.frame_period)))
-
-abbrev pub decreases-loop-k : goal.decreases-loop-k
-decreases-loop-k l = 10 - l.k

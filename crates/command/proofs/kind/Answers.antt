@@ -1,9 +1,9 @@
 -- `command::kind` meets its contract: in each arm the command is the row's number, and the table computes; in the last, it is no row's.
 -- Assumes nothing.
+use Rattle.std.specs.Prelude.{None}
 use Prim.{Unit}
 use Rattle.command.specs.Table.{rows, kind_of}
 use Rattle.numbers.specs.Rows.{lookup}
-use Rattle.command.specs.declared.Known.TheVariants.{Unknown}
 use Rattle.numbers.proofs.Miss.{miss}
 use Rattle.command.proofs.kind.Goals as goal
 
@@ -217,4 +217,4 @@ returns-in-127 c = rw c.in-127.is
 
 pub returns-in_default : goal.returns-in_default
 unfolding rows kind_of
-returns-in_default c = (miss Unknown _ rows Unit c.in_default.in_default-own.rest).1
+returns-in_default c = (miss None _ rows Unit c.in_default.in_default-own.rest).1

@@ -2,4 +2,4 @@
 use Rattle.data.proofs.count.Goals as goal
 
 pub returns : goal.returns
-returns c = rw c.saturating_add_u16-received.ensures
+returns c = rw c.saturating_add-received.ensures

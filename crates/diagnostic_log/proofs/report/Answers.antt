@@ -18,4 +18,4 @@ returns-then-count-lt-MAX_DIAGNOSTICS c =
 
 pub returns : goal.returns
 unfolding reported
-returns c = rw (le-ltb c.args.journal.count 1024 (omega arith), c.saturating_add_u64.ensures)
+returns c = rw (le-ltb c.args.journal.count 1024 (omega arith), c.saturating_add.ensures)

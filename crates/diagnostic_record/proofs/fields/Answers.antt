@@ -1,5 +1,7 @@
 -- `diagnostic_record::fields` meets its contract: an arm for each kind.
 use mathlib.Core.Path.{◌∙◌}
+use Rattle.config.proofs.Modes.{mode_is}
+use Rattle.diagnostic_record.proofs.Numbers.{stage_is}
 use Rattle.diagnostic_record.proofs.fields.Goals as goal
 
 pub returns-in-UnknownCommand : goal.returns-in-UnknownCommand
@@ -39,13 +41,13 @@ pub returns-in-CounterOutsideWindow : goal.returns-in-CounterOutsideWindow
 returns-in-CounterOutsideWindow c = c.of-in-CounterOutsideWindow.ensures ∙ rw c.in-CounterOutsideWindow.is
 
 pub returns-in-WithoutClock : goal.returns-in-WithoutClock
-returns-in-WithoutClock c = c.of-in-WithoutClock.ensures ∙ rw (c.stage_number.ensures, c.in-WithoutClock.is)
+returns-in-WithoutClock c = c.of-in-WithoutClock.ensures ∙ rw (stage_is c.in-WithoutClock.stage, c.in-WithoutClock.is)
 
 pub returns-in-WithoutAnalog : goal.returns-in-WithoutAnalog
-returns-in-WithoutAnalog c = c.of-in-WithoutAnalog.ensures ∙ rw (c.stage_number-in-WithoutAnalog.ensures, c.in-WithoutAnalog.is)
+returns-in-WithoutAnalog c = c.of-in-WithoutAnalog.ensures ∙ rw (stage_is c.in-WithoutAnalog.stage, c.in-WithoutAnalog.is)
 
 pub returns-in-NoWaveform : goal.returns-in-NoWaveform
-returns-in-NoWaveform c = c.of-in-NoWaveform.ensures ∙ rw (c.mode_number.ensures, c.in-NoWaveform.is)
+returns-in-NoWaveform c = c.of-in-NoWaveform.ensures ∙ rw (mode_is c.in-NoWaveform.mode, c.in-NoWaveform.is)
 
 pub returns-in-NoExternalSensor : goal.returns-in-NoExternalSensor
 returns-in-NoExternalSensor c = c.of-in-NoExternalSensor.ensures ∙ rw c.in-NoExternalSensor.is

@@ -1,14 +1,13 @@
 -- `drive_sheet::byte_at` meets its contract: the four ranges of the setting, one after the other.
-use mathlib.Core.Path.{sym, ap, subst, ◌∙◌}
+use mathlib.Core.Path.{ap, ◌∙◌}
 use Prim.Native.Nat.{◌+◌, ◌-◌, ◌*◌, ◌/◌, ◌%◌}
 use native.Mathlib.Omega.{arith}
 use lib.Dec.{ltb}
 use borrow.Author.Tests.{lt-ltb, le-ltb}
 use Rattle.numbers.proofs.Cases.{took, passed}
 use Rattle.drive_sheet.specs.declared.SupplyCodes.{SupplyCodes}
-use Rattle.drive_sheet.specs.Supplies.{Coded}
 use Rattle.drive_sheet.specs.Bytes.{last_byte, sheet_byte}
-use Rattle.drive_sheet.proofs.Passes.{group_repeats, group_codes, all_coded}
+use Rattle.drive_sheet.proofs.Passes.{group_repeats, group_codes}
 use Rattle.drive_sheet.proofs.byte_at.Goals as goal
 
 pub codes_byte-requires : goal.codes_byte-requires
@@ -48,11 +47,6 @@ returns-then-at-lt105 c =
     passed (ltb at 50) _ _ _ (le-ltb at 50 m.if-at-lt50.false)
     (passed (ltb at 100) _ _ _ (le-ltb at 100 m.if-at-lt100.false)
     (took (ltb at 105) _ _ _ (lt-ltb at 105 m.if-at-lt105.true) c.rates_byte.ensures))
-
-pub last_byte-requires : goal.last_byte-requires
-last_byte-requires c =
-    let s = c in
-    subst Coded (sym s.requires.1.found) (all_coded s.args.sheet s.requires.1.passes.supplied)
 
 pub returns : goal.returns
 unfolding sheet_byte

@@ -13,15 +13,6 @@ loop-i-init c = painted_none _ _
 pub byte_at-requires : goal.byte_at-requires
 byte_at-requires c = (omega arith, c.requires.1)
 
-pub bounds-out-i : goal.bounds-out-i
-bounds-out-i c = omega arith
-
-pub overflow_step-i : goal.overflow_step-i
-overflow_step-i c = omega arith
-
-pub loop-i-smaller : goal.loop-i-smaller
-loop-i-smaller c = omega arith
-
 pub loop-i-preserved : goal.loop-i-preserved
 loop-i-preserved c = painted_more c.loop-i.invariant (omega arith) c.byte_at.ensures
 

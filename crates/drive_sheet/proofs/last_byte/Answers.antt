@@ -24,19 +24,19 @@ returns-in-0 c = rw c.in-0.is
 
 pub returns-in-1 : goal.returns-in-1
 unfolding last_byte
-returns-in-1 c = rw c.in-1.is
+returns-in-1 c = rw c.in-1.is c.unwrap_or.ensures
 
 pub returns-in-2 : goal.returns-in-2
 unfolding last_byte
-returns-in-2 c = rw c.in-2.is
+returns-in-2 c = rw c.in-2.is c.unwrap_or-in-2.ensures
 
 pub returns-in-3 : goal.returns-in-3
 unfolding last_byte
-returns-in-3 c = rw c.in-3.is
+returns-in-3 c = rw c.in-3.is c.unwrap_or-in-3.ensures
 
 pub returns-in-4 : goal.returns-in-4
 unfolding last_byte
-returns-in-4 c = rw c.in-4.is
+returns-in-4 c = rw c.in-4.is c.unwrap_or-in-4.ensures
 
 pub returns-in_default : goal.returns-in_default
 returns-in_default c = rest c.args.gate c.args.codes c.args.place (omega arith)

@@ -1,25 +1,21 @@
 -- `drive_sheet::number` meets its contract.
 use mathlib.Core.Path.{sym, ap}
-use Rattle.drive_sheet.specs.declared.Written.{Written}
-use Rattle.drive_sheet.specs.Tests.{told_of, number_in}
+use Rattle.drive_sheet.specs.declared.SheetError.{SheetError}
+use Rattle.drive_sheet.specs.Tests.{sheet_refusal, number_in}
 use Rattle.drive_sheet.proofs.number.Goals as goal
 
-pub returns-in-Whole : goal.returns-in-Whole
-unfolding told_of
-returns-in-Whole c = sym (ap (λ (w : Written). number_in (told_of w)) c.in-Whole.is)
-
 pub returns-in-Length : goal.returns-in-Length
-unfolding told_of
-returns-in-Length c = sym (ap (λ (w : Written). number_in (told_of w)) c.in-Length.is)
+unfolding sheet_refusal
+returns-in-Length c = sym (ap (λ (w : SheetError). number_in (sheet_refusal w)) c.in-Length.is)
 
 pub returns-in-NoCode : goal.returns-in-NoCode
-unfolding told_of
-returns-in-NoCode c = sym (ap (λ (w : Written). number_in (told_of w)) c.in-NoCode.is)
+unfolding sheet_refusal
+returns-in-NoCode c = sym (ap (λ (w : SheetError). number_in (sheet_refusal w)) c.in-NoCode.is)
 
 pub returns-in-Repeats : goal.returns-in-Repeats
-unfolding told_of
-returns-in-Repeats c = sym (ap (λ (w : Written). number_in (told_of w)) c.in-Repeats.is)
+unfolding sheet_refusal
+returns-in-Repeats c = sym (ap (λ (w : SheetError). number_in (sheet_refusal w)) c.in-Repeats.is)
 
 pub returns-in-Code : goal.returns-in-Code
-unfolding told_of
-returns-in-Code c = sym (ap (λ (w : Written). number_in (told_of w)) c.in-Code.is)
+unfolding sheet_refusal
+returns-in-Code c = sym (ap (λ (w : SheetError). number_in (sheet_refusal w)) c.in-Code.is)

@@ -8,22 +8,22 @@ pub advance-present-requires : goal.advance-present-requires
 advance-present-requires c =
     let s = c.args in
     let given = with_glass_log s.state s.states.now (picture s.pixels.now s.counts.now) s.log.now in
-    read_ready s.luts.now s.black_white.now s.red.now s.time given _ _ _ c.planes_log_lent-lengths.ensures c.check-refusal.ensures c.is_accepted.ensures c.if-is_accepted.true
+    read_ready s.luts.now s.black_white.now s.red.now s.time given _ c.planes_log_lent-lengths.ensures c.in-Ok.ensures
 
-pub read-reading-requires : goal.read-reading-requires
-read-reading-requires c =
+pub read-requires : goal.read-requires
+read-requires c =
     let s = c.args in
     let given = with_glass_log s.state s.states.now (picture s.pixels.now s.counts.now) s.log.now in
-    read_log s.luts.now s.black_white.now s.red.now s.time given _ _ _ c.planes_log_lent-lengths.ensures c.check-refusal.ensures c.is_accepted.ensures c.if-is_accepted.true
+    read_log s.luts.now s.black_white.now s.red.now s.time given _ c.planes_log_lent-lengths.ensures c.in-Ok.ensures
 
-pub returns-then-is_accepted : goal.returns-then-is_accepted
-returns-then-is_accepted c =
+pub returns-in-Ok : goal.returns-in-Ok
+returns-in-Ok c =
     let s = c.args in
     let given = with_glass_log s.state s.states.now (picture s.pixels.now s.counts.now) s.log.now in
-    read_moves s.luts.now s.black_white.now s.red.now s.time given _ _ _ c.planes_log_lent-lengths.ensures c.check-refusal.ensures c.is_accepted.ensures _ _ c.if-is_accepted.true c.advance-present.ensures c.read-reading.ensures
+    read_moves s.luts.now s.black_white.now s.red.now s.time given _ c.planes_log_lent-lengths.ensures c.in-Ok.ensures _ _ c.advance-present.ensures c.read.ensures
 
-pub returns : goal.returns
-returns c =
+pub returns-in-Err : goal.returns-in-Err
+returns-in-Err c =
     let s = c.args in
     let given = with_glass_log s.state s.states.now (picture s.pixels.now s.counts.now) s.log.now in
-    read_refused s.luts.now s.black_white.now s.red.now s.time given _ _ _ c.planes_log_lent-lengths.ensures c.check-refusal.ensures c.is_accepted.ensures c.if-is_accepted.false
+    read_refused s.luts.now s.black_white.now s.red.now s.time given _ c.planes_log_lent-lengths.ensures _ c.in-Err.ensures

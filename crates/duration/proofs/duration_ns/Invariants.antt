@@ -1,11 +1,8 @@
 use mathlib.Core.Path.{◌≡◌}
-use Prim.Native.Nat.{◌-◌, ◌≤◌, min}
+use Prim.Native.Nat.{◌≤◌, min}
 use Rattle.numbers.specs.Saturation.{largest}
 use Rattle.waveform.specs.Duration.{groups_ns}
 use Rattle.duration.proofs.duration_ns.Given as goal
 
-abbrev pub invariant-loop-k : goal.invariant-loop-k
-invariant-loop-k l = (l.k ≤ 10) × (l.total ≡ min (groups_ns l.waveform.groups l.k) (largest 64))
-
-abbrev pub decreases-loop-k : goal.decreases-loop-k
-decreases-loop-k l = 10 - l.k
+abbrev pub invariant-loop-group : goal.invariant-loop-group
+invariant-loop-group l = l.total ≡ min (groups_ns l.group-items l.group-index) (largest 64)

@@ -20,4 +20,4 @@ returns c =
     let s = c.before.before.before in
     down_met s.args.frequency s.args.cycles (some c.before.before) _ _
     c.saturating_mul_u64-whole.ensures
-    c.saturating_add_u64.ensures
+    c.saturating_add.ensures

@@ -17,4 +17,4 @@ overflow_add-rest c = record { fits = omega (arith, rest c) }
 pub returns : goal.returns
 returns c =
     let s = c.before.before in
-    up_met s.args.frequency s.args.ns _ _ c.saturating_mul_u64-whole.ensures c.saturating_add_u64.ensures
+    up_met s.args.frequency s.args.ns _ _ c.saturating_mul_u64-whole.ensures c.saturating_add.ensures

@@ -3,10 +3,10 @@ use mathlib.Core.Path.{sym, ◌∙◌}
 use Rattle.gates.specs.Gates.{native_row}
 use Rattle.gates.proofs.native_row.Goals as goal
 
-pub returns-in-Is : goal.returns-in-Is
+pub returns-in-Some : goal.returns-in-Some
 unfolding native_row
-returns-in-Is c = rw (← (sym c.in-Is.is ∙ c.ram_row_of_gate.ensures))
+returns-in-Some c = rw (← (sym c.in-Some.is ∙ c.ram_row_of_gate.ensures))
 
-pub returns-in-Nothing : goal.returns-in-Nothing
+pub returns-in-None : goal.returns-in-None
 unfolding native_row
-returns-in-Nothing c = rw (← (sym c.in-Nothing.is ∙ c.ram_row_of_gate.ensures))
+returns-in-None c = rw (← (sym c.in-None.is ∙ c.ram_row_of_gate.ensures))

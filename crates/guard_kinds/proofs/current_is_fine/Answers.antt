@@ -11,10 +11,10 @@ pub returns-in-Ignoring : goal.returns-in-Ignoring
 unfolding current_fine
 returns-in-Ignoring c = rw c.in-Ignoring.is
 
-pub returns-in-Of : goal.returns-in-Of
-returns-in-Of c =
+pub returns-in-Some : goal.returns-in-Some
+returns-in-Some c =
     of_kind _ _ _ c.in-Active.is c.kind-known.ensures _ _
-    c.in-Of.is c.same_kind.ensures
+    c.in-Some.is c.same_kind.ensures
 
-pub returns-in-Unknown : goal.returns-in-Unknown
-returns-in-Unknown c = of_none _ _ _ c.in-Active.is c.kind-known.ensures c.in-Unknown.is
+pub returns-in-None : goal.returns-in-None
+returns-in-None c = of_none _ _ _ c.in-Active.is c.kind-known.ensures c.in-None.is

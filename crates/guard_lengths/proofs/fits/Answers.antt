@@ -2,10 +2,10 @@
 use Rattle.guard_lengths.specs.Lengths.{fits}
 use Rattle.guard_lengths.proofs.fits.Goals as goal
 
-pub returns-in-Nothing : goal.returns-in-Nothing
+pub returns-in-None : goal.returns-in-None
 unfolding fits
-returns-in-Nothing c = rw c.in-Nothing.is
+returns-in-None c = rw c.in-None.is
 
-pub returns-in-Of : goal.returns-in-Of
+pub returns-in-Some : goal.returns-in-Some
 unfolding fits
-returns-in-Of c = rw c.in-Of.is
+returns-in-Some c = rw c.in-Some.is

@@ -1,39 +1,20 @@
--- `hash::of_counts` meets its contract: after i turns the hash is that of the first i.
-use mathlib.Core.Path.{refl}
+-- `hash::of_counts` meets its contract: the hash is that of what was gone over.
+use mathlib.Core.Path.{refl, ap, ◌∙◌}
+use Prim.Native.Nat.{ℕ}
 use native.Mathlib.Omega.{arith}
-use Rattle.hash.specs.Hash.{hash_from, count_bytes}
-use Rattle.hash.proofs.Laws.{turn, all, below, counts_more}
+use Rattle.hash.specs.Hash.{hash_from, four_of, count_bytes}
+use Rattle.hash.proofs.Laws.{turn, below, counts_more}
 use Rattle.hash.proofs.of_counts.Goals as goal
 
-pub loop-i-init : goal.loop-i-init
+pub loop-count-init : goal.loop-count-init
 unfolding hash_from count_bytes
-loop-i-init c = (omega arith, refl)
-
-pub offset_bounds-counts-i : goal.offset_bounds-counts-i
-offset_bounds-counts-i c = omega arith
-
-pub bounds-counts-i : goal.bounds-counts-i
-bounds-counts-i c = omega arith
-
-pub overflow_cast-counts : goal.overflow_cast-counts
-overflow_cast-counts c = omega (arith, c.shared_slice_known-in-loop-i-1.given c.loop-i.i)
+loop-count-init c = refl
 
 pub four-h-requires : goal.four-h-requires
-four-h-requires c = below count_bytes counts_more c.args.counts.now c.loop-i.i c.loop-i.invariant.1
+four-h-requires c = below count_bytes counts_more c.args.counts.now c.loop-count.count-index c.loop-count.invariant
 
-pub overflow_add-i : goal.overflow_add-i
-overflow_add-i c = omega arith
-
-pub loop-i-smaller : goal.loop-i-smaller
-loop-i-smaller c = omega arith
-
-pub loop-i-preserved : goal.loop-i-preserved
+pub loop-count-preserved : goal.loop-count-preserved
 unfolding hash_from count_bytes
-loop-i-preserved c =
-    let l = c.loop-i in
-    (omega arith, turn count_bytes counts_more c.args.counts.now l.i 0 (omega arith) l.invariant.1 c.four-h.ensures)
-
-pub returns : goal.returns
-returns c =
-    let l = c.loop-i in
-    all count_bytes counts_more c.args.counts.now l.i (omega arith) l.invariant.1
+loop-count-preserved c =
+    let l = c.loop-count in
+    turn count_bytes counts_more c.args.counts.now l.count-index 0 (omega arith) l.invariant (c.four-h.ensures ∙ ap (λ (n : ℕ). hash_from l.h (four_of n)) c.from.ensures)

@@ -5,22 +5,28 @@ use Rattle.data.proofs.Taken.{taken, not_taken, still_not}
 use Rattle.high.proofs.Cases.{data_ready, data_log, data_moves, data_rests, data_refused}
 use Rattle.high.proofs.write_data.Goals as goal
 
+pub returns-in-Err : goal.returns-in-Err
+returns-in-Err c =
+    let a = c.args in
+    let w = with_planes a.state a.states.now (picture a.pixels.now a.counts.now) a.black_white.now a.red.now a.log.now in
+    data_refused a.luts.now a.time a.byte w _ c.planes_log_lent-lengths.ensures _ c.in-Err.ensures
+
 pub returns-then-step : goal.returns-then-step
 returns-then-step c =
     let a = c.args in
     let w = with_planes a.state a.states.now (picture a.pixels.now a.counts.now) a.black_white.now a.red.now a.log.now in
     let step = c.stream-step in
-    data_rests a.luts.now a.time a.byte w _ _ _ c.planes_log_lent-lengths.ensures c.check-refusal.ensures c.is_accepted.ensures c.move_clock-moved.result _ (with_ram c.set_pointed-state.result _ _ a.log.now)
-    c.if-is_accepted.true c.move_clock-moved.ensures c.is_quiet.ensures c.if-is_quiet.true
-    (taken a.byte c.move_clock-moved.result a.black_white.now a.red.now _ _ _ step.ensures.done_value step.ensures.by_index _ a.log.now c.if-step.true c.set_pointed-state.ensures)
+    data_rests a.luts.now a.time a.byte w _ c.planes_log_lent-lengths.ensures c.in_default.ensures c.move_clock-moved.result _ (with_ram c.set_pointed.result _ _ a.log.now)
+    c.move_clock-moved.ensures c.is_quiet.ensures c.if-is_quiet.true
+    (taken a.byte c.move_clock-moved.result a.black_white.now a.red.now _ _ _ step.ensures.done_value step.ensures.by_index _ a.log.now c.if-step.true c.set_pointed.ensures)
 
-pub write_other-state-requires : goal.write_other-state-requires
-write_other-state-requires c =
+pub write_other-requires : goal.write_other-requires
+write_other-requires c =
     let a = c.args in
     let w = with_planes a.state a.states.now (picture a.pixels.now a.counts.now) a.black_white.now a.red.now a.log.now in
     let step = c.stream-step in
     record {
-      log_len = data_log a.luts.now a.time a.byte w _ _ _ c.planes_log_lent-lengths.ensures c.check-refusal.ensures c.is_accepted.ensures c.if-is_accepted.true;
+      log_len = data_log a.luts.now a.time a.byte w _ c.planes_log_lent-lengths.ensures c.in_default.ensures;
       current_value = still_not a.byte c.move_clock-moved.result a.black_white.now a.red.now step.result step.new.black_white step.new.red step.ensures.done_value step.ensures.by_index c.if-step.false;
     }
 
@@ -29,30 +35,24 @@ returns-then-is_quiet c =
     let a = c.args in
     let w = with_planes a.state a.states.now (picture a.pixels.now a.counts.now) a.black_white.now a.red.now a.log.now in
     let step = c.stream-step in
-    data_rests a.luts.now a.time a.byte w _ _ _ c.planes_log_lent-lengths.ensures c.check-refusal.ensures c.is_accepted.ensures c.move_clock-moved.result _ _
-    c.if-is_accepted.true c.move_clock-moved.ensures c.is_quiet.ensures c.if-is_quiet.true
-    (not_taken a.byte c.move_clock-moved.result a.black_white.now a.red.now _ _ _ step.ensures.done_value step.ensures.by_index c.if-step.false _ a.log.now c.write_other-state.ensures)
+    data_rests a.luts.now a.time a.byte w _ c.planes_log_lent-lengths.ensures c.in_default.ensures c.move_clock-moved.result _ _
+    c.move_clock-moved.ensures c.is_quiet.ensures c.if-is_quiet.true
+    (not_taken a.byte c.move_clock-moved.result a.black_white.now a.red.now _ _ _ step.ensures.done_value step.ensures.by_index c.if-step.false _ a.log.now c.write_other.ensures)
 
 pub advance-present-requires : goal.advance-present-requires
 advance-present-requires c =
     let a = c.args in
     let w = with_planes a.state a.states.now (picture a.pixels.now a.counts.now) a.black_white.now a.red.now a.log.now in
-    data_ready a.luts.now a.time a.byte w _ _ _ c.planes_log_lent-lengths.ensures c.check-refusal.ensures c.is_accepted.ensures c.if-is_accepted.true
+    data_ready a.luts.now a.time a.byte w _ c.planes_log_lent-lengths.ensures c.in_default.ensures
 
-pub write-state-requires : goal.write-state-requires
-write-state-requires c =
+pub write-requires : goal.write-requires
+write-requires c =
     let a = c.args in
     let w = with_planes a.state a.states.now (picture a.pixels.now a.counts.now) a.black_white.now a.red.now a.log.now in
-    data_log a.luts.now a.time a.byte w _ _ _ c.planes_log_lent-lengths.ensures c.check-refusal.ensures c.is_accepted.ensures c.if-is_accepted.true
-
-pub returns-then-is_accepted : goal.returns-then-is_accepted
-returns-then-is_accepted c =
-    let a = c.args in
-    let w = with_planes a.state a.states.now (picture a.pixels.now a.counts.now) a.black_white.now a.red.now a.log.now in
-    data_moves a.luts.now a.time a.byte w _ _ _ c.planes_log_lent-lengths.ensures c.check-refusal.ensures c.is_accepted.ensures _ _ c.if-is_accepted.true c.advance-present.ensures c.write-state.ensures
+    data_log a.luts.now a.time a.byte w _ c.planes_log_lent-lengths.ensures c.in_default.ensures
 
 pub returns : goal.returns
 returns c =
     let a = c.args in
     let w = with_planes a.state a.states.now (picture a.pixels.now a.counts.now) a.black_white.now a.red.now a.log.now in
-    data_refused a.luts.now a.time a.byte w _ _ _ c.planes_log_lent-lengths.ensures c.check-refusal.ensures c.is_accepted.ensures c.if-is_accepted.false
+    data_moves a.luts.now a.time a.byte w _ c.planes_log_lent-lengths.ensures c.in_default.ensures _ _ c.advance-present.ensures c.write.ensures

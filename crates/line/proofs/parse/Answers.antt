@@ -1,16 +1,12 @@
 -- `line::parse` meets its contract: by what the columns hold.
-use mathlib.Core.Path.{sym, ap, ◌∙◌}
+use mathlib.Core.Path.{ap, ◌∙◌}
 use Rattle.line.specs.Lines.{asked_of, line_of}
 use Rattle.line.proofs.parse.Goals as goal
 
-pub returns-in-Of : goal.returns-in-Of
+pub returns-in_err-columns : goal.returns-in_err-columns
 unfolding line_of
-returns-in-Of c = c.listed.ensures ∙ ap asked_of (sym c.in-Of.is ∙ c.read-columns.ensures)
+returns-in_err-columns c = rw c.from_residual.ensures (ap asked_of c.in_err-columns.ensures)
 
-pub returns-in-NotALine : goal.returns-in-NotALine
+pub returns : goal.returns
 unfolding line_of
-returns-in-NotALine c = ap asked_of (sym c.in-NotALine.is ∙ c.read-columns.ensures)
-
-pub returns-in-NotANumber : goal.returns-in-NotANumber
-unfolding line_of
-returns-in-NotANumber c = ap asked_of (sym c.in-NotANumber.is ∙ c.read-columns.ensures)
+returns c = c.listed.ensures ∙ ap asked_of c.in_ok-columns.ensures

@@ -40,7 +40,7 @@ returns-in-41 c = rw c.in-41.is c.vcom_sense.ensures
 
 pub returns-in-44 : goal.returns-in-44
 unfolding listed lookup
-returns-in-44 c = rw (c.in-44.is, c.is_voltage.ensures, c.vcom_millivolts.ensures)
+returns-in-44 c = rw (c.in-44.is, c.is_some.ensures, c.vcom_millivolts.ensures)
 
 pub returns-in-50 : goal.returns-in-50
 unfolding listed lookup

@@ -4,7 +4,7 @@ use native.Mathlib.Omega.{arith}
 use Rattle.listed.proofs.sources.Goals as goal
 
 pub returns-then-index-lt2 : goal.returns-then-index-lt2
-returns-then-index-lt2 c = rw (lt-ltb c.args.index 2 (omega arith), c.is_voltage.ensures, c.source_millivolts.ensures)
+returns-then-index-lt2 c = rw (lt-ltb c.args.index 2 (omega arith), c.is_some.ensures, c.source_millivolts.ensures)
 
 pub returns : goal.returns
-returns c = rw (le-ltb c.args.index 2 (omega arith), c.is_voltage-2.ensures, c.vsl_millivolts.ensures)
+returns c = rw (le-ltb c.args.index 2 (omega arith), c.is_some-2.ensures, c.vsl_millivolts.ensures)

@@ -10,23 +10,17 @@ use Rattle.listing.proofs.lines.Invariants.{textIn}
 use Rattle.listing.proofs.lines.Goals as goal
 
 pub loop-number-init : goal.loop-number-init
-loop-number-init c = (joined_none 0 c.args.out.now _, omega arith, omega arith, refl)
-
-pub overflow_add-number : goal.overflow_add-number
-overflow_add-number c = omega arith
-
-pub loop-number-smaller : goal.loop-number-smaller
-loop-number-smaller c = omega arith
+loop-number-init c = (joined_none 0 c.args.out.now _, omega arith, refl)
 
 pub loop-number-preserved : goal.loop-number-preserved
 loop-number-preserved c =
     let put = c in
     let l = put in
     let s = l in
-    (joined_more 0 s.args.out.now (textIn s.args.waveform) l.loop-number.number (omega arith) l.loop-number.invariant.0 put.put_group-at.ensures.text, omega (arith, put.put_group-at.ensures.end), omega arith, omega arith)
+    (joined_more 0 s.args.out.now (textIn s.args.waveform) l.loop-number.number (omega arith) l.loop-number.invariant.0 put.put_group-at.ensures.text, omega (arith, put.put_group-at.ensures.end), omega arith)
 
 pub shape_of-out : goal.shape_of-out
-shape_of-out c = c.loop-number.invariant.3
+shape_of-out c = c.loop-number.invariant.2
 
 pub returns : goal.returns
 unfolding lines_of

@@ -1,5 +1,5 @@
 use mathlib.Core.Path.{◌≡◌}
-use Prim.Native.Nat.{ℕ, ◌*◌, ◌-◌, ◌≤◌}
+use Prim.Native.Nat.{ℕ, ◌*◌, ◌≤◌}
 use mathlib.Core.List.{List}
 use lib.ListN.{length, get_or}
 use Rattle.waveform.specs.declared.Waveform.{Waveform}
@@ -13,8 +13,5 @@ textIn w number = group_text w.levels (get_or w.groups number no_group) number
 
 abbrev pub invariant-loop-number : goal.invariant-loop-number
 invariant-loop-number l =
-    (buffer l.at l.out ≡ appended (buffer 0 l.initial.out) (joined l.number (textIn l.waveform)))
-    × (l.at ≤ 208 * l.number) × (l.number ≤ 10) × (length l.out ≡ length l.initial.out)
-
-abbrev pub decreases-loop-number : goal.decreases-loop-number
-decreases-loop-number l = 10 - l.number
+    (buffer l.at l.out ≡ appended (buffer 0 l.initial.out) (joined l.number (textIn l.waveform))) × (l.at ≤ 208 * l.number)
+    × (length l.out ≡ length l.initial.out)

@@ -12,10 +12,10 @@ pub returns-then-sensor-eq-INTERNAL_SENSOR : goal.returns-then-sensor-eq-INTERNA
 unfolding sensed
 returns-then-sensor-eq-INTERNAL_SENSOR c = took _ _ _ _ (eq-eqb _ _ c.if-sensor-eq-INTERNAL_SENSOR.true) (ap (λ (r : Run). step r c.args.log.now) c.wait.ensures)
 
-pub returns-in-Reads : goal.returns-in-Reads
+pub returns-in-Some : goal.returns-in-Some
 unfolding sensed
-returns-in-Reads c = passed _ _ _ _ (ne_eqb _ _ c.if-sensor-eq-INTERNAL_SENSOR.false) (reads _ _ _ _ _ _ c.in-Reads.is (ap (λ (r : Run). step r c.args.log.now) c.wait-in-Reads.ensures))
+returns-in-Some c = passed _ _ _ _ (ne_eqb _ _ c.if-sensor-eq-INTERNAL_SENSOR.false) (reads _ _ _ _ _ _ c.in-Some.is (ap (λ (r : Run). step r c.args.log.now) c.wait-in-Some.ensures))
 
-pub returns-in-Absent : goal.returns-in-Absent
+pub returns-in-None : goal.returns-in-None
 unfolding sensed
-returns-in-Absent c = passed _ _ _ _ (ne_eqb _ _ c.if-sensor-eq-INTERNAL_SENSOR.false) (reads_none _ _ _ _ _ c.in-Absent.is (ap (λ (r : Run). step r c.note-next.new.log) c.wait-in-Absent.ensures ∙ ap (through (waited _)) c.note-next.ensures))
+returns-in-None c = passed _ _ _ _ (ne_eqb _ _ c.if-sensor-eq-INTERNAL_SENSOR.false) (reads_none _ _ _ _ _ c.in-None.is (ap (λ (r : Run). step r c.note-next.new.log) c.wait-in-None.ensures ∙ ap (through (waited _)) c.note-next.ensures))

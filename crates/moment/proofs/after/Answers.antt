@@ -4,4 +4,4 @@ use Rattle.moment.proofs.after.Goals as goal
 
 pub returns : goal.returns
 unfolding after_ns
-returns c = cc (c.saturating_add_u64.ensures, c.nanos_to_cycles.ensures)
+returns c = cc (c.saturating_add.ensures, c.nanos_to_cycles.ensures)

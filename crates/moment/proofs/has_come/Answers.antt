@@ -2,5 +2,5 @@
 use Rattle.moment.proofs.Cases.{comes}
 use Rattle.moment.proofs.has_come.Goals as goal
 
-pub returns-in-At : goal.returns-in-At
-returns-in-At c = comes _ _ _ c.in-At.is
+pub returns-in-Some : goal.returns-in-Some
+returns-in-Some c = comes _ _ _ c.in-Some.is

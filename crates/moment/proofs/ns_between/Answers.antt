@@ -4,4 +4,4 @@ use Rattle.moment.proofs.ns_between.Goals as goal
 
 pub returns : goal.returns
 unfolding ns_between
-returns c = cc (c.cycles_to_nanos.ensures, c.saturating_sub_u64.ensures)
+returns c = cc (c.cycles_to_nanos.ensures, c.saturating_sub.ensures)

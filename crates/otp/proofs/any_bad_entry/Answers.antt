@@ -14,12 +14,6 @@ loop-entry-init c = (omega arith, any_none _)
 pub bad_entry-one-requires : goal.bad_entry-one-requires
 bad_entry-one-requires c = omega arith
 
-pub overflow_add-entry : goal.overflow_add-entry
-overflow_add-entry c = omega arith
-
-pub loop-entry-smaller : goal.loop-entry-smaller
-loop-entry-smaller c = omega arith
-
 pub loop-entry-preserved : goal.loop-entry-preserved
 loop-entry-preserved c = (omega arith, any_more _ _ _ _ c.loop-entry.invariant.1 c.bad_entry-one.ensures)
 

@@ -1,5 +1,4 @@
 use mathlib.Core.Path.{◌≡◌}
-use Prim.Native.Nat.{◌≤◌}
 use Rattle.otp.specs.Table.{entry_count}
 use Rattle.otp.specs.Search.{last_of}
 use Rattle.otp.specs.Waveform.{covers}
@@ -7,7 +6,4 @@ use Rattle.otp.proofs.last_covering.Given as goal
 
 abbrev pub invariant-loop-entry : goal.invariant-loop-entry
 invariant-loop-entry l =
-    (l.entry ≤ entry_count l.otp) × (last_of (covers l.otp l.mode l.register) (entry_count l.otp) ≡ last_of (covers l.otp l.mode l.register) l.entry)
-
-abbrev pub decreases-loop-entry : goal.decreases-loop-entry
-decreases-loop-entry l = l.entry
+    last_of (covers l.otp l.mode l.register) (entry_count l.otp) ≡ last_of (covers l.otp l.mode l.register) l.entry

@@ -13,7 +13,7 @@ returns-then-not-fine c =
     let test = fine in
     let size = test.size_in-size in
     let s = test.args in
-    read_71 s.file.now s.out.now size.ensures (sym test.is_header-fine.ensures ∙ fine.if-not-fine.true) c.not_read.ensures
+    read_71 s.file.now s.out.now size.ensures (sym test.is_header-fine.ensures ∙ fine.if-not-fine.true)
 
 pub overflow_sub-found : goal.overflow_sub-found
 overflow_sub-found c =
@@ -43,7 +43,7 @@ returns-then-found-count c =
     let size = test.size_in-size in
     let s = test.args in
     let found = sym test.is_header-fine.ensures ∙ fine.if-not-fine.false in
-    read_72 s.file.now s.out.now size.ensures found count.byte_count-start.ensures.count (λ e. omega arith) c.not_read-then-found-count.ensures
+    read_72 s.file.now s.out.now size.ensures found count.byte_count-start.ensures.count (λ e. omega arith)
 
 pub returns-then-out-count : goal.returns-then-out-count
 returns-then-out-count c =
@@ -53,7 +53,7 @@ returns-then-out-count c =
     let size = test.size_in-size in
     let s = test.args in
     let found = sym test.is_header-fine.ensures ∙ fine.if-not-fine.false in
-    read_73 s.file.now s.out.now size.ensures found count.byte_count-start.ensures.count (omega arith) (omega arith) c.not_read-then-out-count.ensures
+    read_73 s.file.now s.out.now size.ensures found count.byte_count-start.ensures.count (omega arith) (omega arith)
 
 pub slice_bounds-copy-count : goal.slice_bounds-copy-count
 slice_bounds-copy-count c =

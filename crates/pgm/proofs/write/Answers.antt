@@ -12,7 +12,7 @@ returns-then-not-fine c =
     let fine = c in
     let test = fine in
     let s = test.args in let whole = write_answered s.width s.height s.pixels.now s.out.now
-    (write_71 s.width s.height s.pixels.now s.out.now (sym test.in_range-fine.ensures ∙ fine.if-not-fine.true) c.not_written.ensures) in record { file = whole.0; within = whole.1 }
+    (write_71 s.width s.height s.pixels.now s.out.now (sym test.in_range-fine.ensures ∙ fine.if-not-fine.true)) in record { file = whole.0; within = whole.1 }
 
 pub overflow_mul-count : goal.overflow_mul-count
 overflow_mul-count c =
@@ -25,7 +25,7 @@ returns-then-pixels-count c =
     let fine = c in
     let test = fine in
     let s = test.args in
-    let ranged = sym test.in_range-fine.ensures ∙ fine.if-not-fine.false in let whole = write_answered s.width s.height s.pixels.now s.out.now (write_72 s.width s.height s.pixels.now s.out.now ranged (λ e. omega arith) c.not_written-then-pixels-count.ensures) in record { file = whole.0; within = whole.1 }
+    let ranged = sym test.in_range-fine.ensures ∙ fine.if-not-fine.false in let whole = write_answered s.width s.height s.pixels.now s.out.now (write_72 s.width s.height s.pixels.now s.out.now ranged (λ e. omega arith)) in record { file = whole.0; within = whole.1 }
 
 pub returns-then-out-length : goal.returns-then-out-length
 returns-then-out-length c =
@@ -34,7 +34,7 @@ returns-then-out-length c =
     let test = fine in
     let s = test.args in
     let ranged = sym test.in_range-fine.ensures ∙ fine.if-not-fine.false in let whole = write_answered s.width s.height s.pixels.now s.out.now
-    (write_73 s.width s.height s.pixels.now s.out.now ranged (omega arith) (omega (arith, count.byte_count-start.ensures.count)) c.not_written-then-out-length.ensures) in record { file = whole.0; within = whole.1 }
+    (write_73 s.width s.height s.pixels.now s.out.now ranged (omega arith) (omega (arith, count.byte_count-start.ensures.count))) in record { file = whole.0; within = whole.1 }
 
 pub returns : goal.returns
 returns c =

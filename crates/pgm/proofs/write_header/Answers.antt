@@ -8,7 +8,7 @@ pub returns-then-not-fine : goal.returns-then-not-fine
 returns-then-not-fine c =
     let fine = c in
     let test = fine in
-    let s = test.args in let whole = header_answered s.width s.height s.out.now (header_71 s.width s.height s.out.now (sym test.in_range-fine.ensures ∙ fine.if-not-fine.true) c.not_written.ensures) in record { header = whole.0; within = whole.1 }
+    let s = test.args in let whole = header_answered s.width s.height s.out.now (header_71 s.width s.height s.out.now (sym test.in_range-fine.ensures ∙ fine.if-not-fine.true)) in record { header = whole.0; within = whole.1 }
 
 pub returns-then-out-length : goal.returns-then-out-length
 returns-then-out-length c =
@@ -16,7 +16,7 @@ returns-then-out-length c =
     let fine = count in
     let test = fine in
     let s = test.args in
-    let ranged = sym test.in_range-fine.ensures ∙ fine.if-not-fine.false in let whole = header_answered s.width s.height s.out.now (header_73 s.width s.height s.out.now ranged (omega (arith, count.byte_count-length.ensures.count)) c.not_written-then-out-length.ensures) in record { header = whole.0; within = whole.1 }
+    let ranged = sym test.in_range-fine.ensures ∙ fine.if-not-fine.false in let whole = header_answered s.width s.height s.out.now (header_73 s.width s.height s.out.now ranged (omega (arith, count.byte_count-length.ensures.count))) in record { header = whole.0; within = whole.1 }
 
 pub returns : goal.returns
 returns c =

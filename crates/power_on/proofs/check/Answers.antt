@@ -1,34 +1,25 @@
 -- `power_on::check` meets its contract.
+use Rattle.std.proofs.lemmas.Result.{err_from_is_err_and}
 use Rattle.power_on.proofs.Cases.{passes, refuses_counts, refuses_buffer, refuses_parameters}
-use mathlib.Core.Path.{sym, ◌∙◌}
-use Rattle.power_on.proofs.check.Goals.{Start}
 use Rattle.power_on.proofs.check.Goals as goal
 
-pub returns-then-counted : goal.returns-then-counted
-returns-then-counted c =
-    let fitting = c in
-    let valid = fitting in
-    let asked = valid in
-    let s : Start = search in
-    passes s.args.config s.args.otp.now s.args.lengths _ _ _ asked.validate-error.ensures asked.lengths_fit-fit.ensures asked.counts_fit-counted.ensures (sym asked.is_accepted.ensures ∙ valid.if-is_accepted.true) fitting.if-fit.true c.if-counted.true
+pub returns-in_err-validate : goal.returns-in_err-validate
+returns-in_err-validate c =
+    let s = c.args in
+    let p = err_from_is_err_and c.from_residual.result c.from_residual.ensures.1 in
+    rw (p.1, p.2) (refuses_parameters s.config s.otp.now s.lengths _ c.in_err-validate.ensures)
 
-pub returns-then-fit : goal.returns-then-fit
-returns-then-fit c =
-    let fitting = c in
-    let valid = fitting in
-    let asked = valid in
-    let s : Start = search in
-    refuses_counts s.args.config s.args.otp.now s.args.lengths _ _ _ asked.validate-error.ensures asked.lengths_fit-fit.ensures asked.counts_fit-counted.ensures (sym asked.is_accepted.ensures ∙ valid.if-is_accepted.true) fitting.if-fit.true c.if-counted.false
+pub returns-then-not-lengths_fit : goal.returns-then-not-lengths_fit
+returns-then-not-lengths_fit c =
+    let s = c.args in
+    refuses_buffer s.config s.otp.now s.lengths _ c.in_ok-validate.ensures c.lengths_fit.ensures c.if-not-lengths_fit.true
 
-pub returns-then-is_accepted : goal.returns-then-is_accepted
-returns-then-is_accepted c =
-    let valid = c in
-    let asked = valid in
-    let s : Start = search in
-    refuses_buffer s.args.config s.args.otp.now s.args.lengths _ _ _ asked.validate-error.ensures asked.lengths_fit-fit.ensures asked.counts_fit-counted.ensures (sym asked.is_accepted.ensures ∙ valid.if-is_accepted.true) c.if-fit.false
+pub returns-then-not-counts_fit : goal.returns-then-not-counts_fit
+returns-then-not-counts_fit c =
+    let s = c.args in
+    refuses_counts s.config s.otp.now s.lengths _ c.in_ok-validate.ensures c.lengths_fit.ensures _ c.counts_fit.ensures c.if-not-lengths_fit.false c.if-not-counts_fit.true
 
 pub returns : goal.returns
 returns c =
-    let asked = c in
-    let s : Start = search in
-    refuses_parameters s.args.config s.args.otp.now s.args.lengths _ _ _ asked.validate-error.ensures asked.lengths_fit-fit.ensures asked.counts_fit-counted.ensures (sym asked.is_accepted.ensures ∙ c.if-is_accepted.false)
+    let s = c.args in
+    passes s.config s.otp.now s.lengths _ c.in_ok-validate.ensures c.lengths_fit.ensures _ c.counts_fit.ensures c.if-not-lengths_fit.false c.if-not-counts_fit.false

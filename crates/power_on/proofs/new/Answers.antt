@@ -1,22 +1,29 @@
 -- `power_on::new` meets its contract.
+use mathlib.Core.Path.{refl}
+use Rattle.std.proofs.lemmas.Result.{err_from_is_err_and}
 use Rattle.counts.specs.Counts.{picture}
 use Rattle.power_on.proofs.Accepted.{ready}
 use Rattle.power_on.proofs.Cases.{starts, starts_not}
-use Rattle.power_on.specs.Start.{buffers}
-use mathlib.Core.Path.{sym, ◌∙◌}
+use Rattle.power_on.specs.Start.{buffers, start_answer_of}
 use Rattle.power_on.proofs.new.Goals as goal
 
-pub power_up-state-requires : goal.power_up-state-requires
-power_up-state-requires c =
+pub returns-in_err-check : goal.returns-in_err-check
+returns-in_err-check c =
     let s = c.args in
-    ready s.config s.otp.now (buffers s.states.now s.luts.now (picture s.pixels.now s.counts.now) s.black_white.now s.red.now s.gates.now s.log.now) _ _ c.all_lent-lengths.ensures c.check-error.ensures (sym c.is_accepted.ensures ∙ c.if-is_accepted.true)
+    let p = err_from_is_err_and c.from_residual.result c.from_residual.ensures.1 in
+    rw (p.1, p.2)
+    (starts_not s.config s.otp.now (buffers s.states.now s.luts.now (picture s.pixels.now s.counts.now) s.black_white.now s.red.now s.gates.now s.log.now) _
+    c.all_lent-lengths.ensures _ c.in_err-check.ensures)
 
-pub returns-then-is_accepted : goal.returns-then-is_accepted
-returns-then-is_accepted c =
+pub power_up-requires : goal.power_up-requires
+unfolding start_answer_of
+power_up-requires c =
     let s = c.args in
-    starts s.config s.otp.now (buffers s.states.now s.luts.now (picture s.pixels.now s.counts.now) s.black_white.now s.red.now s.gates.now s.log.now) _ _ c.all_lent-lengths.ensures c.check-error.ensures _ _ c.is_accepted.ensures c.if-is_accepted.true c.power_up-state.ensures
+    ready s.config s.otp.now (buffers s.states.now s.luts.now (picture s.pixels.now s.counts.now) s.black_white.now s.red.now s.gates.now s.log.now) _ _
+    c.all_lent-lengths.ensures c.in_ok-check.ensures refl
 
 pub returns : goal.returns
 returns c =
     let s = c.args in
-    starts_not s.config s.otp.now (buffers s.states.now s.luts.now (picture s.pixels.now s.counts.now) s.black_white.now s.red.now s.gates.now s.log.now) _ _ c.all_lent-lengths.ensures c.check-error.ensures _ _ c.is_accepted.ensures c.if-is_accepted.false c.unstarted-state.ensures
+    starts s.config s.otp.now (buffers s.states.now s.luts.now (picture s.pixels.now s.counts.now) s.black_white.now s.red.now s.gates.now s.log.now) _
+    c.all_lent-lengths.ensures _ _ c.in_ok-check.ensures c.power_up.ensures

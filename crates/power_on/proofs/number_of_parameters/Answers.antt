@@ -1,39 +1,35 @@
 -- `power_on::number_of_parameters` meets its contract.
-use Rattle.config.specs.Answer.{answer_of}
+use Rattle.config.specs.Answer.{refused_by}
 use Rattle.power_on.proofs.number_of_parameters.Goals as goal
 
-pub returns-in-Accepted : goal.returns-in-Accepted
-unfolding answer_of
-returns-in-Accepted c = rw c.in-Accepted.is
-
 pub returns-in-EmptyPanel : goal.returns-in-EmptyPanel
-unfolding answer_of
+unfolding refused_by
 returns-in-EmptyPanel c = rw c.in-EmptyPanel.is
 
 pub returns-in-PanelOutsideRam : goal.returns-in-PanelOutsideRam
-unfolding answer_of
+unfolding refused_by
 returns-in-PanelOutsideRam c = rw c.in-PanelOutsideRam.is
 
 pub returns-in-OddRowsWithGd : goal.returns-in-OddRowsWithGd
-unfolding answer_of
+unfolding refused_by
 returns-in-OddRowsWithGd c = rw c.in-OddRowsWithGd.is
 
 pub returns-in-ZeroSwing : goal.returns-in-ZeroSwing
-unfolding answer_of
+unfolding refused_by
 returns-in-ZeroSwing c = rw c.in-ZeroSwing.is
 
 pub returns-in-ZeroFramePeriod : goal.returns-in-ZeroFramePeriod
-unfolding answer_of
+unfolding refused_by
 returns-in-ZeroFramePeriod c = rw c.in-ZeroFramePeriod.is
 
 pub returns-in-ZeroFrequency : goal.returns-in-ZeroFrequency
-unfolding answer_of
+unfolding refused_by
 returns-in-ZeroFrequency c = rw c.in-ZeroFrequency.is
 
 pub returns-in-BadTable : goal.returns-in-BadTable
-unfolding answer_of
+unfolding refused_by
 returns-in-BadTable c = rw c.in-BadTable.is
 
 pub returns-in-OtpVoltage : goal.returns-in-OtpVoltage
-unfolding answer_of
+unfolding refused_by
 returns-in-OtpVoltage c = rw c.in-OtpVoltage.is

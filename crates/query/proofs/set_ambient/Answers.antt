@@ -3,10 +3,10 @@ use Rattle.query.proofs.Cases.{grants, refuses, sets}
 use Rattle.query.specs.Queries.{ambient_set}
 use Rattle.query.proofs.set_ambient.Goals as goal
 
-pub returns-then-is_accepted : goal.returns-then-is_accepted
+pub returns-in-Ok : goal.returns-in-Ok
 unfolding ambient_set
-returns-then-is_accepted c = grants _ _ c.check_state-refusal.ensures _ _ _ _ c.is_accepted.ensures c.if-is_accepted.true (sets c.args.state _ _ _ c.with_ambient-config.ensures c.set_config-state.ensures)
+returns-in-Ok c = grants _ _ _ _ c.in-Ok.ensures (sets c.args.state _ _ _ c.with_ambient-config.ensures c.set_config.ensures)
 
-pub returns : goal.returns
+pub returns-in-Err : goal.returns-in-Err
 unfolding ambient_set
-returns c = refuses _ _ c.check_state-refusal.ensures _ _ _ c.is_accepted.ensures c.if-is_accepted.false
+returns-in-Err c = refuses _ _ _ _ c.in-Err.ensures

@@ -1,8 +1,9 @@
 -- `query_state::config` meets its contract.
-use Rattle.query.proofs.Cases.{hands}
+use mathlib.Core.Path.{refl}
+use Rattle.query.proofs.Cases.{asks}
 use Rattle.query.specs.Queries.{config_asked}
 use Rattle.query_state.proofs.config.Goals as goal
 
 pub returns : goal.returns
 unfolding config_asked
-returns c = hands _ _ c.check_state-refusal.ensures _
+returns c = asks _ _ _ _ _ _ c.check_state.ensures refl c.and.ensures

@@ -5,10 +5,10 @@ use Rattle.numbers.specs.Choice.{bit_of}
 use Rattle.ram.specs.Plane.{bit_at}
 use Rattle.ram.proofs.bit.Goals as goal
 
-pub returns-in-Is : goal.returns-in-Is
+pub returns : goal.returns
 unfolding bit_at bit_of
-returns-in-Is c = rw (← (sym c.in-Is.is ∙ c.read.ensures), and_mask _ 1)
+returns c = rw (← (sym c.in_ok-byte.was ∙ c.read.ensures), and_mask _ 1)
 
-pub returns-in-Nothing : goal.returns-in-Nothing
+pub returns-in_err-byte : goal.returns-in_err-byte
 unfolding bit_at
-returns-in-Nothing c = rw (← (sym c.in-Nothing.is ∙ c.read.ensures))
+returns-in_err-byte c = rw (c.from_residual.ensures, ← (sym c.in_err-byte.was ∙ c.read.ensures))

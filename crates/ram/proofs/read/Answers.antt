@@ -6,12 +6,12 @@ use Rattle.ram.proofs.read.Goals as goal
 
 pub returns-then-i-plane : goal.returns-then-i-plane
 unfolding read_at
-returns-then-i-plane c = rw (← (sym c.in-At.is ∙ c.index.ensures), lt-ltb _ _ c.if-i-plane.true)
+returns-then-i-plane c = rw (← (sym c.in_ok-i.was ∙ c.index.ensures), lt-ltb _ _ c.if-i-plane.true)
 
-pub returns-else-i-plane : goal.returns-else-i-plane
+pub returns : goal.returns
 unfolding read_at
-returns-else-i-plane c = rw (← (sym c.in-At.is ∙ c.index.ensures), le-ltb _ _ c.if-i-plane.false)
+returns c = rw (← (sym c.in_ok-i.was ∙ c.index.ensures), le-ltb _ _ c.if-i-plane.false)
 
-pub returns-in-Outside : goal.returns-in-Outside
+pub returns-in_err-i : goal.returns-in_err-i
 unfolding read_at
-returns-in-Outside c = rw (← (sym c.in-Outside.is ∙ c.index.ensures))
+returns-in_err-i c = rw (c.from_residual.ensures, ← (sym c.in_err-i.was ∙ c.index.ensures))

@@ -8,14 +8,14 @@ use Rattle.ram.proofs.write.Goals as goal
 pub returns-then-i-plane : goal.returns-then-i-plane
 unfolding wrote_at written_at
 returns-then-i-plane c =
-    let place = sym c.in-At.is ∙ c.index.ensures in record { value = rw (← place, lt-ltb _ _ c.if-i-plane.true); plane_after = rw (← place) }
+    let place = sym c.in-Some.is ∙ c.index.ensures in record { value = rw (← place, lt-ltb _ _ c.if-i-plane.true); plane_after = rw (← place) }
 
 pub returns-else-i-plane : goal.returns-else-i-plane
 unfolding wrote_at written_at
 returns-else-i-plane c =
-    let place = sym c.in-At.is ∙ c.index.ensures in record { value = rw (← place, le-ltb _ _ c.if-i-plane.false); plane_after = rw (← place) (sym (set_out _ _ _ c.if-i-plane.false)) }
+    let place = sym c.in-Some.is ∙ c.index.ensures in record { value = rw (← place, le-ltb _ _ c.if-i-plane.false); plane_after = rw (← place) (sym (set_out _ _ _ c.if-i-plane.false)) }
 
-pub returns-in-Outside : goal.returns-in-Outside
+pub returns-in-None : goal.returns-in-None
 unfolding wrote_at written_at
-returns-in-Outside c =
-    let place = sym c.in-Outside.is ∙ c.index.ensures in record { value = rw (← place); plane_after = rw (← place) }
+returns-in-None c =
+    let place = sym c.in-None.is ∙ c.index.ensures in record { value = rw (← place); plane_after = rw (← place) }

@@ -1,9 +1,9 @@
 -- `read_register::status_byte`: each flag in a bit of its own.
+use Rattle.std.specs.Prelude.{Some}
 use mathlib.Core.Path.{◌≡◌, ap}
 use mathlib.Core.List.{[], ◌∷◌}
 use native.Mathlib.Omega.{arith}
 use Rattle.read_register.proofs.Bytes.{past, joined}
-use Rattle.ram.specs.declared.Byte.TheVariants.{Is}
 use Rattle.registers.specs.Read.{status_byte}
 use Rattle.read_register.proofs.status_byte.Goals as goal
 
@@ -11,7 +11,7 @@ pub returns-then-index-eq0 : goal.returns-then-index-eq0
 returns-then-index-eq0 c =
     let first : c.args.index ≡ 0 = c.if-index-eq0.true in
     rw first
-    (ap Is
+    (ap Some
     (rw (c.flag-hv_not_ready.ensures, c.flag-vci_low.ensures, c.flag-operating.ensures)
     (joined c.args.status.hv_not_ready c.args.status.vci_low c.args.busy)))
 

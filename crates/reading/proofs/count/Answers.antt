@@ -2,4 +2,4 @@
 use Rattle.reading.proofs.count.Goals as goal
 
 pub returns : goal.returns
-returns c = rw c.saturating_add_u16-read.ensures
+returns c = rw c.saturating_add-read.ensures

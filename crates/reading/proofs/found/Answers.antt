@@ -3,8 +3,8 @@ use Rattle.reading.proofs.Cases.{finds, finds_none}
 use Rattle.world.specs.World.{with_log}
 use Rattle.reading.proofs.found.Goals as goal
 
-pub returns-in-Is : goal.returns-in-Is
-returns-in-Is c = finds c.args.active (with_log c.args.state c.args.log.now) _ _ _ _ c.in-Is.is c.step-moved.ensures c.go_on-state.ensures
+pub returns-in-Some : goal.returns-in-Some
+returns-in-Some c = finds c.args.active (with_log c.args.state c.args.log.now) _ _ _ _ c.in-Some.is c.step-moved.ensures c.go_on-state.ensures
 
-pub returns-in-Nothing : goal.returns-in-Nothing
-returns-in-Nothing c = finds_none c.args.active (with_log c.args.state c.args.log.now) _ _ _ _ c.in-Nothing.is c.report_range-noted.ensures c.step-moved-in-Nothing.ensures c.go_on-state-in-Nothing.ensures
+pub returns-in-None : goal.returns-in-None
+returns-in-None c = finds_none c.args.active (with_log c.args.state c.args.log.now) _ _ _ _ c.in-None.is c.report_range-noted.ensures c.step-moved-in-None.ensures c.go_on-state-in-None.ensures

@@ -22,7 +22,7 @@ pub min_u64-end-requires : goal.min_u64-end-requires
 min_u64-end-requires c = tt
 
 pub loop-i-init : goal.loop-i-init
-loop-i-init c = (refl, omega arith, omega arith)
+loop-i-init c = (refl, omega arith)
 
 pub bounds-text-i : goal.bounds-text-i
 bounds-text-i c = omega (arith, c.min_u64-end.ensures)
@@ -44,12 +44,6 @@ returns-then-byte-written c =
 pub line_after-line-requires : goal.line_after-line-requires
 line_after-line-requires c = omega (arith, c.min_u64-end.ensures)
 
-pub overflow_add-i : goal.overflow_add-i
-overflow_add-i c = omega arith
-
-pub loop-i-smaller : goal.loop-i-smaller
-loop-i-smaller c = omega arith
-
 pub loop-i-preserved : goal.loop-i-preserved
 loop-i-preserved c =
     let same = c in
@@ -62,7 +56,6 @@ loop-i-preserved c =
           ∙ goes_on s.text.now s.written.now l.loop-i.line l.loop-i.i (omega (arith, m.min_u64-end.ensures, long)) (omega (arith, m.min_u64-end.ensures, long)) same.if-byte-written.false
           ∙ ap (λ (n : ℕ). from s.text.now s.written.now n (l.loop-i.i + 1)) (sym c.line_after-line.ensures),
       omega (arith, c.line_after-line.ensures, after_most l.loop-i.line byte),
-      omega arith,
     )
 
 pub returns-then-text-eq-TEXT_BYTES : goal.returns-then-text-eq-TEXT_BYTES

@@ -1,11 +1,8 @@
 use mathlib.Core.Path.{◌≡◌}
-use Prim.Native.Nat.{◌+◌, ◌-◌, ◌≤◌}
+use Prim.Native.Nat.{◌+◌, ◌≤◌}
 use Rattle.sheet_text.specs.Reading.{differs_in}
 use Rattle.sheet_text.proofs.Differ.{from}
 use Rattle.sheet_text.proofs.differing_line.Given as goal
 
 abbrev pub invariant-loop-i : goal.invariant-loop-i
-invariant-loop-i l = (differs_in 1 l.text l.written ≡ from l.text l.written l.line l.i) × (l.line ≤ l.i + 1) × (l.i ≤ l.end)
-
-abbrev pub decreases-loop-i : goal.decreases-loop-i
-decreases-loop-i l = l.end - l.i
+invariant-loop-i l = (differs_in 1 l.text l.written ≡ from l.text l.written l.line l.i) × (l.line ≤ l.i + 1)

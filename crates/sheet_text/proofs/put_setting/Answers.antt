@@ -7,9 +7,9 @@ use lib.ListN.{replicate}
 use Rattle.config.specs.Answer.{accepted}
 use Rattle.column.specs.Columns.{buffer, appended}
 use Rattle.drive_sheet.specs.declared.Sheet.{Sheet}
-use Rattle.drive_sheet.specs.declared.Written.{Written}
-use Rattle.drive_sheet.specs.declared.Written.TheVariants.{Whole, Length, NoCode, Repeats, Code}
-use Rattle.drive_sheet.specs.Tests.{setting_length, told_of, number_in, Reply, reply, written_of}
+use Rattle.drive_sheet.specs.declared.SheetError.{SheetError}
+use Rattle.drive_sheet.specs.declared.SheetError.TheVariants.{Length, NoCode, Repeats, Code}
+use Rattle.drive_sheet.specs.Tests.{setting_length, sheet_refusal, told_of, number_in, Reply, reply, written_of}
 use Rattle.sheet_text.specs.Answer.{number_text, reply_text, setting_text}
 use borrow.Author.Rules.{rules}
 use Rattle.sheet_text.proofs.put_setting.Goals as goal
@@ -17,53 +17,38 @@ use Rattle.sheet_text.proofs.put_setting.Goals as goal
 abbrev lent : List ℕ
 lent = replicate setting_length 0
 
--- no refusal has number 0
-none_refused : (w : Written) → number_in (told_of w) ≡ 0 → told_of w ≡ accepted
-unfolding told_of
-none_refused Whole e = refl
-none_refused Length e = absurd (omega arith)
-none_refused NoCode e = absurd (omega arith)
-none_refused Repeats e = absurd (omega arith)
-none_refused Code e = absurd (omega arith)
-
-told_number : (h : Sheet) (w : Written) → (number_in (told_of w) ≡ 0 → ⊥) → number_text (number_in (told_of w)) ≡ reply_text h (told_of w)
-unfolding told_of
-told_number h Whole n = absurd (n refl)
-told_number h Length n = refl
-told_number h NoCode n = refl
-told_number h Repeats n = refl
-told_number h Code n = refl
-
-module _ (h : Sheet) (w : Written) (bytes : List ℕ) (e : reply (told_of w) bytes ≡ written_of h lent) where
+module _ (h : Sheet) (bytes : List ℕ) where
   -- accepted, the bytes are the sheet's
-  is-setting : number_in (told_of w) ≡ 0 → bytes ≡ setting_text h
+  is-setting : reply accepted bytes ≡ written_of h lent → bytes ≡ setting_text h
   unfolding written_of setting_text
-  is-setting n =
-      let told : (written_of h lent).answer ≡ accepted = sym (ap (λ (r : Reply). r.answer) e) ∙ none_refused w n in
+  is-setting e =
+      let told : (written_of h lent).answer ≡ accepted = sym (ap (λ (r : Reply). r.answer) e) in
       ap (λ (r : Reply). r.bytes) e ∙ rw told refl
 
-  is_number : (number_in (told_of w) ≡ 0 → ⊥) → number_text (number_in (told_of w)) ≡ setting_text h
+  told_number : (error : SheetError) → number_text (number_in (sheet_refusal error)) ≡ reply_text h (sheet_refusal error)
+  unfolding sheet_refusal
+  told_number Length = refl
+  told_number NoCode = refl
+  told_number Repeats = refl
+  told_number Code = refl
+
+  is_number : (error : SheetError) → reply (sheet_refusal error) bytes ≡ written_of h lent → number_text (number_in (sheet_refusal error)) ≡ setting_text h
   unfolding setting_text
-  is_number n = told_number h w n ∙ ap (λ (r : Reply). reply_text h r.answer) e
+  is_number error e = told_number error ∙ ap (λ (r : Reply). reply_text h r.answer) e
 
-pub returns-then-number-eq0 : goal.returns-then-number-eq0
-returns-then-number-eq0 c =
-    let put = c in
-    let test = put in
-    let number = test in
-    let write = number in
-    let s = write in
-    let d = s.args.out.now in
-    let setting = is-setting s.args.sheet write.write-written.result write.write-written.new.out write.write-written.ensures.bytes (sym number.number-number.ensures ∙ test.if-number-eq0.true) in record { text = put.put_text.ensures.text ∙ ap (λ (t : List ℕ). appended (buffer 0 d) t) setting; end = search rules }
+pub returns-in-Ok : goal.returns-in-Ok
+unfolding told_of
+returns-in-Ok c =
+    let d = c.args.out.now in
+    let setting = is-setting c.args.sheet c.write.new.out c.in-Ok.ensures.bytes in
+    record { text = c.put_text.ensures.text ∙ ap (λ (t : List ℕ). appended (buffer 0 d) t) setting; end = search rules }
 
-pub returns : goal.returns
-returns c =
-    let put = c in
-    let wide = put in
-    let test = wide in
-    let number = test in
-    let write = number in
-    let s = write in
-    let d = s.args.out.now in
-    let e = number.number-number.ensures in
-    let text = is_number s.args.sheet write.write-written.result write.write-written.new.out write.write-written.ensures.bytes (λ z. test.if-number-eq0.false (e ∙ z)) in record { text = put.put_number.ensures.text ∙ ap (λ (n : ℕ). appended (buffer 0 d) (number_text n)) (wide.wide.ensures ∙ e) ∙ ap (λ (t : List ℕ). appended (buffer 0 d) t) text; end = omega (arith, put.put_number.ensures.end) }
+pub returns-in-Err : goal.returns-in-Err
+unfolding told_of
+returns-in-Err c =
+    let d = c.args.out.now in
+    let text = is_number c.args.sheet c.write.new.out c.in-Err.error c.in-Err.ensures.bytes in
+    record {
+      text = c.put_number.ensures.text ∙ ap (λ (n : ℕ). appended (buffer 0 d) (number_text n)) (c.wide.ensures ∙ c.number.ensures) ∙ ap (λ (t : List ℕ). appended (buffer 0 d) t) text;
+      end = omega (arith, c.put_number.ensures.end);
+    }

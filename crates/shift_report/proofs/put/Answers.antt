@@ -1,42 +1,30 @@
 -- `shift_report::put` meets its contract.
+use Rattle.std.specs.Prelude.{Result}
 use mathlib.Core.Path.{◌≡◌, ap, ◌∙◌}
 use mathlib.Core.List.{List}
 use Prim.Native.Nat.{ℕ}
 use Rattle.column.specs.Columns.{Buffer, buffer, appended}
-use Rattle.voltage_shift.specs.declared.Bounded.{Bounded}
+use Rattle.voltage_shift.specs.declared.ShiftError.{ShiftError}
+use Rattle.voltage_shift.specs.declared.Shifts.{Shifts}
 use Rattle.voltage_shift.specs.Bounds.{shift_answer}
 use Rattle.shift_report.specs.Report.{number_line, shift_text}
 use Rattle.shift_report.proofs.put.Goals as goal
 
 -- the text of an answer
-said : (o : Bounded) (d text : List ℕ) {b : Buffer} → b ≡ appended (buffer 0 d) text → text ≡ shift_text (shift_answer o) → b ≡ appended (buffer 0 d) (shift_text (shift_answer o))
+said : (o : Result Shifts ShiftError) (d text : List ℕ) {b : Buffer} → b ≡ appended (buffer 0 d) text → text ≡ shift_text (shift_answer o) → b ≡ appended (buffer 0 d) (shift_text (shift_answer o))
 said o d text e f = e ∙ ap (appended (buffer 0 d)) f
 
-pub returns-in-Within : goal.returns-in-Within
+pub returns-in-Ok : goal.returns-in-Ok
 unfolding shift_text shift_answer
-returns-in-Within c =
-    let l = c in
-    let b = l in
-    let s = b in record { text = said s.args.bounded s.args.out.now _ l.put_lines.ensures.text (rw b.in-Within.is); end = l.put_lines.ensures.end }
+returns-in-Ok c =
+    let s = c.args in
+    record { text = said s.bounded s.out.now _ c.put_lines.ensures.text (rw c.in-Ok.is); end = c.put_lines.ensures.end }
 
-pub returns-in-Refused : goal.returns-in-Refused
+pub returns-in-Err : goal.returns-in-Err
 unfolding shift_text shift_answer
-returns-in-Refused c =
-    let l = c in
-    let n = l in
-    let b = n in
-    let s = b in record { text = said s.args.bounded s.args.out.now _ l.put_number.ensures.text (ap number_line n.number_of.ensures ∙ rw b.in-Refused.is); end = l.put_number.ensures.end }
-
-pub returns-in-NotASetting : goal.returns-in-NotASetting
-unfolding shift_text shift_answer
-returns-in-NotASetting c =
-    let l = c in
-    let e = l in
-    let s = e in record { text = said s.args.bounded s.args.out.now _ l.put_number-in-NotASetting.ensures.text (rw e.in-NotASetting.is); end = l.put_number-in-NotASetting.ensures.end }
-
-pub returns-in-UnlistedCode : goal.returns-in-UnlistedCode
-unfolding shift_text shift_answer
-returns-in-UnlistedCode c =
-    let l = c in
-    let e = l in
-    let s = e in record { text = said s.args.bounded s.args.out.now _ l.put_number-in-UnlistedCode.ensures.text (rw e.in-UnlistedCode.is); end = l.put_number-in-UnlistedCode.ensures.end }
+returns-in-Err c =
+    let s = c.args in
+    record {
+      text = said s.bounded s.out.now _ c.put_number.ensures.text (ap number_line c.number_of.ensures ∙ rw c.in-Err.is);
+      end = c.put_number.ensures.end;
+    }

@@ -1,5 +1,6 @@
 -- `traffic::feed` meets its contract: after some turns, the events that are left give from what is there what all of them give from the start.
 use mathlib.Core.Path.{◌≡◌, sym, ap, ◌∙◌}
+use mathlib.Core.Bool.{not}
 use Prim.Native.Nat.{ℕ, ◌-◌, min}
 use native.Mathlib.Omega.{arith}
 use lib.ListN.{length}
@@ -14,64 +15,64 @@ pub loop-i-init : goal.loop-i-init
 loop-i-init c =
     let step = made c.args.otp.now (event_at c.args.kinds.now c.args.times.now c.args.values.now) in
     let given = world c.args.state c.args.states.now c.args.luts.now (picture c.args.pixels.now c.args.counts.now) c.args.black_white.now c.args.red.now c.args.gates.now c.args.log.now in
-    let n = c.shorter-count.result in
+    let n = c.min-count.result in
     let all : n - 0 ≡ n = omega arith in
     (ap (λ (k : ℕ). feeding step k 0 given) all, search rules)
 
 pub turn-fed-requires : goal.turn-fed-requires
 turn-fed-requires c =
-    let one = c.shorter-count.ensures in
-    let two = c.shorter.ensures in
+    let one = c.min-count.ensures in
+    let two = c.min.ensures in
     (c.loop-i-test.true, omega (arith, one, two), omega (arith, one, two), omega (arith, one, two))
 
-pub shape_of-states-then-not-is_accepted : goal.shape_of-states-then-not-is_accepted
-shape_of-states-then-not-is_accepted c = c.turn-fed.auto.states ∙ c.loop-i.invariant.1.0
+pub shape_of-states-then-is_err : goal.shape_of-states-then-is_err
+shape_of-states-then-is_err c = c.turn-fed.auto.states ∙ c.loop-i.invariant.1.0
 
-pub shape_of-luts-then-not-is_accepted : goal.shape_of-luts-then-not-is_accepted
-shape_of-luts-then-not-is_accepted c = c.turn-fed.auto.luts ∙ c.loop-i.invariant.1.1
+pub shape_of-luts-then-is_err : goal.shape_of-luts-then-is_err
+shape_of-luts-then-is_err c = c.turn-fed.auto.luts ∙ c.loop-i.invariant.1.1
 
-pub shape_of-pixels-then-not-is_accepted : goal.shape_of-pixels-then-not-is_accepted
-shape_of-pixels-then-not-is_accepted c = c.turn-fed.auto.pixels ∙ c.loop-i.invariant.1.2
+pub shape_of-pixels-then-is_err : goal.shape_of-pixels-then-is_err
+shape_of-pixels-then-is_err c = c.turn-fed.auto.pixels ∙ c.loop-i.invariant.1.2
 
-pub shape_of-counts-then-not-is_accepted : goal.shape_of-counts-then-not-is_accepted
-shape_of-counts-then-not-is_accepted c = c.turn-fed.auto.counts ∙ c.loop-i.invariant.1.3
+pub shape_of-counts-then-is_err : goal.shape_of-counts-then-is_err
+shape_of-counts-then-is_err c = c.turn-fed.auto.counts ∙ c.loop-i.invariant.1.3
 
-pub shape_of-black_white-then-not-is_accepted : goal.shape_of-black_white-then-not-is_accepted
-shape_of-black_white-then-not-is_accepted c = c.turn-fed.auto.black_white ∙ c.loop-i.invariant.1.4
+pub shape_of-black_white-then-is_err : goal.shape_of-black_white-then-is_err
+shape_of-black_white-then-is_err c = c.turn-fed.auto.black_white ∙ c.loop-i.invariant.1.4
 
-pub shape_of-red-then-not-is_accepted : goal.shape_of-red-then-not-is_accepted
-shape_of-red-then-not-is_accepted c = c.turn-fed.auto.red ∙ c.loop-i.invariant.1.5
+pub shape_of-red-then-is_err : goal.shape_of-red-then-is_err
+shape_of-red-then-is_err c = c.turn-fed.auto.red ∙ c.loop-i.invariant.1.5
 
-pub shape_of-log-then-not-is_accepted : goal.shape_of-log-then-not-is_accepted
-shape_of-log-then-not-is_accepted c = c.turn-fed.auto.log ∙ c.loop-i.invariant.1.6
+pub shape_of-log-then-is_err : goal.shape_of-log-then-is_err
+shape_of-log-then-is_err c = c.turn-fed.auto.log ∙ c.loop-i.invariant.1.6
 
-pub returns-then-not-is_accepted : goal.returns-then-not-is_accepted
-returns-then-not-is_accepted c =
+pub returns-then-is_err : goal.returns-then-is_err
+returns-then-is_err c =
     let step = made c.args.otp.now (event_at c.args.kinds.now c.args.times.now c.args.values.now) in
     let given = world c.args.state c.args.states.now c.args.luts.now (picture c.args.pixels.now c.args.counts.now) c.args.black_white.now c.args.red.now c.args.gates.now c.args.log.now in
     let s = c in
-    let n = c.shorter-count.result in
+    let n = c.min-count.result in
     let t = c.turn-fed in
     let f = t.result in
-    sym (ended_there step n f.refusal f.made _ (sym c.is_accepted.ensures ∙ c.if-not-is_accepted.true))
+    sym (ended_there step n f.answer f.made _ (c.is_err.ensures.negation ∙ ap not c.if-is_err.true))
     ∙ t.ensures.log_after
     ∙ c.loop-i.invariant.0
-    ∙ ap (λ (k : ℕ). feeding step k 0 given) (c.shorter-count.ensures ∙ ap (min (length s.args.kinds.now)) c.shorter.ensures)
+    ∙ ap (λ (k : ℕ). feeding step k 0 given) (c.min-count.ensures ∙ ap (min (length s.args.kinds.now)) c.min.ensures)
 
 pub loop-i-smaller : goal.loop-i-smaller
 loop-i-smaller c =
-    let h = c.turn-fed.ensures.from_lt_made (sym c.is_accepted.ensures ∙ c.if-not-is_accepted.false) in
+    let h = c.turn-fed.ensures.from_lt_made (c.is_err.ensures.negation ∙ ap not c.if-is_err.false) in
     omega (arith, h, c.loop-i-test.true)
 
 pub loop-i-preserved : goal.loop-i-preserved
 loop-i-preserved c =
     let step = made c.args.otp.now (event_at c.args.kinds.now c.args.times.now c.args.values.now) in
     let s = c in
-    let n = c.shorter-count.result in
+    let n = c.min-count.result in
     let t = c.turn-fed in
     let f = t.result in
-    let a = sym c.is_accepted.ensures ∙ c.if-not-is_accepted.false in (
-      sym (ended_on step n f.refusal f.made _ a) ∙ t.ensures.log_after ∙ c.loop-i.invariant.0,
+    let a = c.is_err.ensures.negation ∙ ap not c.if-is_err.false in (
+      sym (ended_on step n f.answer f.made _ a) ∙ t.ensures.log_after ∙ c.loop-i.invariant.0,
       (
         t.auto.states ∙ c.loop-i.invariant.1.0,
         t.auto.luts ∙ c.loop-i.invariant.1.1,
@@ -111,7 +112,7 @@ returns c =
     let given = world c.args.state c.args.states.now c.args.luts.now (picture c.args.pixels.now c.args.counts.now) c.args.black_white.now c.args.red.now c.args.gates.now c.args.log.now in
     let s = c in
     let w = world c.loop-i.next c.loop-i.states c.loop-i.luts (picture c.loop-i.pixels c.loop-i.counts) c.loop-i.black_white c.loop-i.red s.args.gates.now c.loop-i.log in
-    let n = c.shorter-count.result in
+    let n = c.min-count.result in
     let none : n - c.loop-i.i ≡ 0 = omega (arith, c.loop-i-test.false) in
     fed_all step n c.loop-i.i (feeding step n 0 given) w none c.loop-i.invariant.0
-    ∙ ap (λ (k : ℕ). feeding step k 0 given) (c.shorter-count.ensures ∙ ap (min (length s.args.kinds.now)) c.shorter.ensures)
+    ∙ ap (λ (k : ℕ). feeding step k 0 given) (c.min-count.ensures ∙ ap (min (length s.args.kinds.now)) c.min.ensures)

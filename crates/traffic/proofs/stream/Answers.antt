@@ -4,20 +4,23 @@ use native.Mathlib.Omega.{arith}
 use Rattle.traffic.proofs.Burst.{burst_made, stays}
 use Rattle.traffic.proofs.stream.Goals as goal
 
-pub returns-then-is_accepted : goal.returns-then-is_accepted
-returns-then-is_accepted c =
+pub returns-then-is_ok : goal.returns-then-is_ok
+returns-then-is_ok c =
     let s = c.args in
     let h : s.from ≤ s.count = omega (arith, c.requires.0) in
-    let g = burst_made s.kinds.now s.times.now s.values.now s.count s.from h s.state s.black_white.now s.red.now s.lengths _ _ _ c.check-refusal.ensures c.is_accepted.ensures c.if-is_accepted.true c.write_burst.ensures in record { from_le_made = (g.from_here, g.to_count); ends_alike = g.alike }
+    let g = burst_made s.kinds.now s.times.now s.values.now s.count s.from h s.state s.black_white.now s.red.now s.lengths _ _ _ c.check.ensures c.is_ok.ensures.value c.if-is_ok.true c.write_burst.ensures in
+    record { from_le_made = (g.from_here, g.to_count); ends_alike = g.alike }
 
-pub returns-then-kinds-from-eq-DATA : goal.returns-then-kinds-from-eq-DATA
-returns-then-kinds-from-eq-DATA c =
+pub returns-else-is_ok : goal.returns-else-is_ok
+returns-else-is_ok c =
     let s = c.args in
     let h : s.from ≤ s.count = omega (arith, c.requires.0) in
-    let g = stays s.kinds.now s.times.now s.values.now s.count s.from h s.state s.black_white.now s.red.now s.lengths in record { from_le_made = (g.from_here, g.to_count); ends_alike = g.alike }
+    let g = stays s.kinds.now s.times.now s.values.now s.count s.from h s.state s.black_white.now s.red.now s.lengths in
+    record { from_le_made = (g.from_here, g.to_count); ends_alike = g.alike }
 
-pub returns : goal.returns
-returns c =
+pub returns-else-kinds-from-eq-DATA : goal.returns-else-kinds-from-eq-DATA
+returns-else-kinds-from-eq-DATA c =
     let s = c.args in
     let h : s.from ≤ s.count = omega (arith, c.requires.0) in
-    let g = stays s.kinds.now s.times.now s.values.now s.count s.from h s.state s.black_white.now s.red.now s.lengths in record { from_le_made = (g.from_here, g.to_count); ends_alike = g.alike }
+    let g = stays s.kinds.now s.times.now s.values.now s.count s.from h s.state s.black_white.now s.red.now s.lengths in
+    record { from_le_made = (g.from_here, g.to_count); ends_alike = g.alike }

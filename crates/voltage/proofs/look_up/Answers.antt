@@ -1,4 +1,5 @@
 -- `voltage::look_up` meets its contract: the sheet follows the rule, by one test of each figure, which antt computes.
+use Rattle.std.specs.Prelude.{ℤ, Option, Some, None}
 use borrow.Author.Rules.{rules}
 use mathlib.Core.Path.{◌≡◌, refl, ap}
 use mathlib.Core.Bool.{Bool, true, false}
@@ -9,28 +10,26 @@ use lib.IntN.{pos, negsuc}
 use lib.ListN.{get_or}
 use Rattle.numbers.specs.Lists.{tab}
 use Rattle.numbers.proofs.Every.{at}
-use Rattle.voltage.specs.declared.Millivolts.{Millivolts}
-use Rattle.voltage.specs.declared.Millivolts.TheVariants.{Listed, Unlisted}
 use Rattle.voltage.specs.Codes.{voltage, source_voltage}
 use Rattle.voltage.specs.Sheet.{figure}
 use Rattle.voltage.proofs.look_up.Goals as goal
 
-same : Millivolts → Millivolts → Bool
-same (Listed (pos m)) (Listed (pos n)) = eqb m n
-same (Listed (pos m)) (Listed (negsuc n)) = false
-same (Listed (negsuc m)) (Listed z) = false
-same (Listed y) Unlisted = false
-same Unlisted (Listed z) = false
-same Unlisted Unlisted = true
+same : Option ℤ → Option ℤ → Bool
+same (Some (pos m)) (Some (pos n)) = eqb m n
+same (Some (pos m)) (Some (negsuc n)) = false
+same (Some (negsuc m)) (Some z) = false
+same (Some y) None = false
+same None (Some z) = false
+same None None = true
 
-is_same : (u v : Millivolts) → T (same u v) → u ≡ v
+is_same : (u v : Option ℤ) → T (same u v) → u ≡ v
 unfolding same
-is_same (Listed (pos m)) (Listed (pos n)) t = ap (λ (k : ℕ). Listed (pos k)) (eqb→eq m n t)
-is_same (Listed (pos m)) (Listed (negsuc n)) t = absurd t
-is_same (Listed (negsuc m)) (Listed z) t = absurd t
-is_same (Listed y) Unlisted t = absurd t
-is_same Unlisted (Listed z) t = absurd t
-is_same Unlisted Unlisted t = refl
+is_same (Some (pos m)) (Some (pos n)) t = ap (λ (k : ℕ). Some (pos k)) (eqb→eq m n t)
+is_same (Some (pos m)) (Some (negsuc n)) t = absurd t
+is_same (Some (negsuc m)) (Some z) t = absurd t
+is_same (Some y) None t = absurd t
+is_same None (Some z) t = absurd t
+is_same None None t = refl
 
 -- the sheet run by run: 00h on no code is listed, 23h on by 200 from 9,000, 4Ch on none, 8Eh on by 100 from 2,400, CFh on none
 sheet : List ℕ

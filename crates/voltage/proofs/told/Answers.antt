@@ -1,4 +1,5 @@
 -- `voltage::told` meets its contract: the mark is told as unlisted, every other figure as its millivolts.
+use Rattle.std.specs.Prelude.{Some, None}
 use borrow.Author.Rules.{rules}
 use borrow.Author.Tests.{eq-eqb, ne_eqb}
 use mathlib.Core.Path.{refl, ap}
@@ -9,16 +10,15 @@ use mir.Syntax.{w64}
 use mir.Val.{to_z}
 use Rattle.numbers.proofs.Cases.{took, passed}
 use Rattle.numbers.proofs.Lin.{back}
-use Rattle.voltage.specs.declared.Millivolts.TheVariants.{Listed, Unlisted}
 use Rattle.voltage.proofs.told.Goals as goal
 
 pub returns-then-found-ne-UNLISTED : goal.returns-then-found-ne-UNLISTED
 returns-then-found-ne-UNLISTED c =
     let found = c.args.found in
-    passed (eqb found 65535) Unlisted (Listed (pos found)) (Listed (to_z w64 found)) (ne_eqb found 65535 (search rules))
-    (ap Listed (back {w = w64} {z = pos found} (record { sfits = omega arith })))
+    passed (eqb found 65535) None (Some (pos found)) (Some (to_z w64 found)) (ne_eqb found 65535 (search rules))
+    (ap Some (back {w = w64} {z = pos found} (record { sfits = omega arith })))
 
 pub returns : goal.returns
 returns c =
     let found = c.args.found in
-    took (eqb found 65535) Unlisted (Listed (pos found)) Unlisted (eq-eqb found 65535 (search rules)) refl
+    took (eqb found 65535) None (Some (pos found)) None (eq-eqb found 65535 (search rules)) refl

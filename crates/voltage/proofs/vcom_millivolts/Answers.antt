@@ -1,4 +1,5 @@
 -- `voltage::vcom_millivolts` meets its contract.
+use Rattle.std.specs.Prelude.{Some}
 use mathlib.Core.Path.{refl, ap, ◌∙◌}
 use mathlib.Core.List.{[], ◌∷◌}
 use Prim.Native.Nat.{ℕ, ◌+◌, ◌-◌, ◌*◌, ◌/◌}
@@ -7,7 +8,6 @@ use lib.IntN.{pos, neg_ℤ, +ℤ_idl}
 use mir.Syntax.{w64}
 use mir.Val.{SFits}
 use Rattle.numbers.proofs.Lin.{whole, rd, ranged, back, sub_out, fits_is}
-use Rattle.voltage.specs.declared.Millivolts.TheVariants.{Listed}
 use Rattle.voltage.specs.Codes.{voltage, below, vcom_zero, vcom_line}
 use Rattle.voltage.proofs.Lines.{first_line, next_line}
 use Rattle.voltage.proofs.vcom_millivolts.Goals.{In-8-to-160}
@@ -35,7 +35,7 @@ returns-in-0 c = rw c.in-0.is
 pub returns-in-8-to-160 : goal.returns-in-8-to-160
 returns-in-8-to-160 c =
     let code = c.args.code in
-    ap Listed (back (overflow_sub-result-in-8-to-160 c) ∙ +ℤ_idl _ ∙ ap neg_ℤ (back (fits c)))
+    ap Some (back (overflow_sub-result-in-8-to-160 c) ∙ +ℤ_idl _ ∙ ap neg_ℤ (back (fits c)))
     ∙ next_line below vcom_zero (vcom_line ∷ []) code (λ h. omega arith)
     (first_line below vcom_line [] code (record { from = omega arith; to = omega arith; whole = omega arith }))
 

@@ -1,4 +1,5 @@
 -- `voltage::vsl_millivolts` meets its contract.
+use Rattle.std.specs.Prelude.{Some}
 use mathlib.Core.Path.{refl, ap, ◌∙◌}
 use mathlib.Core.List.{[]}
 use Prim.Native.Nat.{ℕ, ◌+◌, ◌-◌, ◌*◌, ◌/◌}
@@ -7,7 +8,6 @@ use lib.IntN.{pos, neg_ℤ, +ℤ_idl}
 use mir.Syntax.{w64}
 use mir.Val.{SFits}
 use Rattle.numbers.proofs.Lin.{whole, rd, ranged, back, sub_out, fits_is}
-use Rattle.voltage.specs.declared.Millivolts.TheVariants.{Listed}
 use Rattle.voltage.specs.Codes.{voltage, below, vsl_line}
 use Rattle.voltage.proofs.Lines.{first_line, next_line}
 use Rattle.voltage.proofs.vsl_millivolts.Goals.{In-26-to-58}
@@ -31,7 +31,7 @@ overflow_sub-result-in-26-to-58 c = fits_is (omega (whole, ranged (fits c), sub_
 pub returns-in-26-to-58 : goal.returns-in-26-to-58
 returns-in-26-to-58 c =
     let code = c.args.code in
-    ap Listed (back (overflow_sub-result-in-26-to-58 c) ∙ +ℤ_idl _ ∙ ap neg_ℤ (back (fits c)))
+    ap Some (back (overflow_sub-result-in-26-to-58 c) ∙ +ℤ_idl _ ∙ ap neg_ℤ (back (fits c)))
     ∙ first_line below vsl_line [] code (record { from = omega arith; to = omega arith; whole = omega arith })
 
 pub returns-in_default : goal.returns-in_default

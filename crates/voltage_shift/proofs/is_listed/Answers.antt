@@ -4,4 +4,4 @@ use Rattle.voltage.specs.Codes.{is_voltage}
 use Rattle.voltage_shift.proofs.is_listed.Goals as goal
 
 pub returns : goal.returns
-returns c = c.is_voltage.ensures ∙ ap is_voltage c.driving_millivolts.ensures.is
+returns c = c.is_some.ensures ∙ ap is_voltage c.driving_millivolts.ensures.is

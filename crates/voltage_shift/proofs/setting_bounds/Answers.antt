@@ -14,7 +14,7 @@ use Rattle.config.specs.Answer.{accepted, refused, first_of}
 use Rattle.voltage_shift.specs.declared.DrivingVoltage.{DrivingVoltage}
 use Rattle.voltage_shift.specs.declared.Shifts.{Shifts}
 use Rattle.voltage_shift.specs.Shift.{driving_millivolts}
-use Rattle.voltage_shift.specs.Bounds.{setting_tests, lut_shifts, ShiftAnswer, shifting, refusing, shifting_unless, shift_answer}
+use Rattle.voltage_shift.specs.Bounds.{setting_tests, lut_shifts, ShiftAnswer, shifting, refusing, shifting_unless, shift_refusal, shift_answer}
 use borrow.Author.Rules.{rules}
 use Rattle.voltage_shift.proofs.setting_bounds.Goals as goal
 
@@ -41,25 +41,21 @@ waveform_of-waveform-requires c = search (rules, eqb-true)
 pub lut_shifts-requires : goal.lut_shifts-requires
 lut_shifts-requires c = (omega (arith, c.swing_of-swing.ensures), omega (arith, c.swing_of-swing.ensures))
 
-pub returns-then-listed : goal.returns-then-listed
-unfolding shift_answer
-returns-then-listed c =
-    let w = c in
-    let l = w in
-    let a = l.args in
-    ap shifting (c.lut_shifts.ensures ∙ (λ i. lut_shifts (c.swing_of-swing.ensures i) (c.change-millivolts.ensures i) a.driving (w.waveform_of-waveform.ensures i).groups))
-    ∙ decided a.setting.now a.driving a.before a.after _ l.is_listed.ensures l.is_listed-2.ensures _ (simp (w.if-listed.true, w.if-whole.true))
+pub returns-then-not-whole : goal.returns-then-not-whole
+unfolding shift_answer shift_refusal
+returns-then-not-whole c =
+    let a = c.args in
+    decided a.setting.now a.driving a.before a.after _ c.is_listed.ensures c.is_listed-2.ensures _ (rw (ne_eqb (length a.setting.now) 112 c.if-not-whole.true))
 
-pub returns-then-whole : goal.returns-then-whole
-unfolding shift_answer
-returns-then-whole c =
-    let l = c in
-    let a = l.args in
-    decided a.setting.now a.driving a.before a.after _ l.is_listed.ensures l.is_listed-2.ensures _ (simp (c.if-listed.false, c.if-whole.true))
+pub returns-then-not-listed : goal.returns-then-not-listed
+unfolding shift_answer shift_refusal
+returns-then-not-listed c =
+    let a = c.args in
+    decided a.setting.now a.driving a.before a.after _ c.is_listed.ensures c.is_listed-2.ensures _ (simp (c.if-not-listed.true, c.if-not-whole.false))
 
 pub returns : goal.returns
 unfolding shift_answer
 returns c =
-    let l = c in
-    let a = l.args in
-    decided a.setting.now a.driving a.before a.after _ l.is_listed.ensures l.is_listed-2.ensures _ (rw (ne_eqb (length a.setting.now) 112 c.if-whole.false))
+    let a = c.args in
+    ap shifting (c.lut_shifts.ensures ∙ (λ i. lut_shifts (c.swing_of-swing.ensures i) (c.change-millivolts.ensures i) a.driving (c.waveform_of-waveform.ensures i).groups))
+    ∙ decided a.setting.now a.driving a.before a.after _ c.is_listed.ensures c.is_listed-2.ensures _ (simp (c.if-not-listed.false, c.if-not-whole.false))

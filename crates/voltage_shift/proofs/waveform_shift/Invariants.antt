@@ -1,6 +1,6 @@
 use mathlib.Core.Path.{◌≡◌}
 use mathlib.Core.List.{List}
-use Prim.Native.Nat.{ℕ, ◌-◌, ◌≤◌, min}
+use Prim.Native.Nat.{ℕ, min}
 use lib.ListN.{get_or}
 use Rattle.numbers.specs.Saturation.{largest}
 use Rattle.waveform.specs.declared.Group.{Group}
@@ -13,7 +13,4 @@ abbrev pub shiftIn : ℕ → DrivingVoltage → ℕ → List Group → ℕ → �
 shiftIn change v lut groups k = group_shift change v (get_or groups k no_group) lut
 
 abbrev pub invariant-loop-k : goal.invariant-loop-k
-invariant-loop-k l = (l.k ≤ 10) × (l.total ≡ min (sum l.k (shiftIn l.change l.driving l.lut l.waveform.groups)) (largest 64))
-
-abbrev pub decreases-loop-k : goal.decreases-loop-k
-decreases-loop-k l = 10 - l.k
+invariant-loop-k l = (l.total ≡ min (sum l.k (shiftIn l.change l.driving l.lut l.waveform.groups)) (largest 64))

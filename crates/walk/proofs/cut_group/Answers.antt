@@ -24,6 +24,6 @@ returns-then-end-lt18446744073709551615 c =
     let t = total_group s.driving.levels s.driving.drive s.group in
     let short = c.if-end-lt18446744073709551615.true in
     let ends = tested.if-end-until.true in
-    let e : added.saturating_add_u64-end.result ≡ s.progress.elapsed + total ps = omega (arith, added.saturating_add_u64-end.ensures, length.group_ns.ensures) in
+    let e : added.saturating_add-end.result ≡ s.progress.elapsed + total ps = omega (arith, added.saturating_add-end.ensures, length.group_ns.ensures) in
     (λ i. record { transfer = c.group_transfer-moved.ensures i; elapsed = e i; stopped = false })
     ∙ sym (within s.driving s.until s.progress ps going.if-progress.false (omega arith) (omega arith))

@@ -1,13 +1,9 @@
 use mathlib.Core.Path.{◌≡◌}
-use Prim.Native.Nat.{◌≤◌, ◌-◌}
 use mathlib.Core.List.{foldl}
 use lib.ListN.{get_or}
 use Rattle.waveform.specs.Phases.{no_group, joined}
 use Rattle.waveform.specs.Walks.{group_in, cut_step}
 use Rattle.walk.proofs.cut_groups.Given as goal
 
-abbrev pub invariant-loop-k : goal.invariant-loop-k
-invariant-loop-k l = (l.k ≤ 10) × (l.moved ≡ foldl (cut_step l.driving l.until) l.initial.moved (joined l.k (λ j. group_in l.driving (get_or l.waveform.groups j no_group))))
-
-abbrev pub decreases-loop-k : goal.decreases-loop-k
-decreases-loop-k l = 10 - l.k
+abbrev pub invariant-loop-group : goal.invariant-loop-group
+invariant-loop-group l = l.moved ≡ foldl (cut_step l.driving l.until) l.initial.moved (joined l.group-index (λ j. group_in l.driving (get_or l.group-items j no_group)))

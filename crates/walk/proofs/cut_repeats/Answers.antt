@@ -22,11 +22,8 @@ lasting_of-third-requires c = (omega arith, c.requires.0, c.requires.1)
 pub lasting_of-fourth-requires : goal.lasting_of-fourth-requires
 lasting_of-fourth-requires c = (omega arith, c.requires.0, c.requires.1)
 
-pub times-repeats-requires : goal.times-repeats-requires
-times-repeats-requires c = tt
-
-pub loop-k-init : goal.loop-k-init
-loop-k-init c = (omega arith, fold_none _ _ _)
+pub loop-init : goal.loop-init
+loop-init c = fold_none _ _ _
 
 pub cut_pass-moved-requires : goal.cut_pass-moved-requires
 cut_pass-moved-requires c =
@@ -36,20 +33,15 @@ cut_pass-moved-requires c =
     let first = second in
     (first.lasting_of-first.ensures.1, second.lasting_of-second.ensures.1, third.lasting_of-third.ensures.1, fourth.lasting_of-fourth.ensures.1)
 
-pub overflow_add-k : goal.overflow_add-k
-overflow_add-k c = omega (arith, c.times-repeats.ensures.1)
-
-pub loop-k-preserved : goal.loop-k-preserved
-loop-k-preserved c =
+pub loop-preserved : goal.loop-preserved
+loop-preserved c =
     let m = c in
     let fourth = m in
     let third = fourth in
     let second = third in
     let first = second in
-    let s = first.args in (
-      omega arith,
-      fold_more (cut_step s.driving s.until) s.progress (λ j. phases_in first.lasting_of-first.result.step.phase second.lasting_of-second.result.step.phase third.lasting_of-third.result.step.phase fourth.lasting_of-fourth.result.step.phase) m.loop-k.k m.loop-k.invariant.1 c.cut_pass-moved.ensures,
-    )
+    let s = first.args in
+    fold_more (cut_step s.driving s.until) s.progress (λ j. phases_in first.lasting_of-first.result.step.phase second.lasting_of-second.result.step.phase third.lasting_of-third.result.step.phase fourth.lasting_of-fourth.result.step.phase) m.loop.counter m.loop.invariant c.cut_pass-moved.ensures
 
 pub returns : goal.returns
 returns c =
@@ -59,8 +51,8 @@ returns c =
     let first = second in
     let s = first.args in
     let step = cut_step s.driving s.until in
-    let e : c.loop-k.k ≡ s.group.repeats = omega (arith, c.times-repeats.ensures.0) in
-    c.loop-k.invariant.1
+    let e : c.loop.counter ≡ s.group.repeats = omega arith in
+    c.loop.invariant
     ∙ ap (λ (k : ℕ). foldl step s.progress (joined k (λ j. phases_in first.lasting_of-first.result.step.phase second.lasting_of-second.result.step.phase third.lasting_of-third.result.step.phase fourth.lasting_of-fourth.result.step.phase))) e
     ∙ ap (λ (l : List Phase). foldl step s.progress (joined s.group.repeats (λ j. l)))
     (four_is s.driving s.group first.lasting_of-first.ensures.0 second.lasting_of-second.ensures.0 third.lasting_of-third.ensures.0 fourth.lasting_of-fourth.ensures.0)

@@ -22,30 +22,22 @@ step_of-third-requires c = (omega arith, c.requires)
 pub step_of-fourth-requires : goal.step_of-fourth-requires
 step_of-fourth-requires c = (omega arith, c.requires)
 
-pub times-repeats-requires : goal.times-repeats-requires
-times-repeats-requires c = tt
-
-pub loop-k-init : goal.loop-k-init
-loop-k-init c = (omega arith, fold_none _ _ _)
+pub loop-init : goal.loop-init
+loop-init c = fold_none _ _ _
 
 pub whole_pass-moved-requires : goal.whole_pass-moved-requires
 whole_pass-moved-requires c = tt
 
-pub overflow_add-k : goal.overflow_add-k
-overflow_add-k c = omega (arith, c.times-repeats.ensures.1)
-
-pub loop-k-preserved : goal.loop-k-preserved
-loop-k-preserved c =
+pub loop-preserved : goal.loop-preserved
+loop-preserved c =
     let m = c in
     let fourth = m in
     let third = fourth in
     let second = third in
     let first = second in
-    let a = first.args in (
-      omega arith,
-      fold_more (whole_step a.driving) a.transfer (λ j. phases_in first.step_of-first.result.phase second.step_of-second.result.phase third.step_of-third.result.phase fourth.step_of-fourth.result.phase) m.loop-k.k m.loop-k.invariant.1
-          (c.whole_pass-moved.ensures ∙ pass_is a.driving a.group first.step_of-first.ensures second.step_of-second.ensures third.step_of-third.ensures fourth.step_of-fourth.ensures m.loop-k.moved),
-    )
+    let a = first.args in
+    fold_more (whole_step a.driving) a.transfer (λ j. phases_in first.step_of-first.result.phase second.step_of-second.result.phase third.step_of-third.result.phase fourth.step_of-fourth.result.phase) m.loop.counter m.loop.invariant
+    (c.whole_pass-moved.ensures ∙ pass_is a.driving a.group first.step_of-first.ensures second.step_of-second.ensures third.step_of-third.ensures fourth.step_of-fourth.ensures m.loop.moved)
 
 pub returns : goal.returns
 returns c =
@@ -54,8 +46,8 @@ returns c =
     let second = third in
     let first = second in
     let a = first.args in
-    let e : c.loop-k.k ≡ a.group.repeats = omega (arith, c.times-repeats.ensures.0) in
-    c.loop-k.invariant.1
+    let e : c.loop.counter ≡ a.group.repeats = omega arith in
+    c.loop.invariant
     ∙ ap (λ (k : ℕ). foldl (whole_step a.driving) a.transfer (joined k (λ j. phases_in first.step_of-first.result.phase second.step_of-second.result.phase third.step_of-third.result.phase fourth.step_of-fourth.result.phase))) e
     ∙ ap (λ (l : List Phase). foldl (whole_step a.driving) a.transfer (joined a.group.repeats (λ j. l)))
     (steps_are a.driving a.group first.step_of-first.ensures second.step_of-second.ensures third.step_of-third.ensures fourth.step_of-fourth.ensures)

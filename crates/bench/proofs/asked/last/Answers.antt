@@ -25,12 +25,6 @@ returns-then-periods-code-eq0 c =
     let e = lowest_at (is_zero periods) 16 c.loop-code.code (omega arith) c.loop-code.invariant.1 (eq-eqb _ 0 c.if-periods-code-eq0.true) in
     sym (ne_eqb (zero_period periods) 16 (λ h. omega (arith, e)))
 
-pub overflow_add-code : goal.overflow_add-code
-overflow_add-code c = omega arith
-
-pub loop-code-smaller : goal.loop-code-smaller
-loop-code-smaller c = omega arith
-
 pub loop-code-preserved : goal.loop-code-preserved
 loop-code-preserved c = (omega arith, below_more _ _ c.loop-code.invariant.1 (ne_eqb _ 0 c.if-periods-code-eq0.false))
 

@@ -13,11 +13,10 @@ use Rattle.waveform.specs.Phases.{joined}
 use Rattle.charges.specs.Charge.{drive_sum}
 use Rattle.charges.proofs.Sums.{sum_none, sum_more}
 use Rattle.charges.proofs.Bounds.{fits_as, read_back, groups_of, groups_within}
-use borrow.Author.Rules.{rules}
 use Rattle.charges.proofs.sum.charge_of.Goals as goal
 
 pub loop-k-init : goal.loop-k-init
-loop-k-init c = (search rules, sum_none _)
+loop-k-init c = sum_none _
 
 pub group_charge-sum-requires : goal.group_charge-sum-requires
 group_charge-sum-requires c =
@@ -33,7 +32,7 @@ groups_in c = groups_of c.args.waveform (Lut c.args.lut)
 sum_is : (c : Turn) → to_z w64 c.loop-k.sum-bits +ℤ rd c.group_charge-sum.result ≡ drive_sum (joined (c.loop-k.k + 1) (groups_in c))
 sum_is c =
     let l = c.loop-k in
-    (λ i. l.invariant.1 i +ℤ got c.group_charge-sum.type_inv c.group_charge-sum.ensures i) ∙ sum_more (groups_in c) l.k
+    (λ i. l.invariant i +ℤ got c.group_charge-sum.type_inv c.group_charge-sum.ensures i) ∙ sum_more (groups_in c) l.k
 
 small : (c : Turn) → nat_abs (drive_sum (joined (c.loop-k.k + 1) (groups_in c))) ≤ 9223372036854775807
 small c = omega (arith, groups_within c.args.waveform (Lut c.args.lut) c.requires.bounded (c.loop-k.k + 1) (omega arith))
@@ -42,11 +41,11 @@ pub overflow_add-sum : goal.overflow_add-sum
 overflow_add-sum c = fits_as (sum_is c) (small c)
 
 pub loop-k-preserved : goal.loop-k-preserved
-loop-k-preserved c = (omega arith, read_back (sum_is c) (small c))
+loop-k-preserved c = read_back (sum_is c) (small c)
 
 pub returns : goal.returns
 returns c =
     let l = c.loop-k in
     let s = c.args in
     let e : l.k ≡ 10 = omega arith in
-    l.invariant.1 ∙ ap (λ (n : ℕ). drive_sum (joined n (groups_of s.waveform (Lut s.lut)))) e
+    l.invariant ∙ ap (λ (n : ℕ). drive_sum (joined n (groups_of s.waveform (Lut s.lut)))) e

@@ -1,5 +1,4 @@
 use mathlib.Core.Path.{◌≡◌}
-use Prim.Native.Nat.{◌-◌, ◌≤◌}
 use Rattle.waveform.specs.declared.Drive.TheVariants.{Lut}
 use Rattle.waveform.specs.Phases.{joined}
 use Rattle.charges.specs.Charge.{drive_sum}
@@ -8,7 +7,4 @@ use Rattle.charges.proofs.sum.charge_of.Given as goal
 
 -- the sum is kept as its bits
 abbrev pub invariant-loop-k : goal.invariant-loop-k
-invariant-loop-k l = (l.k ≤ 10) × (l.sum ≡ drive_sum (joined l.k (groups_of l.waveform (Lut l.lut))))
-
-abbrev pub decreases-loop-k : goal.decreases-loop-k
-decreases-loop-k l = 10 - l.k
+invariant-loop-k l = (l.sum ≡ drive_sum (joined l.k (groups_of l.waveform (Lut l.lut))))

@@ -12,12 +12,11 @@ use Rattle.waveform.specs.Phases.{joined}
 use Rattle.charges.specs.Charge.{drive_sum}
 use Rattle.charges.proofs.Sums.{sum_none, sum_more}
 use Rattle.charges.proofs.Bounds.{fits_as, read_back, phases_within}
-use borrow.Author.Rules.{rules}
 use Rattle.charges.proofs.sum.pass_charge.Invariants.{phases_in}
 use Rattle.charges.proofs.sum.pass_charge.Goals as goal
 
 pub loop-phase-init : goal.loop-phase-init
-loop-phase-init c = (search rules, sum_none _)
+loop-phase-init c = sum_none _
 
 -- ---- after a turn
 abbrev Turn : Type 0
@@ -29,7 +28,7 @@ sum_of c = phases_in c.args.driving c.args.group
 sum_is : (c : Turn) → to_z w64 c.loop-phase.sum-bits +ℤ rd c.drive_at-sum.result ≡ drive_sum (joined (c.loop-phase.phase + 1) (sum_of c))
 sum_is c =
     let l = c.loop-phase in
-    (λ i. l.invariant.1 i +ℤ got c.drive_at-sum.type_inv c.drive_at-sum.ensures i) ∙ sum_more (sum_of c) l.phase
+    (λ i. l.invariant i +ℤ got c.drive_at-sum.type_inv c.drive_at-sum.ensures i) ∙ sum_more (sum_of c) l.phase
 
 small : (c : Turn) → nat_abs (drive_sum (joined (c.loop-phase.phase + 1) (sum_of c))) ≤ 9223372036854775807
 small c =
@@ -40,11 +39,11 @@ pub overflow_add-sum : goal.overflow_add-sum
 overflow_add-sum c = fits_as (sum_is c) (small c)
 
 pub loop-phase-preserved : goal.loop-phase-preserved
-loop-phase-preserved c = (omega arith, read_back (sum_is c) (small c))
+loop-phase-preserved c = read_back (sum_is c) (small c)
 
 pub returns : goal.returns
 returns c =
     let l = c.loop-phase in
     let s = c.args in
     let e : l.phase ≡ 4 = omega arith in
-    l.invariant.1 ∙ ap (λ (n : ℕ). drive_sum (joined n (phases_in s.driving s.group))) e
+    l.invariant ∙ ap (λ (n : ℕ). drive_sum (joined n (phases_in s.driving s.group))) e

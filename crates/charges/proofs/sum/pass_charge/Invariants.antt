@@ -1,6 +1,6 @@
 use mathlib.Core.Path.{◌≡◌}
 use mathlib.Core.List.{List}
-use Prim.Native.Nat.{ℕ, ◌-◌, ◌≤◌}
+use Prim.Native.Nat.{ℕ}
 use Rattle.waveform.specs.declared.Driving.{Driving}
 use Rattle.waveform.specs.declared.Group.{Group}
 use Rattle.waveform.specs.declared.Phase.{Phase}
@@ -14,7 +14,4 @@ phases_in d g k = driven (phase_in d g k)
 
 -- the sum is kept as its bits
 abbrev pub invariant-loop-phase : goal.invariant-loop-phase
-invariant-loop-phase l = (l.phase ≤ 4) × (l.sum ≡ drive_sum (joined l.phase (phases_in l.driving l.group)))
-
-abbrev pub decreases-loop-phase : goal.decreases-loop-phase
-decreases-loop-phase l = 4 - l.phase
+invariant-loop-phase l = (l.sum ≡ drive_sum (joined l.phase (phases_in l.driving l.group)))

@@ -1,10 +1,10 @@
 -- `column::read::digit` meets its contract.
+use Rattle.std.specs.Prelude.{Some, None}
 use mathlib.Core.Path.{sym, ap, ◌∙◌}
 use Prim.Native.Nat.{ℕ, ◌+◌, ◌-◌, ◌*◌, ◌^◌}
 use native.Mathlib.Omega.{arith}
 use borrow.Author.Tests.{lt-ltb, le-ltb}
 use Rattle.numbers.specs.Choice.{pick}
-use Rattle.column.specs.declared.read.Column.TheVariants.{Number, Other}
 use Rattle.column.proofs.Reading.{no_digit, a_digit}
 use Rattle.column.proofs.read.digit.Goals as goal
 
@@ -19,12 +19,12 @@ returns-then-units-n c =
     let s = c.args in
     sym
     (a_digit s.n s.byte (omega arith) (omega arith)
-    ∙ ap (λ b. pick b (Number (10 * s.n + (s.byte - 48))) Other) (le-ltb (10 * s.n + (s.byte - 48)) (2 ^ 64) (omega (arith, c.wide-units.ensures))))
+    ∙ ap (λ b. pick b (Some (10 * s.n + (s.byte - 48))) None) (le-ltb (10 * s.n + (s.byte - 48)) (2 ^ 64) (omega (arith, c.wide-units.ensures))))
 
 pub returns : goal.returns
 returns c =
     let s = c.args in
     sym
     (a_digit s.n s.byte (omega arith) (omega arith)
-    ∙ ap (λ b. pick b (Number (10 * s.n + (s.byte - 48))) Other) (lt-ltb (10 * s.n + (s.byte - 48)) (2 ^ 64) (omega (arith, c.wide-units.ensures)))
-    ∙ ap (λ (units : ℕ). Number (10 * s.n + units)) (sym c.wide-units.ensures))
+    ∙ ap (λ b. pick b (Some (10 * s.n + (s.byte - 48))) None) (lt-ltb (10 * s.n + (s.byte - 48)) (2 ^ 64) (omega (arith, c.wide-units.ensures)))
+    ∙ ap (λ (units : ℕ). Some (10 * s.n + units)) (sym c.wide-units.ensures))

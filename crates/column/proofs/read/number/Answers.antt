@@ -1,56 +1,40 @@
--- `column::read::number` meets its contract: after i turns the front is that of the first i bytes.
+-- `column::read::number` meets its contract: the front is that of the bytes gone over.
+use Rattle.std.specs.Prelude.{Option, Some}
 use mathlib.Core.Path.{◌≡◌, sym, ap, ◌∙◌}
-use mathlib.Core.List.{List}
-use Prim.Native.Nat.{ℕ, suc, ◌+◌, ◌-◌, ◌<◌}
-use native.Mathlib.Numerals.{add-one}
+use mathlib.Core.List.{List, [], ◌∷◌, ◌++◌}
+use Prim.Native.Nat.{ℕ, ◌+◌}
 use native.Mathlib.Omega.{arith}
-use lib.ListN.{length, take, get_or}
-use lib.Seq.{take-suc, take-length}
-use Rattle.column.specs.Reading.{read_of, step_of, last_of}
-use Rattle.column.specs.declared.read.Column.{Column}
-use Rattle.column.proofs.Reading.{front_of, front_none, front_step, read_more, read_none}
+use lib.ListN.{length, take}
+use lib.Seq.{take-length}
+use Rattle.column.specs.Reading.{read_of, last_of}
+use Rattle.column.proofs.Reading.{front_of, front_none, front_more_at, read_more, read_stays, read_none}
 use Rattle.column.proofs.read.number.Goals as goal
 
-more : (l : List ℕ) (i : ℕ) (f r : Column) → i < length l → f ≡ front_of (take i l) → r ≡ step_of f (get_or l i 0) → r ≡ front_of (take (i + 1) l)
-more l i f r h e g =
-    g ∙ ap (λ (x : Column). step_of x (get_or l i 0)) e ∙ sym (front_step (take i l) (get_or l i 0)) ∙ ap front_of (sym (take-suc l i 0 h))
-    ∙ ap (λ (n : ℕ). front_of (take n l)) (sym (add-one i))
+whole : (xs l : List ℕ) (c n : ℕ) → xs ≡ l ++ (c ∷ []) → Some n ≡ front_of l → last_of (Some n) c ≡ read_of xs
+whole xs l c n h e = ap (λ (f : Option ℕ). last_of f c) e ∙ sym (read_more l c) ∙ ap read_of (sym h)
 
-whole : (l : List ℕ) (i : ℕ) (f r : Column) → suc i ≡ length l → f ≡ front_of (take i l) → r ≡ last_of f (get_or l i 0) → r ≡ read_of l
-whole l i f r h e g =
-    g ∙ ap (λ (x : Column). last_of x (get_or l i 0)) e ∙ sym (read_more (take i l) (get_or l i 0)) ∙ ap read_of (sym (take-suc l i 0 (omega arith)))
-    ∙ ap (λ (n : ℕ). read_of (take n l)) h ∙ ap read_of (take-length l)
+pub returns-in_err-units : goal.returns-in_err-units
+returns-in_err-units c = rw c.from_residual.ensures (sym (read_none c.args.column.now c.in_err-units.ensures.cases))
 
-pub returns-then-column-eq0 : goal.returns-then-column-eq0
-returns-then-column-eq0 c = sym (read_none c.args.column.now (omega arith))
+pub loop-byte-init : goal.loop-byte-init
+loop-byte-init c = sym front_none
 
-pub overflow_sub-units : goal.overflow_sub-units
-overflow_sub-units c = omega arith
+pub returns-in_err-front : goal.returns-in_err-front
+returns-in_err-front c =
+    let l = c.in_ok-units.rest.now in
+    let i = c.loop-byte.byte-index in
+    rw c.from_residual-in_err-front.ensures
+    (sym (ap read_of c.in_ok-units.ensures.cases.0
+    ∙ read_stays l (i + 1) _ (sym (front_more_at l i c.loop-byte.front (omega arith) c.loop-byte.invariant) ∙ sym c.in_err-front.ensures)))
 
-pub loop-i-init : goal.loop-i-init
-loop-i-init c = (omega arith, sym front_none)
-
-pub bounds-column-i : goal.bounds-column-i
-bounds-column-i c = omega arith
-
-pub overflow_add-i : goal.overflow_add-i
-overflow_add-i c = omega arith
-
-pub loop-i-smaller : goal.loop-i-smaller
-loop-i-smaller c = omega arith
-
-pub loop-i-preserved : goal.loop-i-preserved
-loop-i-preserved c =
-    let l = c.loop-i in
-    let s = c.args.column.now in
-    (omega arith, more s l.i l.front c.step-front.result (omega arith) l.invariant.1 c.step-front.ensures)
-
-pub bounds-column-units : goal.bounds-column-units
-bounds-column-units c = omega arith
+pub loop-byte-preserved : goal.loop-byte-preserved
+loop-byte-preserved c =
+    c.in_ok-front.ensures ∙ front_more_at c.in_ok-units.rest.now c.loop-byte.byte-index c.loop-byte.front (omega arith) c.loop-byte.invariant
 
 pub returns : goal.returns
 returns c =
-    let l = c.loop-i in
-    let s = c.args.column.now in
-    let there : length s - 1 ≡ l.i = omega arith in
-    whole s (length s - 1) l.front c.last.result (omega arith) (l.invariant.1 ∙ ap (λ (n : ℕ). front_of (take n s)) (sym there)) c.last.ensures
+    let l = c.in_ok-units.rest.now in
+    let there : c.loop-byte.byte-index ≡ length l = omega arith in
+    c.digit.ensures
+    ∙ whole _ l _ c.loop-byte.front c.in_ok-units.ensures.cases.0
+    (c.loop-byte.invariant ∙ ap (λ (n : ℕ). front_of (take n l)) there ∙ ap front_of (take-length l))

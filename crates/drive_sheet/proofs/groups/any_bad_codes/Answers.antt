@@ -7,27 +7,15 @@ use Rattle.drive_sheet.proofs.groups.any_bad_codes.Invariants.{refused}
 use Rattle.drive_sheet.proofs.groups.any_bad_codes.Goals as goal
 
 pub loop-k-init : goal.loop-k-init
-loop-k-init c = (omega arith, any_none _)
-
-pub offset_bounds-sheet-k : goal.offset_bounds-sheet-k
-offset_bounds-sheet-k c = omega arith
-
-pub bounds-sheet-k : goal.bounds-sheet-k
-bounds-sheet-k c = omega arith
+loop-k-init c = any_none _
 
 pub bad_codes-one-requires : goal.bad_codes-one-requires
 bad_codes-one-requires c = tt
 
-pub overflow_add-k : goal.overflow_add-k
-overflow_add-k c = omega arith
-
-pub loop-k-smaller : goal.loop-k-smaller
-loop-k-smaller c = omega arith
-
 pub loop-k-preserved : goal.loop-k-preserved
-loop-k-preserved c = (omega arith, any_more _ _ _ _ c.loop-k.invariant.1 c.bad_codes-one.ensures)
+loop-k-preserved c = any_more _ _ _ _ c.loop-k.invariant c.bad_codes-one.ensures
 
 pub returns : goal.returns
 returns c =
     let n : c.loop-k.k ≡ 10 = omega arith in
-    c.loop-k.invariant.1 ∙ ap (any_of (refused c.args.sheet)) n
+    c.loop-k.invariant ∙ ap (any_of (refused c.args.sheet)) n

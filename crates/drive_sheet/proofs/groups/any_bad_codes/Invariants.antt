@@ -1,6 +1,6 @@
 use mathlib.Core.Path.{◌≡◌}
 use mathlib.Core.Bool.{Bool}
-use Prim.Native.Nat.{ℕ, ◌-◌, ◌≤◌}
+use Prim.Native.Nat.{ℕ}
 use Rattle.otp.specs.Search.{any_of}
 use Rattle.drive_sheet.specs.declared.Sheet.{Sheet}
 use Rattle.drive_sheet.specs.Bytes.{group_at}
@@ -12,7 +12,4 @@ abbrev pub refused : Sheet → ℕ → Bool
 refused h group = bad_codes (group_at h group)
 
 abbrev pub invariant-loop-k : goal.invariant-loop-k
-invariant-loop-k l = (l.k ≤ 10) × (l.bad ≡ any_of (refused l.sheet) l.k)
-
-abbrev pub decreases-loop-k : goal.decreases-loop-k
-decreases-loop-k l = 10 - l.k
+invariant-loop-k l = (l.bad ≡ any_of (refused l.sheet) l.k)

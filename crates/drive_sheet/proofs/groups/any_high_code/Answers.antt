@@ -7,21 +7,12 @@ use Rattle.drive_sheet.specs.Tests.{high_code}
 use Rattle.drive_sheet.proofs.groups.any_high_code.Goals as goal
 
 pub loop-k-init : goal.loop-k-init
-loop-k-init c = (omega arith, any_none _)
-
-pub bounds-codes-k : goal.bounds-codes-k
-bounds-codes-k c = omega arith
-
-pub overflow_add-k : goal.overflow_add-k
-overflow_add-k c = omega arith
-
-pub loop-k-smaller : goal.loop-k-smaller
-loop-k-smaller c = omega arith
+loop-k-init c = any_none _
 
 pub loop-k-preserved : goal.loop-k-preserved
-loop-k-preserved c = (omega arith, any_more _ _ _ _ c.loop-k.invariant.1 refl)
+loop-k-preserved c = any_more _ _ _ _ c.loop-k.invariant refl
 
 pub returns : goal.returns
 returns c =
     let n : c.loop-k.k ≡ 20 = omega arith in
-    c.loop-k.invariant.1 ∙ ap (any_of (high_code c.args.codes)) n
+    c.loop-k.invariant ∙ ap (any_of (high_code c.args.codes)) n

@@ -1,5 +1,5 @@
 use mathlib.Core.Bool.{Bool}
-use Prim.Native.Nat.{ℕ, ◌-◌, ◌≤◌}
+use Prim.Native.Nat.{ℕ}
 use lib.IntN.{ℤ}
 use Rattle.config.proofs.Lowest.{Passed}
 use Rattle.drive_sheet.specs.declared.Supply.{Supply}
@@ -11,7 +11,4 @@ stands_for supply millivolts code = is_listed_as (voltage_of supply code) milliv
 
 -- the local millivolts are the number's bits
 abbrev pub invariant-loop-code : goal.invariant-loop-code
-invariant-loop-code l = (l.code ≤ 256) × Passed (stands_for l.supply l.millivolts) l.code
-
-abbrev pub decreases-loop-code : goal.decreases-loop-code
-decreases-loop-code l = 256 - l.code
+invariant-loop-code l = Passed (stands_for l.supply l.millivolts) l.code

@@ -25,12 +25,6 @@ returns-then-swing-shift-lt512 c =
     let m = c in
     record { small = m.loop-shift.invariant.0; few = c.if-swing-shift-lt512.true; fine = m.loop-shift.invariant.1 }
 
-pub overflow_add-shift : goal.overflow_add-shift
-overflow_add-shift c = omega arith
-
-pub loop-shift-smaller : goal.loop-shift-smaller
-loop-shift-smaller c = omega arith
-
 pub loop-shift-preserved : goal.loop-shift-preserved
 loop-shift-preserved c =
     let m = c in
@@ -38,11 +32,10 @@ loop-shift-preserved c =
 
 pub returns : goal.returns
 returns c =
-    let m = c in
-    let n = m.args.swing in
-    let e : 54 ≡ m.loop-shift.shift = omega arith in
+    let n = c.args.swing in
+    let e : c.loop-shift.shift ≡ 54 = omega arith in
     record {
-      small = m.loop-shift.invariant.0;
-      few = subst (λ (k : ℕ). n / 2 ^ k < 512) e (shr_lt {n = n} 9 54 (omega arith));
-      fine = m.loop-shift.invariant.1;
+      small = omega arith;
+      few = shr_lt {n = n} 9 54 (omega arith);
+      fine = subst (λ (k : ℕ). 255 * 2 ^ k ≤ n + 255) e c.loop-shift.invariant.1;
     }

@@ -1,4 +1,5 @@
 -- `line::columns::read` meets its contract.
+use Rattle.std.specs.Prelude.{Option, None}
 use mathlib.Core.Path.{◌≡◌, refl, ap, ◌∙◌}
 use mathlib.Core.Bool.{Bool, ◌&&◌}
 use mathlib.Core.List.{List}
@@ -8,21 +9,19 @@ use lib.ListN.{length, take, drop, get_or}
 use borrow.Author.Tests.{eq-eqb, ne_eqb}
 use Rattle.numbers.proofs.Cases.{took, passed}
 use Rattle.column.specs.Reading.{read_of}
-use Rattle.column.specs.declared.read.Column.{Column}
 use Rattle.line.specs.Lines.{three_of, columns_of}
 use Rattle.line.specs.declared.columns.Columns.{Columns}
-use Rattle.line.specs.declared.columns.Columns.TheVariants.{NotALine}
 use Rattle.line.proofs.columns.read.Goals as goal
 
-short : (l : List ℕ) → (length l ≡ 27 → ⊥) → NotALine ≡ columns_of l
+short : (l : List ℕ) → (length l ≡ 27 → ⊥) → None ≡ columns_of l
 unfolding columns_of
 short l h = passed _ _ _ _ (ap (λ (b : Bool). b && eqb (get_or l 26 0) 10) (ne_eqb (length l) 27 h)) refl
 
-no_end : (l : List ℕ) → length l ≡ 27 → (get_or l 26 0 ≡ 10 → ⊥) → NotALine ≡ columns_of l
+no_end : (l : List ℕ) → length l ≡ 27 → (get_or l 26 0 ≡ 10 → ⊥) → None ≡ columns_of l
 unfolding columns_of
 no_end l e h = passed _ _ _ _ (λ i. eq-eqb (length l) 27 e i && ne_eqb (get_or l 26 0) 10 h i) refl
 
-whole : (l : List ℕ) (a b d : Column) (r : Columns) → length l ≡ 27 → get_or l 26 0 ≡ 10 → a ≡ read_of (take 20 l) → b ≡ read_of (take 2 (drop 20 l))
+whole : (l : List ℕ) (a b d : Option ℕ) (r : Option Columns) → length l ≡ 27 → get_or l 26 0 ≡ 10 → a ≡ read_of (take 20 l) → b ≡ read_of (take 2 (drop 20 l))
     → d ≡ read_of (take 4 (drop 22 l)) → r ≡ three_of a b d → r ≡ columns_of l
 unfolding columns_of
 whole l a b d r e f ea eb ed er =

@@ -1,28 +1,20 @@
 -- `line::columns::three` meets its contract.
-use mathlib.Core.Path.{sym}
+use mathlib.Core.Path.{refl}
 use Rattle.line.specs.Lines.{three_of}
 use Rattle.line.proofs.columns.three.Goals as goal
 
-pub returns-in_default : goal.returns-in_default
+pub returns-in_err-number : goal.returns-in_err-number
 unfolding three_of
-returns-in_default c =
-    let s = c.args in
-    λ i. three_of (sym c.in_default.is i) s.kind s.value
+returns-in_err-number c = rw (c.from_residual.ensures, c.in_err-number.was) refl
 
-pub returns-in_default-kind : goal.returns-in_default-kind
+pub returns-in_err-kind : goal.returns-in_err-kind
 unfolding three_of
-returns-in_default-kind c =
-    let s = c.args in
-    λ i. three_of (sym c.in-Number.is i) (sym c.in_default-kind.is i) s.value
+returns-in_err-kind c = rw (c.from_residual-in_err-kind.ensures, c.in_ok-number.was, c.in_err-kind.was) refl
 
-pub returns-in_default-value : goal.returns-in_default-value
+pub returns-in_err-value : goal.returns-in_err-value
 unfolding three_of
-returns-in_default-value c =
-    λ i. three_of (sym c.in-Number.is i) (sym c.in-Number-kind.is i)
-    (sym c.in_default-value.is i)
+returns-in_err-value c = rw (c.from_residual-in_err-value.ensures, c.in_ok-number.was, c.in_ok-kind.was, c.in_err-value.was) refl
 
 pub returns : goal.returns
 unfolding three_of
-returns c =
-    λ i. three_of (sym c.in-Number.is i) (sym c.in-Number-kind.is i)
-    (sym c.in-Number-value.is i)
+returns c = rw (c.in_ok-number.was, c.in_ok-kind.was, c.in_ok-value.was) refl

@@ -1,10 +1,10 @@
 -- `line::listed::listed` meets its contract: in each arm the kind is the row's number, and the table computes; in the last, it is no row's.
+use Rattle.std.specs.Prelude.{None}
 use mathlib.Core.Path.{ap, ◌∙◌}
 use Prim.{Unit}
 use Rattle.numbers.specs.Rows.{lookup}
 use Rattle.numbers.proofs.Miss.{miss}
 use Rattle.line.specs.Lines.{within, rows, listed_as}
-use Rattle.line.specs.declared.Line.TheVariants.{Bad}
 use Rattle.line.proofs.listed.listed.Goals as goal
 
 pub returns-in-1 : goal.returns-in-1
@@ -95,4 +95,4 @@ returns-in-18 c =
 
 pub returns-in_default : goal.returns-in_default
 unfolding rows listed_as
-returns-in_default c = (miss Bad c.args.kind (rows c.args.number c.args.value) Unit c.in_default.in_default-own.rest).1
+returns-in_default c = (miss None c.args.kind (rows c.args.number c.args.value) Unit c.in_default.in_default-own.rest).1

@@ -12,16 +12,7 @@ use Rattle.listing.proofs.Joined.{joined_none, joined_more}
 use Rattle.listing.proofs.line.put_drives.Goals as goal
 
 pub loop-lut-init : goal.loop-lut-init
-loop-lut-init c = let s = c.args in (joined_none s.at s.out.now _, omega arith, omega arith, refl)
-
-pub put_millivolts-next-requires : goal.put_millivolts-next-requires
-put_millivolts-next-requires c = omega arith
-
-pub overflow_add-lut : goal.overflow_add-lut
-overflow_add-lut c = omega arith
-
-pub loop-lut-smaller : goal.loop-lut-smaller
-loop-lut-smaller c = omega arith
+loop-lut-init c = let s = c.args in (joined_none s.at s.out.now _, omega arith, refl)
 
 pub loop-lut-preserved : goal.loop-lut-preserved
 loop-lut-preserved c =
@@ -36,11 +27,10 @@ loop-lut-preserved c =
           (put.put_millivolts-next.ensures.text ∙ ap (λ (z : ℤ). appended (buffer l.loop-lut.next l.loop-lut.out) (whole 7 z)) (got drive.drive_of-millivolts.type_inv drive.drive_of-millivolts.ensures)),
       omega (arith, put.put_millivolts-next.ensures.end),
       omega arith,
-      omega arith,
     )
 
 pub shape_of-out : goal.shape_of-out
-shape_of-out c = c.loop-lut.invariant.3
+shape_of-out c = c.loop-lut.invariant.2
 
 pub returns : goal.returns
 unfolding drives_of

@@ -10,13 +10,7 @@ use Rattle.listing.proofs.Joined.{joined_none, joined_more}
 use Rattle.listing.proofs.line.put_group.Goals as goal
 
 pub loop-phase-init : goal.loop-phase-init
-loop-phase-init c = let s = c.args in (joined_none s.at s.out.now _, omega arith, omega arith, refl)
-
-pub overflow_add-phase : goal.overflow_add-phase
-overflow_add-phase c = omega arith
-
-pub loop-phase-smaller : goal.loop-phase-smaller
-loop-phase-smaller c = omega arith
+loop-phase-init c = let s = c.args in (joined_none s.at s.out.now _, omega arith, refl)
 
 pub loop-phase-preserved : goal.loop-phase-preserved
 loop-phase-preserved c =
@@ -25,15 +19,10 @@ loop-phase-preserved c =
     let s = l in
     let at = s.args.at in
     let d = s.args.out.now in
-    let room : at ≤ length d = omega (arith, s.requires.room) in (
-      joined_more at d (phase_text s.args.levels s.args.group s.args.number) l.loop-phase.phase room l.loop-phase.invariant.0 put.put_phase-next.ensures.text,
-      omega (arith, put.put_phase-next.ensures.end),
-      omega arith,
-      omega arith,
-    )
+    let room : at ≤ length d = omega (arith, s.requires.room) in (joined_more at d (phase_text s.args.levels s.args.group s.args.number) l.loop-phase.phase room l.loop-phase.invariant.0 put.put_phase-next.ensures.text, omega (arith, put.put_phase-next.ensures.end), omega arith)
 
 pub shape_of-out : goal.shape_of-out
-shape_of-out c = c.loop-phase.invariant.3
+shape_of-out c = c.loop-phase.invariant.2
 
 pub returns : goal.returns
 unfolding group_text

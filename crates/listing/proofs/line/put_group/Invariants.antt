@@ -1,5 +1,5 @@
 use mathlib.Core.Path.{◌≡◌}
-use Prim.Native.Nat.{◌+◌, ◌*◌, ◌-◌, ◌≤◌}
+use Prim.Native.Nat.{◌+◌, ◌*◌, ◌≤◌}
 use lib.ListN.{length}
 use Rattle.waveform.specs.Phases.{joined}
 use Rattle.column.specs.Columns.{buffer, appended}
@@ -9,7 +9,4 @@ use Rattle.listing.proofs.line.put_group.Given as goal
 abbrev pub invariant-loop-phase : goal.invariant-loop-phase
 invariant-loop-phase l =
     (buffer l.next l.out ≡ appended (buffer l.at l.initial.out) (joined l.phase (phase_text l.levels l.group l.number)))
-    × (l.next ≤ l.at + 52 * l.phase) × (l.phase ≤ 4) × (length l.out ≡ length l.initial.out)
-
-abbrev pub decreases-loop-phase : goal.decreases-loop-phase
-decreases-loop-phase l = 4 - l.phase
+    × (l.next ≤ l.at + 52 * l.phase) × (length l.out ≡ length l.initial.out)

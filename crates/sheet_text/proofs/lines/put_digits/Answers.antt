@@ -10,13 +10,7 @@ use Rattle.sheet_text.proofs.lines.put_digits.Invariants.{textIn}
 use Rattle.sheet_text.proofs.lines.put_digits.Goals as goal
 
 pub loop-phase-init : goal.loop-phase-init
-loop-phase-init c = let s = c.args in (joined_none s.at s.out.now _, omega arith, omega arith, refl)
-
-pub overflow_mul-lut : goal.overflow_mul-lut
-overflow_mul-lut c = omega arith
-
-pub overflow_add-lut : goal.overflow_add-lut
-overflow_add-lut c = omega arith
+loop-phase-init c = let s = c.args in (joined_none s.at s.out.now _, omega arith, refl)
 
 pub bounds-group-lut : goal.bounds-group-lut
 bounds-group-lut c = let s = c in omega (arith, s.requires.lut)
@@ -27,12 +21,6 @@ wide-code-requires c = tt
 pub put-next-requires : goal.put-next-requires
 put-next-requires c = let s = c in record { narrow = omega arith; room = omega (arith, s.requires.room) }
 
-pub overflow_add-phase : goal.overflow_add-phase
-overflow_add-phase c = omega arith
-
-pub loop-phase-smaller : goal.loop-phase-smaller
-loop-phase-smaller c = omega arith
-
 pub loop-phase-preserved : goal.loop-phase-preserved
 loop-phase-preserved c =
     let put = c in
@@ -40,15 +28,10 @@ loop-phase-preserved c =
     let l = wide in
     let s = l in
     let a = s.args in
-    let code = put.put-next.ensures.text ∙ ap (λ (n : ℕ). appended (buffer l.loop-phase.next l.loop-phase.out) (natural 1 n)) wide.wide-code.ensures in (
-      joined_more a.at a.out.now (textIn a.group a.lut) l.loop-phase.phase (omega (arith, s.requires.room)) l.loop-phase.invariant.0 code,
-      omega (arith, put.put-next.ensures.end),
-      omega arith,
-      omega arith,
-    )
+    let code = put.put-next.ensures.text ∙ ap (λ (n : ℕ). appended (buffer l.loop-phase.next l.loop-phase.out) (natural 1 n)) wide.wide-code.ensures in (joined_more a.at a.out.now (textIn a.group a.lut) l.loop-phase.phase (omega (arith, s.requires.room)) l.loop-phase.invariant.0 code, omega (arith, put.put-next.ensures.end), omega arith)
 
 pub shape_of-out : goal.shape_of-out
-shape_of-out c = c.loop-phase.invariant.3
+shape_of-out c = c.loop-phase.invariant.2
 
 pub returns : goal.returns
 unfolding digits_text

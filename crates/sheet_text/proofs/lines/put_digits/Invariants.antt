@@ -1,6 +1,6 @@
 use mathlib.Core.Path.{◌≡◌}
 use mathlib.Core.List.{List}
-use Prim.Native.Nat.{ℕ, ◌+◌, ◌-◌, ◌≤◌}
+use Prim.Native.Nat.{ℕ, ◌+◌}
 use lib.ListN.{length}
 use Rattle.waveform.specs.declared.GroupCodes.{GroupCodes}
 use Rattle.waveform.specs.Phases.{joined}
@@ -13,8 +13,5 @@ textIn g lut phase = natural 1 (code_at g lut phase)
 
 abbrev pub invariant-loop-phase : goal.invariant-loop-phase
 invariant-loop-phase l =
-    (buffer l.next l.out ≡ appended (buffer l.at l.initial.out) (joined l.phase (textIn l.group l.lut)))
-    × (l.next ≡ l.at + l.phase) × (l.phase ≤ 4) × (length l.out ≡ length l.initial.out)
-
-abbrev pub decreases-loop-phase : goal.decreases-loop-phase
-decreases-loop-phase l = 4 - l.phase
+    (buffer l.next l.out ≡ appended (buffer l.at l.initial.out) (joined l.phase (textIn l.group l.lut))) × (l.next ≡ l.at + l.phase)
+    × (length l.out ≡ length l.initial.out)

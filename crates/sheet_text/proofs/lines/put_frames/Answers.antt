@@ -10,22 +10,13 @@ use Rattle.sheet_text.proofs.lines.put_frames.Invariants.{textIn}
 use Rattle.sheet_text.proofs.lines.put_frames.Goals as goal
 
 pub loop-phase-init : goal.loop-phase-init
-loop-phase-init c = let s = c.args in (joined_none s.at s.out.now _, omega arith, omega arith, refl)
-
-pub bounds-group-phase : goal.bounds-group-phase
-bounds-group-phase c = omega arith
+loop-phase-init c = let s = c.args in (joined_none s.at s.out.now _, omega arith, refl)
 
 pub wide-frames-requires : goal.wide-frames-requires
 wide-frames-requires c = tt
 
 pub put-next-requires : goal.put-next-requires
 put-next-requires c = let s = c in record { narrow = omega arith; room = omega (arith, s.requires) }
-
-pub overflow_add-phase : goal.overflow_add-phase
-overflow_add-phase c = omega arith
-
-pub loop-phase-smaller : goal.loop-phase-smaller
-loop-phase-smaller c = omega arith
 
 pub loop-phase-preserved : goal.loop-phase-preserved
 loop-phase-preserved c =
@@ -34,15 +25,10 @@ loop-phase-preserved c =
     let l = wide in
     let s = l in
     let a = s.args in
-    let frames = put.put-next.ensures.text ∙ ap (λ (n : ℕ). appended (buffer l.loop-phase.next l.loop-phase.out) (natural 4 n)) wide.wide-frames.ensures in (
-      joined_more a.at a.out.now (textIn a.group) l.loop-phase.phase (omega (arith, s.requires)) l.loop-phase.invariant.0 frames,
-      omega (arith, put.put-next.ensures.end),
-      omega arith,
-      omega arith,
-    )
+    let frames = put.put-next.ensures.text ∙ ap (λ (n : ℕ). appended (buffer l.loop-phase.next l.loop-phase.out) (natural 4 n)) wide.wide-frames.ensures in (joined_more a.at a.out.now (textIn a.group) l.loop-phase.phase (omega (arith, s.requires)) l.loop-phase.invariant.0 frames, omega (arith, put.put-next.ensures.end), omega arith)
 
 pub shape_of-out : goal.shape_of-out
-shape_of-out c = c.loop-phase.invariant.3
+shape_of-out c = c.loop-phase.invariant.2
 
 pub returns : goal.returns
 unfolding frames_text

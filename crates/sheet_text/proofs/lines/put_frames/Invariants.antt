@@ -1,6 +1,6 @@
 use mathlib.Core.Path.{◌≡◌}
 use mathlib.Core.List.{List}
-use Prim.Native.Nat.{ℕ, ◌+◌, ◌-◌, ◌*◌, ◌≤◌}
+use Prim.Native.Nat.{ℕ, ◌+◌, ◌*◌}
 use lib.ListN.{length, get_or}
 use Rattle.waveform.specs.declared.GroupCodes.{GroupCodes}
 use Rattle.waveform.specs.Phases.{joined}
@@ -12,8 +12,5 @@ textIn g phase = natural 4 (get_or g.frames phase 0)
 
 abbrev pub invariant-loop-phase : goal.invariant-loop-phase
 invariant-loop-phase l =
-    (buffer l.next l.out ≡ appended (buffer l.at l.initial.out) (joined l.phase (textIn l.group)))
-    × (l.next ≡ l.at + 4 * l.phase) × (l.phase ≤ 4) × (length l.out ≡ length l.initial.out)
-
-abbrev pub decreases-loop-phase : goal.decreases-loop-phase
-decreases-loop-phase l = 4 - l.phase
+    (buffer l.next l.out ≡ appended (buffer l.at l.initial.out) (joined l.phase (textIn l.group))) × (l.next ≡ l.at + 4 * l.phase)
+    × (length l.out ≡ length l.initial.out)

@@ -10,36 +10,19 @@ use Rattle.sheet_text.proofs.lines.put_groups.Invariants.{textIn}
 use Rattle.sheet_text.proofs.lines.put_groups.Goals as goal
 
 pub loop-number-init : goal.loop-number-init
-loop-number-init c = (joined_none 0 c.args.out.now _, omega arith, omega arith, refl)
-
-pub offset_bounds-sheet-number : goal.offset_bounds-sheet-number
-offset_bounds-sheet-number c = omega arith
-
-pub bounds-sheet-number : goal.bounds-sheet-number
-bounds-sheet-number c = omega arith
+loop-number-init c = (joined_none 0 c.args.out.now _, omega arith, refl)
 
 pub put_group-at-requires : goal.put_group-at-requires
 put_group-at-requires c = omega (arith, c.requires)
-
-pub overflow_add-number : goal.overflow_add-number
-overflow_add-number c = omega arith
-
-pub loop-number-smaller : goal.loop-number-smaller
-loop-number-smaller c = omega arith
 
 pub loop-number-preserved : goal.loop-number-preserved
 loop-number-preserved c =
     let put = c in
     let l = put in
-    let a = l.args in (
-      joined_more 0 a.out.now (textIn a.sheet) l.loop-number.number (omega arith) l.loop-number.invariant.0 put.put_group-at.ensures.text,
-      omega (arith, put.put_group-at.ensures.end),
-      omega arith,
-      omega arith,
-    )
+    let a = l.args in (joined_more 0 a.out.now (textIn a.sheet) l.loop-number.number (omega arith) l.loop-number.invariant.0 put.put_group-at.ensures.text, omega (arith, put.put_group-at.ensures.end), omega arith)
 
 pub shape_of-out : goal.shape_of-out
-shape_of-out c = c.loop-number.invariant.3
+shape_of-out c = c.loop-number.invariant.2
 
 pub returns : goal.returns
 unfolding group_lines

@@ -1,6 +1,6 @@
 use mathlib.Core.Path.{◌≡◌}
 use mathlib.Core.List.{List}
-use Prim.Native.Nat.{ℕ, ◌*◌, ◌-◌, ◌≤◌}
+use Prim.Native.Nat.{ℕ, ◌*◌}
 use lib.ListN.{length}
 use Rattle.waveform.specs.Phases.{joined}
 use Rattle.column.specs.Columns.{buffer, appended}
@@ -14,8 +14,5 @@ textIn h number = group_line (group_at h number) number
 
 abbrev pub invariant-loop-number : goal.invariant-loop-number
 invariant-loop-number l =
-    (buffer l.at l.out ≡ appended (buffer 0 l.initial.out) (joined l.number (textIn l.sheet)))
-    × (l.at ≡ 52 * l.number) × (l.number ≤ 10) × (length l.out ≡ length l.initial.out)
-
-abbrev pub decreases-loop-number : goal.decreases-loop-number
-decreases-loop-number l = 10 - l.number
+    (buffer l.at l.out ≡ appended (buffer 0 l.initial.out) (joined l.number (textIn l.sheet))) × (l.at ≡ 52 * l.number)
+    × (length l.out ≡ length l.initial.out)

@@ -9,25 +9,16 @@ use Rattle.sheet_text.proofs.places.minus_at.Invariants.{isMinus}
 use Rattle.sheet_text.proofs.places.minus_at.Goals as goal
 
 pub loop-i-init : goal.loop-i-init
-loop-i-init c = (omega arith, any_none _)
-
-pub overflow_add-at : goal.overflow_add-at
-overflow_add-at c = omega arith
+loop-i-init c = any_none _
 
 pub byte_at-byte-requires : goal.byte_at-byte-requires
 byte_at-byte-requires c = tt
 
-pub overflow_add-i : goal.overflow_add-i
-overflow_add-i c = omega arith
-
-pub loop-i-smaller : goal.loop-i-smaller
-loop-i-smaller c = omega arith
-
 pub loop-i-preserved : goal.loop-i-preserved
-loop-i-preserved c = (omega arith, any_more _ _ _ _ c.loop-i.invariant.1 (ap (λ (b : ℕ). eqb b 45) c.byte_at-byte.ensures))
+loop-i-preserved c = any_more _ _ _ _ c.loop-i.invariant (ap (λ (b : ℕ). eqb b 45) c.byte_at-byte.ensures)
 
 pub returns : goal.returns
 returns c =
     let s = c.args in
     let n : c.loop-i.i ≡ 7 = omega arith in
-    c.loop-i.invariant.1 ∙ ap (any_of (isMinus s.text.now s.at)) n
+    c.loop-i.invariant ∙ ap (any_of (isMinus s.text.now s.at)) n

@@ -1,7 +1,7 @@
 use mathlib.Core.Path.{◌≡◌}
 use mathlib.Core.Bool.{Bool}
 use mathlib.Core.List.{List}
-use Prim.Native.Nat.{ℕ, ◌+◌, ◌-◌, ◌≤◌}
+use Prim.Native.Nat.{ℕ, ◌+◌}
 use lib.Dec.{eqb}
 use lib.ListN.{get_or}
 use Rattle.otp.specs.Search.{any_of}
@@ -11,7 +11,4 @@ abbrev pub isMinus : List ℕ → ℕ → ℕ → Bool
 isMinus text at i = eqb (get_or text (at + i) 0) 45
 
 abbrev pub invariant-loop-i : goal.invariant-loop-i
-invariant-loop-i l = (l.i ≤ 7) × (l.minus ≡ any_of (isMinus l.text l.at) l.i)
-
-abbrev pub decreases-loop-i : goal.decreases-loop-i
-decreases-loop-i l = 7 - l.i
+invariant-loop-i l = (l.minus ≡ any_of (isMinus l.text l.at) l.i)

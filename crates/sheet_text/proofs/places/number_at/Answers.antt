@@ -10,39 +10,27 @@ use Rattle.sheet_text.proofs.places.number_at.Invariants.{byteIn}
 use Rattle.sheet_text.proofs.places.number_at.Goals as goal
 
 pub loop-i-init : goal.loop-i-init
-loop-i-init c = (omega arith, (value_none _, omega arith))
-
-pub overflow_add-at : goal.overflow_add-at
-overflow_add-at c = omega arith
+loop-i-init c = (value_none _, omega arith)
 
 pub digit_at-digit-requires : goal.digit_at-digit-requires
 digit_at-digit-requires c = tt
 
 pub overflow_mul-n : goal.overflow_mul-n
-overflow_mul-n c = let l = c in omega (arith, bounded l.loop-i.i l.loop-i.n (omega arith) l.loop-i.invariant.1.1)
+overflow_mul-n c = let l = c in omega (arith, bounded l.loop-i.i l.loop-i.n (omega arith) l.loop-i.invariant.1)
 
 pub wide-requires : goal.wide-requires
 wide-requires c = tt
 
 pub overflow_add-n : goal.overflow_add-n
-overflow_add-n c = let l = c in omega (arith, bounded l.loop-i.i l.loop-i.n (omega arith) l.loop-i.invariant.1.1)
-
-pub overflow_add-i : goal.overflow_add-i
-overflow_add-i c = omega arith
-
-pub loop-i-smaller : goal.loop-i-smaller
-loop-i-smaller c = omega arith
+overflow_add-n c = let l = c in omega (arith, bounded l.loop-i.i l.loop-i.n (omega arith) l.loop-i.invariant.1)
 
 pub loop-i-preserved : goal.loop-i-preserved
 loop-i-preserved c =
     let l = c in
     let s = l.args in
     let d = c.wide.ensures ∙ c.digit_at-digit.ensures.digit in (
-      omega arith,
-      (
-        value_more l.loop-i.i (byteIn s.text.now s.at) l.loop-i.n _ l.loop-i.invariant.1.0 d,
-        bounded_more l.loop-i.i l.loop-i.n _ l.loop-i.invariant.1.1 (omega (arith, c.wide.ensures, c.digit_at-digit.ensures.small)),
-      ),
+      value_more l.loop-i.i (byteIn s.text.now s.at) l.loop-i.n _ l.loop-i.invariant.0 d,
+      bounded_more l.loop-i.i l.loop-i.n _ l.loop-i.invariant.1 (omega (arith, c.wide.ensures, c.digit_at-digit.ensures.small)),
     )
 
 pub returns : goal.returns
@@ -50,4 +38,4 @@ unfolding column_at
 returns c =
     let l = c in
     let s = l.args in
-    let e : l.loop-i.i ≡ s.width = omega arith in record { number = l.loop-i.invariant.1.0 ∙ ap (λ (k : ℕ). value_of (tab k (byteIn s.text.now s.at))) e; small = omega (arith, bounded l.loop-i.i l.loop-i.n (omega arith) l.loop-i.invariant.1.1) }
+    let e : l.loop-i.i ≡ s.width = omega arith in record { number = l.loop-i.invariant.0 ∙ ap (λ (k : ℕ). value_of (tab k (byteIn s.text.now s.at))) e; small = omega (arith, bounded l.loop-i.i l.loop-i.n (omega arith) l.loop-i.invariant.1) }

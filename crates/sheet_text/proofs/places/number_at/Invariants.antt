@@ -1,6 +1,6 @@
 use mathlib.Core.Path.{◌≡◌}
 use mathlib.Core.List.{List}
-use Prim.Native.Nat.{ℕ, ◌+◌, ◌-◌, ◌≤◌}
+use Prim.Native.Nat.{ℕ, ◌+◌}
 use lib.ListN.{get_or}
 use Rattle.numbers.specs.Lists.{tab}
 use Rattle.column.specs.Reading.{value_of}
@@ -11,7 +11,4 @@ abbrev pub byteIn : List ℕ → ℕ → ℕ → ℕ
 byteIn text at i = get_or text (at + i) 0
 
 abbrev pub invariant-loop-i : goal.invariant-loop-i
-invariant-loop-i l = (l.i ≤ l.width) × ((l.n ≡ value_of (tab l.i (byteIn l.text l.at))) × Bounded l.i l.n)
-
-abbrev pub decreases-loop-i : goal.decreases-loop-i
-decreases-loop-i l = l.width - l.i
+invariant-loop-i l = ((l.n ≡ value_of (tab l.i (byteIn l.text l.at))) × Bounded l.i l.n)

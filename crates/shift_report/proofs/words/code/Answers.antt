@@ -1,4 +1,5 @@
 -- `shift_report::words::code` meets its contract.
+use Rattle.std.specs.Prelude.{Some, None}
 use mathlib.Core.Path.{◌≡◌, sym, ◌∙◌}
 use mathlib.Core.Bool.{Bool, true, ◌&&◌}
 use mathlib.Core.List.{List}
@@ -9,18 +10,17 @@ use lib.ListN.{length, get_or}
 use borrow.Author.Tests.{eq-eqb, ne_eqb, ltb-true}
 use Rattle.numbers.specs.Choice.{pick}
 use Rattle.numbers.proofs.Cases.{left, right}
-use Rattle.shift_report.specs.declared.words.CodeWord.TheVariants.{Writes, NoCode}
 use Rattle.shift_report.specs.Words.{hex_value, code_word}
 use Rattle.shift_report.proofs.words.code.Goals.{Then-word-high}
 use Rattle.shift_report.proofs.words.code.Goals as goal
 
-none : (w : List ℕ) → (length w ≡ 4 → ⊥) → NoCode ≡ code_word w
+none : (w : List ℕ) → (length w ≡ 4 → ⊥) → None ≡ code_word w
 unfolding code_word
 none w h = rw (ne_eqb (length w) 4 h)
 
 -- four bytes, by the last two as the calls read them
 digits : (w : List ℕ) {h l : ℕ} → length w ≡ 4 → h ≡ hex_value (get_or w 2 0) → l ≡ hex_value (get_or w 3 0)
-    → code_word w ≡ pick (eqb (get_or w 0 0) 48 && eqb (get_or w 1 0) 120 && ltb h 16 && ltb l 16) (Writes (16 * h + l)) NoCode
+    → code_word w ≡ pick (eqb (get_or w 0 0) 48 && eqb (get_or w 1 0) 120 && ltb h 16 && ltb l 16) (Some (16 * h + l)) None
 unfolding code_word
 digits w e high low = rw (eq-eqb (length w) 4 e, sym high, sym low)
 

@@ -1,0 +1,2 @@
+-- The root of diagnostic_record's proofs.
+pub mod Numbers

@@ -1,0 +1,2 @@
+-- The laws of dispatch that belong to no one function.
+pub mod Bytes

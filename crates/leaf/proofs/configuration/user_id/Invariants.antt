@@ -1,9 +1,0 @@
--- `leaf::configuration::user_id` is safe and ends.
-use Rattle.std.proofs.Common.{◌-◌}
-use Rattle.leaf.proofs.configuration.user_id.Given as goal
-
-abbrev pub invariant-loop-i : goal.invariant-loop-i
-invariant-loop-i l = Unit {0}
-
-abbrev pub decreases-loop-i : goal.decreases-loop-i
-decreases-loop-i l = 10 - l.i

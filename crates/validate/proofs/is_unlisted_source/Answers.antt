@@ -1,8 +1,0 @@
--- `validate::is_unlisted_source` meets its contract.
-use mathlib.Core.Path.{ap, ◌∙◌}
-use mathlib.Core.Bool.{not}
-use Rattle.voltage.specs.Codes.{is_voltage}
-use Rattle.validate.proofs.is_unlisted_source.Goals as goal
-
-pub returns : goal.returns
-returns c = ap not (c.is_voltage.ensures ∙ ap is_voltage c.source_millivolts.ensures)
