@@ -11,8 +11,9 @@ ghost use Rattle.counts.specs.Counts.{picture};
 ghost use Rattle.world.specs.World.{with_buffers, lent};
 ghost use Rattle.activation.specs.Activation.{analog_off, clock_off, run_of, run_settled, with_luts, staged, Activatable, activated};
 
+use counts::Counts;
 use device::{Registers, Ssd1677, part};
-use diagnostic::{DiagnosticKind, Stage};
+use diagnostic::{DiagnosticKind, Log, Stage};
 use glass::RefreshKind;
 use panel::Display;
 use scan::{PlaneOption, Scan};
@@ -46,8 +47,7 @@ fn scan_of(regs: Registers) -> Scan
 }
 
 // 37 where 0x37 asks for the RAM ping-pong of display mode 2.
-fn warn(run: Run, log: &mut [u8], time: u64, two: bool, options: [u8; 10]) -> Run
-    requires { length log.old ≡ 16384 }
+fn warn(run: Run, log: &mut Log, time: u64, two: bool, options: [u8; 10]) -> Run
     ensures { step result log.new ≡ warned time two options (step run log.old) }
 {
     if two & (options[5] & 0x40 != 0) {
@@ -102,7 +102,7 @@ fn start_display(
     black_white: &[u8],
     red: &[u8],
     gates: &[u16],
-    log: &mut [u8],
+    log: &mut Log,
     state: Ssd1677,
     two: bool,
 ) -> Shown
@@ -139,7 +139,7 @@ fn show(
     black_white: &[u8],
     red: &[u8],
     gates: &[u16],
-    log: &mut [u8],
+    log: &mut Log,
     state: Ssd1677,
     wanted: bool,
     two: bool,
@@ -228,7 +228,7 @@ fn run_stages(
     black_white: &[u8],
     red: &[u8],
     gates: &[u16],
-    log: &mut [u8],
+    log: &mut Log,
     otp: &[u8],
 ) -> Ssd1677
     requires { Startable state.regs state.config.panel luts.old black_white.now red.now gates.now log.old }
@@ -270,11 +270,11 @@ pub fn activate(
     states: &mut [i64],
     luts: &mut [u8],
     pixels: &mut [u8],
-    counts: &mut [u32],
+    counts: &mut Counts,
     black_white: &[u8],
     red: &[u8],
     gates: &[u16],
-    log: &mut [u8],
+    log: &mut Log,
     otp: &[u8],
 ) -> Ssd1677
     requires { Activatable state states.old luts.old pixels.old counts.old black_white.now red.now gates.now log.old }

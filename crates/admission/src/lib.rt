@@ -7,8 +7,9 @@ ghost use Rattle.world.specs.World.{with_buffers, lent};
 ghost use Rattle.activation.specs.Activation.{Activatable};
 ghost use Rattle.begin.specs.Begin.{begun};
 
+use counts::Counts;
 use device::{Power, Ssd1677};
-use diagnostic::DiagnosticKind;
+use diagnostic::{DiagnosticKind, Log};
 
 // In reset, asleep and while BUSY is high a command is dropped, but for the status read, 0x2F, which a busy chip takes.
 pub fn begin(
@@ -16,11 +17,11 @@ pub fn begin(
     states: &mut [i64],
     luts: &mut [u8],
     pixels: &mut [u8],
-    counts: &mut [u32],
+    counts: &mut Counts,
     black_white: &[u8],
     red: &[u8],
     gates: &[u16],
-    log: &mut [u8],
+    log: &mut Log,
     otp: &[u8],
     command: u8,
 ) -> Ssd1677

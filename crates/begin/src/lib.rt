@@ -8,8 +8,9 @@ ghost use Rattle.world.specs.World.{with_buffers, lent, on, device_in_buffers};
 ghost use Rattle.activation.specs.Activation.{Activatable};
 ghost use Rattle.begin.specs.Begin.{command_made, run, command_by_kind};
 
+use counts::Counts;
 use device::{Active, Current, Kind, Ssd1677, part};
-use diagnostic::DiagnosticKind;
+use diagnostic::{DiagnosticKind, Log};
 
 // The command that later data belong to.
 fn make_current(state: Ssd1677, command: u8, kind: Kind) -> Ssd1677
@@ -34,11 +35,11 @@ fn start_command(
     states: &mut [i64],
     luts: &mut [u8],
     pixels: &mut [u8],
-    counts: &mut [u32],
+    counts: &mut Counts,
     black_white: &[u8],
     red: &[u8],
     gates: &[u16],
-    log: &mut [u8],
+    log: &mut Log,
     otp: &[u8],
     command: u8,
 ) -> Ssd1677
@@ -77,11 +78,11 @@ fn accept(
     states: &mut [i64],
     luts: &mut [u8],
     pixels: &mut [u8],
-    counts: &mut [u32],
+    counts: &mut Counts,
     black_white: &[u8],
     red: &[u8],
     gates: &[u16],
-    log: &mut [u8],
+    log: &mut Log,
     otp: &[u8],
     command: u8,
     kind: Kind,
@@ -111,11 +112,11 @@ pub fn decode(
     states: &mut [i64],
     luts: &mut [u8],
     pixels: &mut [u8],
-    counts: &mut [u32],
+    counts: &mut Counts,
     black_white: &[u8],
     red: &[u8],
     gates: &[u16],
-    log: &mut [u8],
+    log: &mut Log,
     otp: &[u8],
     command: u8,
 ) -> Ssd1677

@@ -5,7 +5,7 @@ ghost use Rattle.world.specs.World.{with_log};
 ghost use Rattle.chip.specs.Close.{expected_of, missing, reserved_unreported, closed};
 
 use device::{Current, Kind, Params, Ssd1677, part};
-use diagnostic::{DiagnosticKind, Journal};
+use diagnostic::{DiagnosticKind, Journal, Log};
 
 // The fewest parameters that a command of the kind takes.
 fn expected(kind: Kind) -> u16
@@ -24,8 +24,7 @@ fn expected(kind: Kind) -> u16
 }
 
 // 26 where the current command lacks parameters.
-fn report_missing(journal: Journal, log: &mut [u8], current: Current, time: u64) -> Journal
-    requires { length log.old ≡ 16384 }
+fn report_missing(journal: Journal, log: &mut Log, current: Current, time: u64) -> Journal
     ensures { entries result log.new ≡ missing time (entries journal log.old) current }
 {
     match current {
@@ -63,13 +62,12 @@ fn fresh_command(journal: Journal) -> Journal
     next
 }
 
-pub fn close_command(state: Ssd1677, log: &mut [u8]) -> Ssd1677
-    requires { length log.old ≡ 16384 }
+pub fn close_command(state: Ssd1677, log: &mut Log) -> Ssd1677
     ensures { with_log result log.new ≡ closed (with_log state log.old) }
 {
     let old = state.bus;
     let current = old.current;
-    let reported = report_missing(state.journal, &mut log[..], current, state.now);
+    let reported = report_missing(state.journal, log, current, state.now);
     let journal = fresh_command(reported);
     let noted = part::set_journal(state, journal);
     let bus = part::set_current(old, Current::Ignoring);

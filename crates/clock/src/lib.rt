@@ -7,6 +7,7 @@ ghost use Rattle.device.specs.Parts.{with_now};
 ghost use Rattle.world.specs.World.{with_glass};
 ghost use Rattle.clock.specs.Advance.{Ready, stopped, ended, is_quiet, advanced};
 
+use counts::Counts;
 use device::{Ssd1677, part};
 use panel::Display;
 
@@ -25,7 +26,7 @@ fn end_display(
     states: &mut [i64],
     luts: &[u8],
     pixels: &mut [u8],
-    counts: &mut [u32],
+    counts: &mut Counts,
 ) -> Ssd1677
     requires { Ready state states.old luts.now pixels.old counts.old }
     ensures { with_glass result states.new (picture pixels.new counts.new) ≡ ended luts.now (with_glass state states.old (picture pixels.old counts.old)) }
@@ -47,7 +48,7 @@ fn end_display(
             &mut states[..],
             luts,
             &mut pixels[..],
-            &mut counts[..],
+            counts,
         );
         let off = stop(display);
         return part::set_glass(state, finished, off);
@@ -80,7 +81,7 @@ pub fn advance(
     states: &mut [i64],
     luts: &[u8],
     pixels: &mut [u8],
-    counts: &mut [u32],
+    counts: &mut Counts,
     time: u64,
 ) -> Ssd1677
     requires { Ready state states.old luts.now pixels.old counts.old }
@@ -90,13 +91,7 @@ pub fn advance(
     if is_quiet(moved) {
         return moved;
     }
-    let shown = end_display(
-        moved,
-        &mut states[..],
-        luts,
-        &mut pixels[..],
-        &mut counts[..],
-    );
+    let shown = end_display(moved, &mut states[..], luts, &mut pixels[..], counts);
     let bus = moment::lower_busy(shown.bus, shown.now);
     part::set_bus(shown, bus)
 }

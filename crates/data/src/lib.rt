@@ -14,7 +14,7 @@ ghost use Rattle.data.specs.Stream.{left_as, is_streamed, streamed};
 ghost use Rattle.data.specs.Data.{one_byte_more, current_set, writing_on, surplus, at_most, counter_stepped, out_of_range, plane_for, unasked, data_taken};
 
 use device::{Active, Bus, Current, Kind, Params, Power, Ssd1677, part};
-use diagnostic::DiagnosticKind;
+use diagnostic::{DiagnosticKind, Log};
 use ram::Counter;
 
 // What a byte of RAM data leaves.
@@ -91,8 +91,7 @@ fn go_on(state: Ssd1677, active: Active, extra: bool, range: bool) -> Ssd1677
 }
 
 // 25, unless the command has reported it.
-fn report_extra(state: Ssd1677, log: &mut [u8], active: Active) -> Ssd1677
-    requires { length log.old ≡ 16384 }
+fn report_extra(state: Ssd1677, log: &mut Log, active: Active) -> Ssd1677
     ensures { with_log result log.new ≡ pick active.extra_reported (with_log state log.old) (logged (ExtraData active.command) (with_log state log.old)) }
 {
     if active.extra_reported {
@@ -103,8 +102,7 @@ fn report_extra(state: Ssd1677, log: &mut [u8], active: Active) -> Ssd1677
 }
 
 // More bytes than the command takes, whatever the planes.
-fn take_surplus(state: Ssd1677, log: &mut [u8], active: Active) -> Ssd1677
-    requires { length log.old ≡ 16384 }
+fn take_surplus(state: Ssd1677, log: &mut Log, active: Active) -> Ssd1677
     ensures { (b d : List ℕ) → with_ram result b d log.new ≡ surplus active (with_ram state b d log.old) }
 {
     let noted = report_extra(state, log, active);
@@ -116,12 +114,11 @@ fn up_to(
     state: Ssd1677,
     black_white: &mut [u8],
     red: &mut [u8],
-    log: &mut [u8],
+    log: &mut Log,
     active: Active,
     most: u16,
     byte: u8,
 ) -> Ssd1677
-    requires { length log.old ≡ 16384 }
     ensures { with_ram result black_white.new red.new log.new ≡ at_most most byte active (with_ram state black_white.old red.old log.old) }
 {
     let index = active.received;
@@ -147,8 +144,7 @@ fn step(state: Ssd1677, active: Active, range: bool) -> Ssd1677
 }
 
 // 31, unless the command has reported it.
-pub fn report_range(state: Ssd1677, log: &mut [u8], active: Active) -> Ssd1677
-    requires { length log.old ≡ 16384 }
+pub fn report_range(state: Ssd1677, log: &mut Log, active: Active) -> Ssd1677
     ensures { with_log result log.new ≡ out_of_range active (with_log state log.old) }
 {
     if active.range_reported {
@@ -168,8 +164,7 @@ pub fn report_range(state: Ssd1677, log: &mut [u8], active: Active) -> Ssd1677
 }
 
 // Past the RAM the counter steps all the same.
-fn step_outside(state: Ssd1677, log: &mut [u8], active: Active) -> Ssd1677
-    requires { length log.old ≡ 16384 }
+fn step_outside(state: Ssd1677, log: &mut Log, active: Active) -> Ssd1677
     ensures { (b d : List ℕ) → with_ram result b d log.new ≡ writing_on active active.extra_reported true (on device_in_ram counter_stepped (on log_in_ram (out_of_range active) (with_ram state b d log.old))) }
 {
     let noted = report_range(state, log, active);
@@ -189,8 +184,7 @@ fn put(black_white: &mut [u8], red: &mut [u8], command: u8, at: Counter, byte: u
 }
 
 // 24 for a byte with no command before it, of a chip that runs, whatever the planes.
-fn report_unasked(state: Ssd1677, log: &mut [u8], byte: u8) -> Ssd1677
-    requires { length log.old ≡ 16384 }
+fn report_unasked(state: Ssd1677, log: &mut Log, byte: u8) -> Ssd1677
     ensures { (b d : List ℕ) → with_ram result b d log.new ≡ unasked byte (with_ram state b d log.old) state.bus.power }
 {
     let old = state.bus;
@@ -207,8 +201,7 @@ fn report_unasked(state: Ssd1677, log: &mut [u8], byte: u8) -> Ssd1677
 }
 
 // No command is current, and later bytes are ignored.
-fn take_unasked(state: Ssd1677, log: &mut [u8], byte: u8) -> Ssd1677
-    requires { length log.old ≡ 16384 }
+fn take_unasked(state: Ssd1677, log: &mut Log, byte: u8) -> Ssd1677
     ensures { (b d : List ℕ) → with_ram result b d log.new ≡ data_taken byte (with_ram state b d log.old) current.Idle }
 {
     let noted = report_unasked(state, log, byte);
@@ -255,10 +248,9 @@ pub fn write_other(
     state: Ssd1677,
     black_white: &mut [u8],
     red: &mut [u8],
-    log: &mut [u8],
+    log: &mut Log,
     byte: u8,
 ) -> Ssd1677
-    requires log_len { length log.old ≡ 16384 }
     requires current_value { is_streamed state black_white.old red.old state.bus.current ≡ false }
     ensures { with_ram result black_white.new red.new log.new ≡ data_taken byte (with_ram state black_white.old red.old log.old) state.bus.current }
 {
@@ -283,10 +275,9 @@ pub fn write(
     state: Ssd1677,
     black_white: &mut [u8],
     red: &mut [u8],
-    log: &mut [u8],
+    log: &mut Log,
     byte: u8,
 ) -> Ssd1677
-    requires { length log.old ≡ 16384 }
     ensures { with_ram result black_white.new red.new log.new ≡ data_taken byte (with_ram state black_white.old red.old log.old) state.bus.current }
 {
     let step = stream(state, black_white, red, byte);

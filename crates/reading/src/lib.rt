@@ -9,7 +9,7 @@ ghost use Rattle.data.specs.Data.{current_set, counter_stepped};
 ghost use Rattle.reading.specs.Reading.{with_byte, one_read_more, nothing_read, register_read, chosen, ram_found, ram_read, byte_read, by_current, read_taken};
 
 use device::{Active, Current, Kind, Power, Ssd1677, part};
-use diagnostic::DiagnosticKind;
+use diagnostic::{DiagnosticKind, Log};
 
 // The state that a read leaves, and the byte: none when the chip drives nothing.
 #[derive(Clone, Copy)]
@@ -40,8 +40,7 @@ fn go_on(state: Ssd1677, active: Active, range: bool, nothing: bool) -> Ssd1677
 }
 
 // 38, unless the command has reported it; nothing is driven.
-fn read_nothing(state: Ssd1677, log: &mut [u8], active: Active) -> Reading
-    requires { length log.old ≡ 16384 }
+fn read_nothing(state: Ssd1677, log: &mut Log, active: Active) -> Reading
     ensures { with_byte (with_log result.state log.new) result.byte ≡ nothing_read active (with_log state log.old) }
 {
     let range = active.range_reported;
@@ -83,8 +82,7 @@ fn step(state: Ssd1677) -> Ssd1677
 }
 
 // What the RAM has at the counter, which steps in either case.
-fn found(state: Ssd1677, log: &mut [u8], active: Active, byte: Option<u8>) -> Reading
-    requires { length log.old ≡ 16384 }
+fn found(state: Ssd1677, log: &mut Log, active: Active, byte: Option<u8>) -> Reading
     ensures { with_byte (with_log result.state log.new) result.byte ≡ ram_found active (with_log state log.old) byte }
 {
     let nothing = active.nothing_reported;
@@ -122,10 +120,9 @@ fn read_ram(
     state: Ssd1677,
     black_white: &[u8],
     red: &[u8],
-    log: &mut [u8],
+    log: &mut Log,
     active: Active,
 ) -> Reading
-    requires { length log.old ≡ 16384 }
     ensures { with_byte (with_log result.state log.new) result.byte ≡ ram_read black_white.now red.now active (with_log state log.old) }
 {
     if active.read == 0 {
@@ -144,10 +141,9 @@ fn read_byte(
     state: Ssd1677,
     black_white: &[u8],
     red: &[u8],
-    log: &mut [u8],
+    log: &mut Log,
     active: Active,
 ) -> Reading
-    requires { length log.old ≡ 16384 }
     ensures { with_byte (with_log result.state log.new) result.byte ≡ byte_read black_white.now red.now active (with_log state log.old) }
 {
     if active.command == 0x27 {
@@ -157,8 +153,7 @@ fn read_byte(
 }
 
 // By the command that the byte belongs to.
-fn of_current(state: Ssd1677, black_white: &[u8], red: &[u8], log: &mut [u8]) -> Reading
-    requires { length log.old ≡ 16384 }
+fn of_current(state: Ssd1677, black_white: &[u8], red: &[u8], log: &mut Log) -> Reading
     ensures { with_byte (with_log result.state log.new) result.byte ≡ by_current black_white.now red.now (with_log state log.old) state.bus.current }
 {
     let bus = state.bus;
@@ -180,8 +175,7 @@ fn of_current(state: Ssd1677, black_white: &[u8], red: &[u8], log: &mut [u8]) ->
 }
 
 // A byte with D/C# high, read by the MCU; none asleep, in reset, or with no active command.
-pub fn read(state: Ssd1677, black_white: &[u8], red: &[u8], log: &mut [u8]) -> Reading
-    requires { length log.old ≡ 16384 }
+pub fn read(state: Ssd1677, black_white: &[u8], red: &[u8], log: &mut Log) -> Reading
     ensures { with_byte (with_log result.state log.new) result.byte ≡ read_taken black_white.now red.now (with_log state log.old) state.bus.power }
 {
     let bus = state.bus;

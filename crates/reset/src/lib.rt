@@ -7,8 +7,9 @@ ghost use Rattle.world.specs.World.{with_glass, with_glass_log};
 ghost use Rattle.clock.specs.Advance.{Ready};
 ghost use Rattle.reset.specs.Reset.{restored, display_cut, cut, in_reset, asserted, released, by_line};
 
+use counts::Counts;
 use device::{Bus, Current, Power, Ssd1677, Status, part};
-use diagnostic::DiagnosticKind;
+use diagnostic::{DiagnosticKind, Log};
 
 // The registers at their reset values, the supplies off and the status bits cleared; the RAM stays.
 pub fn restore_registers(state: Ssd1677) -> Ssd1677
@@ -30,7 +31,7 @@ fn finish_cut(
     states: &mut [i64],
     luts: &[u8],
     pixels: &mut [u8],
-    counts: &mut [u32],
+    counts: &mut Counts,
 ) -> Ssd1677
     requires { Ready state states.old luts.now pixels.old counts.old }
     ensures { with_glass result states.new (picture pixels.new counts.new) ≡ display_cut luts.now (with_glass state states.old (picture pixels.old counts.old)) }
@@ -52,7 +53,7 @@ fn finish_cut(
         &mut states[..],
         luts,
         &mut pixels[..],
-        &mut counts[..],
+        counts,
     );
     let off = clock::stop(display);
     part::set_glass(state, finished, off)
@@ -65,10 +66,10 @@ fn cut_display(
     states: &mut [i64],
     luts: &[u8],
     pixels: &mut [u8],
-    counts: &mut [u32],
-    log: &mut [u8],
+    counts: &mut Counts,
+    log: &mut Log,
 ) -> Ssd1677
-    requires { Ready state states.old luts.now pixels.old counts.old × (length log.old ≡ 16384) }
+    requires { Ready state states.old luts.now pixels.old counts.old }
     ensures { with_glass_log result states.new (picture pixels.new counts.new) log.new ≡ cut luts.now (with_glass_log state states.old (picture pixels.old counts.old) log.old) }
 {
     let display = state.display;
@@ -98,10 +99,10 @@ fn assert_reset(
     states: &mut [i64],
     luts: &[u8],
     pixels: &mut [u8],
-    counts: &mut [u32],
-    log: &mut [u8],
+    counts: &mut Counts,
+    log: &mut Log,
 ) -> Ssd1677
-    requires { Ready state states.old luts.now pixels.old counts.old × (length log.old ≡ 16384) }
+    requires { Ready state states.old luts.now pixels.old counts.old }
     ensures { with_glass_log result states.new (picture pixels.new counts.new) log.new ≡ asserted luts.now (with_glass_log state states.old (picture pixels.old counts.old) log.old) }
 {
     let ended = chip::close::close_command(state, log);
@@ -133,11 +134,11 @@ pub fn set_line(
     states: &mut [i64],
     luts: &[u8],
     pixels: &mut [u8],
-    counts: &mut [u32],
-    log: &mut [u8],
+    counts: &mut Counts,
+    log: &mut Log,
     low: bool,
 ) -> Ssd1677
-    requires { Ready state states.old luts.now pixels.old counts.old × (length log.old ≡ 16384) }
+    requires { Ready state states.old luts.now pixels.old counts.old }
     ensures { with_glass_log result states.new (picture pixels.new counts.new) log.new ≡ by_line luts.now low (with_glass_log state states.old (picture pixels.old counts.old) log.old) state.bus.power }
 {
     let bus = state.bus;
