@@ -25,7 +25,7 @@ pub(crate) fn frames(setting: &[u8; 112], group: usize, phase: usize) -> u64
     requires { (group < 10) × (phase < 4) }
     ensures { result ≡ get_or (group_codes_of setting.now group).frames phase 0 }
 {
-    numbers::wide(setting[50 + 5 * group + phase])
+    u64::from(setting[50 + 5 * group + phase])
 }
 
 fn frame_ns(setting: &[u8; 112], frame_period: &[u64; 16], group: usize) -> u64

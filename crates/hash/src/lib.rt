@@ -10,7 +10,7 @@ fn step(h: u64, byte: u8) -> u64
     requires { h < 4294967291 }
     ensures { result ≡ step_of h byte }
 {
-    (h * 16777619 + numbers::wide(byte) + 1) % 4294967291
+    (h * 16777619 + u64::from(byte) + 1) % 4294967291
 }
 
 pub fn of_bytes(bytes: &[u8]) -> u64

@@ -1,11 +1,9 @@
 // Whole numbers of fixed width that stop at their ends, as the reference's saturating_add, saturating_mul, saturating_neg, clamp, min and max do.
 #![tactic(auto)]
 
-ghost use Rattle.std.specs.Prelude.{◌≡◌, ◌+◌, ◌-◌, ◌*◌, ◌%◌, min, max, pos, ◌+ℤ◌, ◌*ℤ◌, neg_ℤ, nat_abs};
+ghost use Rattle.std.specs.Prelude.{◌≡◌, ◌%◌, min, pos, ◌+ℤ◌, ◌*ℤ◌, neg_ℤ, nat_abs};
 ghost use Rattle.std.specs.Int.Signed.{lt_z};
-ghost use Rattle.numbers.specs.Saturation.{largest, clamp_z, sat_z};
-
-const LARGEST: u64 = 18446744073709551615;
+ghost use Rattle.numbers.specs.Saturation.{clamp_z, sat_z};
 
 const LARGEST_I64: u64 = 9223372036854775807;
 
@@ -34,46 +32,6 @@ pub fn min_u64(a: u64, b: u64) -> u64
     ensures { result ≡ min a b }
 {
     if a < b { a } else { b }
-}
-
-pub fn max_u64(a: u64, b: u64) -> u64
-    ensures { result ≡ max a b }
-{
-    if a < b { b } else { a }
-}
-
-pub fn saturating_add_u16(a: u16, b: u16) -> u16
-    ensures { result ≡ min (a + b) (largest 16) }
-{
-    if b <= 65535 - a { a + b } else { 65535 }
-}
-
-pub fn saturating_add_u64(a: u64, b: u64) -> u64
-    ensures { result ≡ min (a + b) (largest 64) }
-{
-    if b <= LARGEST - a { a + b } else { LARGEST }
-}
-
-// ℕ's difference stops at 0 too.
-pub fn saturating_sub_u64(a: u64, b: u64) -> u64
-    ensures { result ≡ a - b }
-{
-    if a < b { 0 } else { a - b }
-}
-
-// Two factors of 32 bits, the usual case, take no division.
-pub fn saturating_mul_u64(a: u64, b: u64) -> u64
-    ensures { result ≡ min (a * b) (largest 64) }
-{
-    if a < 4294967296 {
-        if b < 4294967296 {
-            return a * b;
-        }
-    }
-    if b == 0 {
-        return 0;
-    }
-    if LARGEST / b < a { LARGEST } else { a * b }
 }
 
 pub fn clamp_i64(x: i64, lo: i64, hi: i64) -> i64
@@ -135,7 +93,9 @@ pub fn saturating_neg_i64(a: i64) -> i64
 pub fn saturating_mul_i64(a: i64, b: i64) -> i64
     ensures { result ≡ sat_z (a *ℤ b) }
 {
-    let product = saturating_mul_u64(magnitude_i64(a), magnitude_i64(b));
+    let first = magnitude_i64(a);
+    let second = magnitude_i64(b);
+    let product = first.saturating_mul(second);
     if a < 0 {
         if b < 0 {
             to_i64(product)

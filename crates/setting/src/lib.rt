@@ -12,7 +12,7 @@ use waveform::{Group, GroupCodes, Levels, Waveform};
 fn spread(byte: u8) -> u64
     ensures { result ≡ codes_in_word byte }
 {
-    ((numbers::wide(byte) * 0x4010_0401) >> 6) & 0x0303_0303
+    ((u64::from(byte) * 0x4010_0401) >> 6) & 0x0303_0303
 }
 
 // The five LUTs' codes of a group. Literals and no loops, here and of the ten groups, and the codes as the bytes of a word: the

@@ -2,13 +2,13 @@
 #![tactic(auto)]
 
 ghost use Rattle.std.specs.Prelude.{◌≡◌, ◌<◌, ◌≤◌, min, nat_abs, ◌-ℤ◌, ◌≤ℤ◌, length};
+ghost use Rattle.numbers.specs.Choice.{pick};
 ghost use Rattle.numbers.specs.Saturation.{largest};
 ghost use Rattle.config.specs.Answer.{first_of};
 ghost use Rattle.voltage.specs.Codes.{is_voltage};
-ghost use Rattle.waveform.specs.Setting.{waveform_of};
 ghost use Rattle.waveform.specs.Voltages.{or_zero, Listable};
 ghost use Rattle.voltage_shift.specs.declared.ShiftError.TheVariants.{Parameters};
-ghost use Rattle.voltage_shift.specs.Shift.{driving_millivolts, source_uses, vcom_uses, uses_one, changing_frames, group_shift, shift_of, gray_steps};
+ghost use Rattle.voltage_shift.specs.Shift.{driving_millivolts, source_uses, vcom_uses, exactly_one, group_shift, shift_of, gray_steps};
 ghost use Rattle.voltage_shift.specs.Bounds.{optics_swing, setting_tests, change_of, lut_shift, lut_shifts, shifts_for, shifting_unless, bounds_of, shift_answer};
 
 use config::ConfigError;
@@ -129,33 +129,13 @@ fn vcom_uses(driving: DrivingVoltage, code: u8) -> bool
     }
 }
 
-// Exactly one of the source of a LUT and VCOM uses the voltage.
-fn uses_one(driving: DrivingVoltage, group: Group, lut: usize, phase: usize) -> bool
-    requires { (lut < 4) × (phase < 4) }
-    ensures { result ≡ uses_one driving group lut phase }
-{
-    let vcom = vcom_uses(driving, group.codes[16 + phase]);
-    if source_uses(driving, group.codes[4 * lut + phase]) {
-        return !vcom;
-    }
-    vcom
-}
-
-// A phase's frames, with their bound.
-fn count(frames: u8) -> u64
-    ensures { (result ≡ frames) × (result < 256) }
-{
-    frames as u64
-}
-
-// The frames of a phase, if it counts.
-fn changing_frames(driving: DrivingVoltage, group: Group, lut: usize, phase: usize) -> u64
-    requires { (lut < 4) × (phase < 4) }
-    ensures is { result ≡ changing_frames driving group lut phase }
+// The frames of a phase, if it counts: exactly one of the source of a LUT and VCOM uses the voltage.
+fn changing_frames(driving: DrivingVoltage, source: u8, vcom: u8, frames: u8) -> u64
+    ensures is { result ≡ pick (exactly_one (source_uses driving source) (vcom_uses driving vcom)) frames 0 }
     ensures few { result < 256 }
 {
-    if uses_one(driving, group, lut, phase) {
-        return count(group.frames[phase]);
+    if source_uses(driving, source) != vcom_uses(driving, vcom) {
+        return u64::from(frames);
     }
     0
 }
@@ -165,14 +145,16 @@ fn group_shift(change: u64, driving: DrivingVoltage, group: Group, lut: usize) -
     requires { lut < 4 }
     ensures { result ≡ min (group_shift change driving group lut) (largest 64) }
 {
-    let first = changing_frames(driving, group, lut, 0);
-    let second = changing_frames(driving, group, lut, 1);
-    let third = changing_frames(driving, group, lut, 2);
-    let fourth = changing_frames(driving, group, lut, 3);
+    let codes = group.codes;
+    let [a, b, c, d] = group.frames;
+    let first = changing_frames(driving, codes[4 * lut], codes[16], a);
+    let second = changing_frames(driving, codes[4 * lut + 1], codes[17], b);
+    let third = changing_frames(driving, codes[4 * lut + 2], codes[18], c);
+    let fourth = changing_frames(driving, codes[4 * lut + 3], codes[19], d);
     let frames = first + second + third + fourth;
-    let runs = numbers::saturating_mul_u64(frames, group.repeats as u64);
-    let drive = numbers::saturating_mul_u64(runs, change);
-    numbers::saturating_mul_u64(drive, group.frame_ns)
+    let runs = frames.saturating_mul(u64::from(group.repeats));
+    let drive = runs.saturating_mul(change);
+    drive.saturating_mul(group.frame_ns)
 }
 
 // Ten groups.
@@ -181,9 +163,8 @@ fn waveform_shift(change: u64, driving: DrivingVoltage, waveform: Waveform, lut:
     ensures { result ≡ min (shift_of change driving waveform.groups lut) (largest 64) }
 {
     let mut total: u64 = 0;
-    for k in 0..10 {
-        let group = waveform.groups[k];
-        total = numbers::saturating_add_u64(total, group_shift(change, driving, group, lut));
+    for group in waveform.groups {
+        total = total.saturating_add(group_shift(change, driving, group, lut));
     }
     total
 }
@@ -212,7 +193,7 @@ fn lut_shift(
     requires lut { lut < 4 }
     ensures { result ≡ lut_shift swing change driving waveform.groups lut }
 {
-    let bound = numbers::min_u64(waveform_shift(change, driving, waveform, lut), swing);
+    let bound = waveform_shift(change, driving, waveform, lut).min(swing);
     let steps = gray_steps(bound, swing);
     Shift { bound, steps }
 }
@@ -233,19 +214,10 @@ fn lut_shifts(swing: u64, change: u64, driving: DrivingVoltage, waveform: Wavefo
     }
 }
 
-fn waveform_of(setting: &[u8], frame_period: [u64; 16]) -> Waveform
-    requires { length setting.now ≡ 112 }
-    ensures { result ≡ waveform_of setting.now frame_period }
-{
-    let mut copied = [0u8; 112];
-    byte_copy::copy(setting, &mut copied);
-    setting::from_setting(&copied, &frame_period)
-}
-
 fn swing_of(optics: Optics) -> u64
     ensures { result ≡ optics_swing optics }
 {
-    numbers::min_u64(optics.full_swing, LARGEST_SWING)
+    optics.full_swing.min(LARGEST_SWING)
 }
 
 // 11, 91, and the bounds.
@@ -260,15 +232,14 @@ fn setting_bounds(
     requires { 1 ≤ optics.full_swing }
     ensures { shift_answer result ≡ shifting_unless (first_of (setting_tests setting.now driving before after)) (shifts_for optics frame_period setting.now driving before after) }
 {
-    let whole = setting.len() == SETTING_BYTES;
     let listed = is_listed(driving, before) & is_listed(driving, after);
-    if !whole {
+    let Ok(setting) = <&[u8; SETTING_BYTES]>::try_from(setting) else {
         return Err(ShiftError::NotASetting);
-    }
+    };
     if !listed {
         return Err(ShiftError::UnlistedCode);
     }
-    let waveform = waveform_of(setting, frame_period);
+    let waveform = setting::from_setting(setting, &frame_period);
     let millivolts = change(driving, before, after);
     let swing = swing_of(optics);
     Ok(lut_shifts(swing, millivolts, driving, waveform))

@@ -44,7 +44,7 @@ pub fn phase_of(driving: Driving, group: Group, phase: usize) -> Phase
     let vcom = levels.vcom_swing(codes[16 + phase]);
     let millivolts = source - vcom;
     Phase {
-        frames: numbers::wide(group.frames[phase]),
+        frames: u64::from(group.frames[phase]),
         frame_ns: group.frame_ns,
         millivolts,
     }
@@ -87,7 +87,7 @@ pub(crate) fn lasting_of(driving: Driving, group: Group, at: usize) -> Lasting
 {
     let step = step_of(driving, group, at);
     let phase = step.phase;
-    let length = numbers::saturating_mul_u64(phase.frames, phase.frame_ns);
+    let length = phase.frames.saturating_mul(phase.frame_ns);
     Lasting { step, length }
 }
 

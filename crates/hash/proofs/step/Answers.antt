@@ -6,4 +6,4 @@ use Rattle.hash.proofs.step.Goals as goal
 
 pub returns : goal.returns
 unfolding step_of
-returns c = ap (λ (b : ℕ). (c.args.h * 16777619 + b + 1) % 4294967291) c.wide.ensures
+returns c = ap (λ (b : ℕ). (c.args.h * 16777619 + b + 1) % 4294967291) c.from.ensures

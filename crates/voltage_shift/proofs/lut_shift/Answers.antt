@@ -11,7 +11,7 @@ bound n fits a b = omega arith
 
 pub returns : goal.returns
 returns c =
-    let m = c.min_u64-bound in
+    let m = c.min-bound in
     let w = c.waveform_shift in
     let a = c.args in
     let e = bound (shift_of a.change a.driving a.waveform.groups a.lut) (omega arith) w.ensures m.ensures in

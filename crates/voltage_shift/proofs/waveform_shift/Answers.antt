@@ -9,22 +9,22 @@ use Rattle.voltage_shift.proofs.Sums.{sum_capped}
 use Rattle.voltage_shift.proofs.waveform_shift.Invariants.{shiftIn}
 use Rattle.voltage_shift.proofs.waveform_shift.Goals as goal
 
-pub loop-k-init : goal.loop-k-init
+pub loop-group-init : goal.loop-group-init
 unfolding sum
-loop-k-init c = refl
+loop-group-init c = refl
 
-pub loop-k-preserved : goal.loop-k-preserved
+pub loop-group-preserved : goal.loop-group-preserved
 unfolding sum
-loop-k-preserved c = let m = c in
+loop-group-preserved c = let m = c in
     let a = m.args in
-    let f = shiftIn a.change a.driving a.lut a.waveform.groups in c.saturating_add_u64-total.ensures
-    ∙ (λ i. min (m.loop-k.invariant i + c.group_shift.ensures i) (largest 64))
-    ∙ sum_capped (sum m.loop-k.k f) (f m.loop-k.k) (largest 64)
-    ∙ ap (λ (n : ℕ). min (sum n f) (largest 64)) (sym (add-one m.loop-k.k))
+    let f = shiftIn a.change a.driving a.lut a.waveform.groups in c.saturating_add-total.ensures
+    ∙ (λ i. min (m.loop-group.invariant i + c.group_shift.ensures i) (largest 64))
+    ∙ sum_capped (sum m.loop-group.group-index f) (f m.loop-group.group-index) (largest 64)
+    ∙ ap (λ (n : ℕ). min (sum n f) (largest 64)) (sym (add-one m.loop-group.group-index))
 
 pub returns : goal.returns
 unfolding shift_of
 returns c =
     let a = c.args in
-    let e : c.loop-k.k ≡ 10 = omega arith in
-    c.loop-k.invariant ∙ ap (λ (n : ℕ). min (sum n (shiftIn a.change a.driving a.lut a.waveform.groups)) (largest 64)) e
+    let e : c.loop-group.group-index ≡ 10 = omega arith in
+    c.loop-group.invariant ∙ ap (λ (n : ℕ). min (sum n (shiftIn a.change a.driving a.lut a.waveform.groups)) (largest 64)) e

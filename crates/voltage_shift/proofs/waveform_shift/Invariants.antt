@@ -12,5 +12,5 @@ use Rattle.voltage_shift.proofs.waveform_shift.Given as goal
 abbrev pub shiftIn : ℕ → DrivingVoltage → ℕ → List Group → ℕ → ℕ
 shiftIn change v lut groups k = group_shift change v (get_or groups k no_group) lut
 
-abbrev pub invariant-loop-k : goal.invariant-loop-k
-invariant-loop-k l = (l.total ≡ min (sum l.k (shiftIn l.change l.driving l.lut l.waveform.groups)) (largest 64))
+abbrev pub invariant-loop-group : goal.invariant-loop-group
+invariant-loop-group l = (l.total ≡ min (sum l.group-index (shiftIn l.change l.driving l.lut l.group-items)) (largest 64))

@@ -32,7 +32,7 @@ unfolding phase_of
 returns c = let v = c in
     let s = (start c.before.before).args in
     λ i. record {
-      frames = c.wide.ensures i;
+      frames = c.from.ensures i;
       frame_ns = s.group.frame_ns;
       millivolts = (back (overflow_sub-millivolts c.before.before) ∙ (λ j. source_is c.before.before j -ℤ vcom_is c.before.before j)) i;
     }
