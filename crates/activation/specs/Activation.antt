@@ -73,8 +73,8 @@ module _ (k : Lent) (s : WithLuts) where
   staged = after (control_of s.device.regs.update_control_2) (during (control_of s.device.regs.update_control_2))
 
 -- what the callers of an activation have once 13, 11, 15 and 12 have refused all else
-pub record Activatable (d : Ssd1677) (states : List ℤ) (luts pixels counts black_white red gates log : List ℕ) : Type 0 where
-  pub startable : Startable d.regs d.config.panel luts black_white red gates log
+pub record Activatable (d : Ssd1677) (states : List ℤ) (luts pixels counts black_white red gates : List ℕ) : Type 0 where
+  pub startable : Startable d.regs d.config.panel luts black_white red gates
   pub ready : Ready d states luts pixels counts
 
 -- all the stages, with the states and the picture as they were

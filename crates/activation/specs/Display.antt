@@ -21,14 +21,13 @@ use Rattle.stages.specs.declared.Run.{Run}
 use Rattle.stages.specs.Run.{Step, noted, waited}
 
 -- what the callers of a display have: 13 refuses another MUX or geometry, 11 another length
-pub record Startable (regs : Registers) (g : PanelGeometry) (luts black_white red gates log : List ℕ) : Type 0 where
+pub record Startable (regs : Registers) (g : PanelGeometry) (luts black_white red gates : List ℕ) : Type 0 where
   pub mux_small : regs.mux < 1024
   pub sources : g.first_source + g.width ≤ 960
   pub luts_long : length luts ≡ g.height * g.width
   pub gates_long : length gates ≡ g.height
   pub black_white_long : length black_white ≡ 81600
   pub red_long : length red ≡ 81600
-  pub log_long : length log ≡ 16384
 
 -- mode 2 is a partial refresh, mode 1 a full one (mod.rs, `start_display`)
 abbrev pub refresh_kind_of : Bool → RefreshKind

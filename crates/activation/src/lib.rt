@@ -106,7 +106,7 @@ fn start_display(
     state: Ssd1677,
     two: bool,
 ) -> Shown
-    requires { Startable state.regs state.config.panel luts.old black_white.now red.now gates.now log.old }
+    requires { Startable state.regs state.config.panel luts.old black_white.now red.now gates.now }
     ensures { displayed result.run result.display luts.new log.new ≡ displayBegun black_white.now red.now gates.now state two (step run log.old) luts.old }
 {
     let regs = state.regs;
@@ -144,7 +144,7 @@ fn show(
     wanted: bool,
     two: bool,
 ) -> Shown
-    requires { Startable state.regs state.config.panel luts.old black_white.now red.now gates.now log.old }
+    requires { Startable state.regs state.config.panel luts.old black_white.now red.now gates.now }
     ensures { displayed result.run result.display luts.new log.new ≡ displayShown black_white.now red.now gates.now state wanted two (step run log.old) luts.old }
 {
     let display = state.display;
@@ -231,7 +231,7 @@ fn run_stages(
     log: &mut Log,
     otp: &[u8],
 ) -> Ssd1677
-    requires { Startable state.regs state.config.panel luts.old black_white.now red.now gates.now log.old }
+    requires { Startable state.regs state.config.panel luts.old black_white.now red.now gates.now }
     ensures { with_luts result luts.new log.new ≡ staged (lent black_white.now red.now gates.now otp.now) (with_luts state luts.old log.old) }
 {
     let regs = state.regs;
@@ -277,7 +277,7 @@ pub fn activate(
     log: &mut Log,
     otp: &[u8],
 ) -> Ssd1677
-    requires { Activatable state states.old luts.old pixels.old counts.old black_white.now red.now gates.now log.old }
+    requires { Activatable state states.old luts.old pixels.old counts.old black_white.now red.now gates.now }
     ensures { with_buffers result states.new luts.new (picture pixels.new counts.new) log.new ≡ activated (lent black_white.now red.now gates.now otp.now) (with_buffers state states.old luts.old (picture pixels.old counts.old) log.old) }
 {
     let settled = run_stages(state, luts, black_white, red, gates, log, otp);

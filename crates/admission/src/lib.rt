@@ -25,7 +25,7 @@ pub fn begin(
     otp: &[u8],
     command: u8,
 ) -> Ssd1677
-    requires { Activatable state states.old luts.old pixels.old counts.old black_white.now red.now gates.now log.old }
+    requires { Activatable state states.old luts.old pixels.old counts.old black_white.now red.now gates.now }
     ensures { with_buffers result states.new luts.new (picture pixels.new counts.new) log.new ≡ begun (lent black_white.now red.now gates.now otp.now) command (with_buffers state states.old luts.old (picture pixels.old counts.old) log.old) state.bus.power }
 {
     let bus = state.bus;

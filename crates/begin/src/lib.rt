@@ -43,7 +43,7 @@ fn start_command(
     otp: &[u8],
     command: u8,
 ) -> Ssd1677
-    requires { Activatable state states.old luts.old pixels.old counts.old black_white.now red.now gates.now log.old }
+    requires { Activatable state states.old luts.old pixels.old counts.old black_white.now red.now gates.now }
     ensures { with_buffers result states.new luts.new (picture pixels.new counts.new) log.new ≡ run (lent black_white.now red.now gates.now otp.now) command (with_buffers state states.old luts.old (picture pixels.old counts.old) log.old) }
 {
     if command == 0x12 {
@@ -87,7 +87,7 @@ fn accept(
     command: u8,
     kind: Kind,
 ) -> Ssd1677
-    requires { Activatable state states.old luts.old pixels.old counts.old black_white.now red.now gates.now log.old }
+    requires { Activatable state states.old luts.old pixels.old counts.old black_white.now red.now gates.now }
     ensures { with_buffers result states.new luts.new (picture pixels.new counts.new) log.new ≡ run (lent black_white.now red.now gates.now otp.now) command (on device_in_buffers (command_made command kind) (with_buffers state states.old luts.old (picture pixels.old counts.old) log.old)) }
 {
     let current = make_current(state, command, kind);
@@ -120,7 +120,7 @@ pub fn decode(
     otp: &[u8],
     command: u8,
 ) -> Ssd1677
-    requires { Activatable state states.old luts.old pixels.old counts.old black_white.now red.now gates.now log.old }
+    requires { Activatable state states.old luts.old pixels.old counts.old black_white.now red.now gates.now }
     ensures { with_buffers result states.new luts.new (picture pixels.new counts.new) log.new ≡ command_by_kind (lent black_white.now red.now gates.now otp.now) command (with_buffers state states.old luts.old (picture pixels.old counts.old) log.old) (kind_of command) }
 {
     let known = command::kind(command);

@@ -29,7 +29,7 @@ fn take_command(
     time: u64,
     command: u8,
 ) -> Ssd1677
-    requires { Activatable state states.old luts.old pixels.old counts.old black_white.now red.now gates.now log.old }
+    requires { Activatable state states.old luts.old pixels.old counts.old black_white.now red.now gates.now }
     ensures { with_buffers result states.new luts.new (picture pixels.new counts.new) log.new ≡ command_taken (lent black_white.now red.now gates.now otp.now) time command (with_buffers state states.old luts.old (picture pixels.old counts.old) log.old) }
 {
     let present = clock::advance(state, states, &luts[..], pixels, counts, time);
