@@ -65,14 +65,11 @@ pub(crate) fn phase_of(
     requires { (group < 10) × (phase < 4) × Drivable driving }
     ensures { result ≡ phase_in driving (timed_group setting.now frame_period.now group) phase }
 {
-    let levels = driving.levels;
-    let drive = driving.drive;
-    let source = levels.source(code_for(setting, drive, group, phase));
-    let vcom = levels.vcom_swing(code_in(setting[40 + group], phase));
-    let millivolts = source - vcom;
+    let source = code_for(setting, driving.drive, group, phase);
+    let vcom = code_in(setting[40 + group], phase);
     Phase {
         frames: frames(setting, group, phase),
         frame_ns: frame_ns(setting, frame_period, group),
-        millivolts,
+        millivolts: walk::phases::pixel_millivolts(driving.levels, source, vcom),
     }
 }
