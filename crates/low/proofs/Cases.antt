@@ -109,6 +109,9 @@ module _ (k : Lent) (time command : ℕ) (w : WithBuffers) (l : Lengths)
               (Some (length k.gates)) fine fit (table_counts_passed w.device lengths k.otp (same_table _ passes));
         }
 
+    pub command_log : length w.log ≡ 16384
+    command_log = (fine_lengths w.device.config.panel lengths (table_lengths_passed w.device lengths k.otp (same_table _ passes))).log (length w.log) refl
+
     pub command_moves : (v : WithBuffers) → v ≡ command_taken k time command w → outcome 0 v ≡ command_written k time command w
     unfolding command_written
     command_moves v e = grants (guarded_with_table w.device lengths k.otp) w (command_taken k time command w) v (same_table _ passes) e

@@ -190,9 +190,9 @@ pub fn unstarted(config: Ssd1677Config) -> Ssd1677
 fn clear(black_white: &mut [u8], red: &mut [u8], log: &mut Log)
     ensures { clean black_white.new red.new log.new ≡ cleared (length black_white.old) (length red.old) (length log.old) }
 {
-    black_white.fill(0x00);
-    red.fill(0x00);
-    log.fill(0x00);
+    ram::fill(&mut black_white[..], 0x00);
+    ram::fill(&mut red[..], 0x00);
+    ram::fill(&mut log[..], 0x00);
 }
 
 // The chip and its buffers at power-on.
