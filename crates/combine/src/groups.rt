@@ -1,5 +1,5 @@
 // The groups of a setting and their phases, read where the bytes stand (datasheet Figure 6-6): a waveform made of all of them
-// is 424 bytes, written before any of it is read.
+// is 424 bytes, written before any of it is read. So a group and a phase go by their numbers, which must be below 10 and 4.
 ghost use Rattle.std.specs.Prelude.{◌≡◌, ◌<◌, get_or};
 ghost use Rattle.waveform.specs.Phases.{Takes, code_for};
 ghost use Rattle.waveform.specs.Setting.{code_in, codes_of, frame_rate_of, group_codes_of};

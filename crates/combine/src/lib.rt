@@ -139,6 +139,7 @@ pub fn transfer_whole(
         positive_drives_black,
     };
     let mut moved = Transfer::identity(swing);
+    // By their numbers: a group's bytes lie in seven places of the setting.
     for k in 0..10 {
         if !groups::idle(setting, k) {
             moved = group_combined(setting, frame_period, driving, k, moved);

@@ -34,6 +34,8 @@ pub fn min_u64(a: u64, b: u64) -> u64
     if a < b { a } else { b }
 }
 
+// This function and those below stand where the library has its own: the definitions of the glass speak of `clamp_z`, and each caller would
+// need the bridge that stands here once.
 pub fn clamp_i64(x: i64, lo: i64, hi: i64) -> i64
     ensures { result ≡ clamp_z x lo hi }
 {

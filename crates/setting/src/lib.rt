@@ -1,4 +1,5 @@
-// The 112 bytes of a setting (datasheet Figure 6-6) read into codes, and the codes into a waveform.
+// The 112 bytes of a setting (datasheet Figure 6-6) read into codes, and the codes into a waveform. A group goes by its number, below 10,
+// from which the places of its bytes are reckoned.
 #![tactic(auto)]
 
 ghost use Rattle.std.specs.Prelude.{◌≡◌, ◌+◌, ◌/◌, ◌%◌, ◌<◌};
@@ -83,7 +84,8 @@ pub fn repeats(setting: &[u8; 112], group: usize) -> u16
     one_more(setting[54 + 5 * group])
 }
 
-fn group_codes(setting: &[u8; 112], group: usize) -> GroupCodes
+// A group as its setting has it.
+pub fn group_codes(setting: &[u8; 112], group: usize) -> GroupCodes
     requires { group < 10 }
     ensures { result ≡ group_codes_of setting.now group }
 {

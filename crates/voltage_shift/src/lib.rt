@@ -145,6 +145,7 @@ fn group_shift(change: u64, driving: DrivingVoltage, group: Group, lut: usize) -
     requires { lut < 4 }
     ensures { result ≡ min (group_shift change driving group lut) (largest 64) }
 {
+    // A LUT goes by its number, as in the definition: the codes of all five lie in one array.
     let codes = group.codes;
     let [a, b, c, d] = group.frames;
     let first = changing_frames(driving, codes[4 * lut], codes[16], a);

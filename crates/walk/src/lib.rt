@@ -26,7 +26,8 @@ fn whole_step(driving: Driving, step: DrivenPhase, transfer: Transfer) -> Transf
     transfer.then(Transfer::shift(step.drive, driving.swing))
 }
 
-// The four phases of a group, once.
+// The four phases of a group, once. Apart from `cut_pass`, which asks of each phase whether it ends in time: docs/PERFORMANCE says what
+// the whole groups of a cut walk gain by that.
 fn whole_pass(
     driving: Driving,
     first: DrivenPhase,
