@@ -39,7 +39,7 @@ fn number_at(text: &[u8], at: usize, width: usize) -> u64
     let mut n: u64 = 0;
     for i in 0..width {
         let digit = digit_at(text, at + i);
-        n = 10 * n + numbers::wide(digit);
+        n = 10 * n + u64::from(digit);
     }
     n
 }
