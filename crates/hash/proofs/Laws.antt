@@ -1,5 +1,5 @@
 -- The hash of a list that grows, and its bound. Assumes nothing.
-use mathlib.Core.Path.{◌≡◌, refl, sym, ap, subst, ◌∙◌}
+use mathlib.Core.Path.{◌≡◌, refl, sym, ap, ◌∙◌}
 use mathlib.Core.Bool.{true, false}
 use mathlib.Core.List.{List, [], ◌∷◌, ◌++◌}
 use Prim.Native.Nat.{ℕ, ◌+◌, ◌-◌, ◌/◌, ◌%◌, ◌^◌, ◌<◌, ◌≤◌}
@@ -21,11 +21,6 @@ pub step_below : (h b : ℕ) → step_of h b < 4294967291
 unfolding step_of
 step_below h b = omega arith
 
-pub hash_below : (h : ℕ) (s : List ℕ) → h < 4294967291 → hash_from h s < 4294967291
-unfolding hash_from
-hash_below h [] k = k
-hash_below h (b ∷ s) k = hash_below (step_of h b) s (step_below h b)
-
 -- ---- a list of things whose bytes stand one after the other
 module _ {A : Type 0} (f : List A → List ℕ) (more : (s : List A) (x : A) → f (s ++ (x ∷ [])) ≡ f s ++ f (x ∷ [])) (l : List A) (i : ℕ) where
   pub turn : (d : A) {h r : ℕ} → i < length l → h ≡ hash_from 0 (f (take i l)) → r ≡ hash_from h (f (get_or l i d ∷ [])) → r ≡ hash_from 0 (f (take (i + 1) l))
@@ -36,9 +31,6 @@ module _ {A : Type 0} (f : List A → List ℕ) (more : (s : List A) (x : A) →
 
   pub all : {h : ℕ} → i ≡ length l → h ≡ hash_from 0 (f (take i l)) → h ≡ hash_from 0 (f l)
   all k e = e ∙ ap (λ (n : ℕ). hash_from 0 (f (take n l))) k ∙ ap (λ (t : List A). hash_from 0 (f t)) (take-length l)
-
-  pub below : {h : ℕ} → h ≡ hash_from 0 (f (take i l)) → h < 4294967291
-  below e = subst (λ (n : ℕ). n < 4294967291) (sym e) (hash_below 0 (f (take i l)) (omega arith))
 
 pub bytes_more : (s : List ℕ) (b : ℕ) → s ++ (b ∷ []) ≡ s ++ (b ∷ [])
 bytes_more s b = refl
