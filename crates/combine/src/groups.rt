@@ -4,22 +4,9 @@ ghost use Rattle.std.specs.Prelude.{◌≡◌, ◌<◌, get_or};
 ghost use Rattle.waveform.specs.Phases.{Takes, code_for};
 ghost use Rattle.waveform.specs.Setting.{code_in, codes_of, frame_rate_of, group_codes_of};
 ghost use Rattle.waveform.specs.Walks.{Drivable, phase_in};
-ghost use Rattle.walk.specs.Ready.{no_frames};
 ghost use Rattle.combine.specs.Groups.{timed_group};
 
 use waveform::{Drive, Driving, Phase};
-
-// A group without frames moves nothing, so its phases need not be made.
-pub(crate) fn idle(setting: &[u8; 112], group: usize) -> bool
-    requires { group < 10 }
-    ensures { result ≡ no_frames (group_codes_of setting.now group).frames }
-{
-    let at = 5 * group;
-    (setting[50 + at] == 0)
-        & (setting[51 + at] == 0)
-        & (setting[52 + at] == 0)
-        & (setting[53 + at] == 0)
-}
 
 pub(crate) fn frames(setting: &[u8; 112], group: usize, phase: usize) -> u64
     requires { (group < 10) × (phase < 4) }

@@ -141,7 +141,7 @@ pub fn transfer_whole(
     let mut moved = Transfer::identity(swing);
     // By their numbers: a group's bytes lie in seven places of the setting.
     for k in 0..10 {
-        if !groups::idle(setting, k) {
+        if !walk::phases::idle(setting::frames(setting, k)) {
             moved = group_combined(setting, frame_period, driving, k, moved);
         }
     }

@@ -84,18 +84,26 @@ pub fn repeats(setting: &[u8; 112], group: usize) -> u16
     one_more(setting[54 + 5 * group])
 }
 
+// The frames of a group's four phases.
+pub fn frames(setting: &[u8; 112], group: usize) -> [u8; 4]
+    requires { group < 10 }
+    ensures { result ≡ (group_codes_of setting.now group).frames }
+{
+    let at = 5 * group;
+    [
+        setting[50 + at],
+        setting[51 + at],
+        setting[52 + at],
+        setting[53 + at],
+    ]
+}
+
 // A group as its setting has it.
 pub fn group_codes(setting: &[u8; 112], group: usize) -> GroupCodes
     requires { group < 10 }
     ensures { result ≡ group_codes_of setting.now group }
 {
-    let at = 5 * group;
-    let frames = [
-        setting[50 + at],
-        setting[51 + at],
-        setting[52 + at],
-        setting[53 + at],
-    ];
+    let frames = frames(setting, group);
     let repeats = repeats(setting, group);
     let frame_rate = frame_rate_code(setting, group);
     let codes = codes_of(setting, group);

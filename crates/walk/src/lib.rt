@@ -178,7 +178,7 @@ fn cut_groups(driving: Driving, until: u64, waveform: Waveform, progress: Progre
 {
     let mut moved = progress;
     for group in waveform.groups {
-        if !phases::idle(group) {
+        if !phases::idle(group.frames) {
             moved = cut_group(driving, until, group, moved);
         }
     }

@@ -16,10 +16,9 @@ pub(crate) struct Lasting {
 }
 
 // A group without frames moves nothing, so its phases need not be made.
-pub(crate) fn idle(group: Group) -> bool
-    ensures { result ≡ no_frames group.frames }
+pub fn idle(frames: [u8; 4]) -> bool
+    ensures { result ≡ no_frames frames }
 {
-    let frames = group.frames;
     (frames[0] == 0) & (frames[1] == 0) & (frames[2] == 0) & (frames[3] == 0)
 }
 
