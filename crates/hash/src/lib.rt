@@ -6,23 +6,11 @@ ghost use Rattle.hash.specs.Hash.{step_of, hash_from, hash_of, word_bytes, patte
 
 use std::marker::Model;
 
-const LARGEST: u64 = 18446744073709551615;
-
 // The bits of a state in two's complement.
 fn pattern(state: i64) -> u64
     ensures { result ≡ pattern_of state }
 {
-    let size = numbers::magnitude_i64(state);
-    if numbers::is_negative(state) {
-        return LARGEST - (size - 1);
-    }
-    size
-}
-
-fn low(n: u64) -> u8
-    ensures { result ≡ n % 256 }
-{
-    (n % 256) as u8
+    state.cast_unsigned()
 }
 
 // The hash of the bytes that were added.
