@@ -140,36 +140,6 @@ fn changing_frames(driving: DrivingVoltage, source: u8, vcom: u8, frames: u8) ->
     0
 }
 
-// All repeats of a group.
-fn group_shift(change: u64, driving: DrivingVoltage, group: Group, lut: usize) -> u64
-    requires { lut < 4 }
-    ensures { result ≡ min (group_shift change driving group lut) (largest 64) }
-{
-    // A LUT goes by its number, as in the definition: the codes of all five lie in one array.
-    let codes = group.codes;
-    let [a, b, c, d] = group.frames;
-    let first = changing_frames(driving, codes[4 * lut], codes[16], a);
-    let second = changing_frames(driving, codes[4 * lut + 1], codes[17], b);
-    let third = changing_frames(driving, codes[4 * lut + 2], codes[18], c);
-    let fourth = changing_frames(driving, codes[4 * lut + 3], codes[19], d);
-    let frames = first + second + third + fourth;
-    let runs = frames.saturating_mul(u64::from(group.repeats));
-    let drive = runs.saturating_mul(change);
-    drive.saturating_mul(group.frame_ns)
-}
-
-// Ten groups.
-fn waveform_shift(change: u64, driving: DrivingVoltage, waveform: Waveform, lut: usize) -> u64
-    requires { lut < 4 }
-    ensures { result ≡ min (shift_of change driving waveform.groups lut) (largest 64) }
-{
-    let mut total: u64 = 0;
-    for group in waveform.groups {
-        total = total.saturating_add(group_shift(change, driving, group, lut));
-    }
-    total
-}
-
 // The nearest grey, or the next where its level falls short: 255 × bound / swing, rounded up, without the product.
 fn gray_steps(bound: u64, swing: u64) -> u8
     requires { (bound ≤ swing) × (1 ≤ swing) × (swing ≤ largest 63) }
@@ -182,36 +152,69 @@ fn gray_steps(bound: u64, swing: u64) -> u8
     gray
 }
 
-// A sum that stops at 2^64 − 1 is above any swing.
-fn lut_shift(
-    swing: u64,
-    change: u64,
+// A change of a voltage, without its sign.
+#[derive(Clone, Copy)]
+struct VoltageChange {
     driving: DrivingVoltage,
-    waveform: Waveform,
-    lut: usize,
-) -> Shift
-    requires some { (1 ≤ swing) × (swing ≤ largest 63) }
-    requires lut { lut < 4 }
-    ensures { result ≡ lut_shift swing change driving waveform.groups lut }
-{
-    let bound = waveform_shift(change, driving, waveform, lut).min(swing);
-    let steps = gray_steps(bound, swing);
-    Shift { bound, steps }
+    millivolts: u64,
 }
 
-fn lut_shifts(swing: u64, change: u64, driving: DrivingVoltage, waveform: Waveform) -> Shifts
-    requires { (1 ≤ swing) × (swing ≤ largest 63) }
-    ensures { result ≡ lut_shifts swing change driving waveform.groups }
-{
-    let lut0 = lut_shift(swing, change, driving, waveform, 0);
-    let lut1 = lut_shift(swing, change, driving, waveform, 1);
-    let lut2 = lut_shift(swing, change, driving, waveform, 2);
-    let lut3 = lut_shift(swing, change, driving, waveform, 3);
-    Shifts {
-        lut0,
-        lut1,
-        lut2,
-        lut3,
+impl VoltageChange {
+    // All repeats of a group.
+    fn group_shift(self, group: Group, lut: usize) -> u64
+        requires { lut < 4 }
+        ensures { result ≡ min (group_shift self.millivolts self.driving group lut) (largest 64) }
+    {
+        // A LUT goes by its number, as in the definition: the codes of all five lie in one array.
+        let codes = group.codes;
+        let [a, b, c, d] = group.frames;
+        let first = changing_frames(self.driving, codes[4 * lut], codes[16], a);
+        let second = changing_frames(self.driving, codes[4 * lut + 1], codes[17], b);
+        let third = changing_frames(self.driving, codes[4 * lut + 2], codes[18], c);
+        let fourth = changing_frames(self.driving, codes[4 * lut + 3], codes[19], d);
+        let frames = first + second + third + fourth;
+        let runs = frames.saturating_mul(u64::from(group.repeats));
+        let drive = runs.saturating_mul(self.millivolts);
+        drive.saturating_mul(group.frame_ns)
+    }
+
+    // Ten groups.
+    fn waveform_shift(self, waveform: Waveform, lut: usize) -> u64
+        requires { lut < 4 }
+        ensures { result ≡ min (shift_of self.millivolts self.driving waveform.groups lut) (largest 64) }
+    {
+        let mut total: u64 = 0;
+        for group in waveform.groups {
+            total = total.saturating_add(self.group_shift(group, lut));
+        }
+        total
+    }
+
+    // A sum that stops at 2^64 − 1 is above any swing.
+    fn lut_shift(self, swing: u64, waveform: Waveform, lut: usize) -> Shift
+        requires some { (1 ≤ swing) × (swing ≤ largest 63) }
+        requires lut { lut < 4 }
+        ensures { result ≡ lut_shift swing self.millivolts self.driving waveform.groups lut }
+    {
+        let bound = self.waveform_shift(waveform, lut).min(swing);
+        let steps = gray_steps(bound, swing);
+        Shift { bound, steps }
+    }
+
+    fn lut_shifts(self, swing: u64, waveform: Waveform) -> Shifts
+        requires { (1 ≤ swing) × (swing ≤ largest 63) }
+        ensures { result ≡ lut_shifts swing self.millivolts self.driving waveform.groups }
+    {
+        let lut0 = self.lut_shift(swing, waveform, 0);
+        let lut1 = self.lut_shift(swing, waveform, 1);
+        let lut2 = self.lut_shift(swing, waveform, 2);
+        let lut3 = self.lut_shift(swing, waveform, 3);
+        Shifts {
+            lut0,
+            lut1,
+            lut2,
+            lut3,
+        }
     }
 }
 
@@ -243,7 +246,11 @@ fn setting_bounds(
     let waveform = setting::from_setting(setting, &frame_period);
     let millivolts = change(driving, before, after);
     let swing = swing_of(optics);
-    Ok(lut_shifts(swing, millivolts, driving, waveform))
+    let change = VoltageChange {
+        driving,
+        millivolts,
+    };
+    Ok(change.lut_shifts(swing, waveform))
 }
 
 // How far each LUT's states may shift when the code of `driving` changes from `before` to `after`, whatever `setting` has for it.

@@ -1,4 +1,4 @@
--- `voltage_shift::group_shift` meets its contract.
+-- `voltage_shift::VoltageChange::group_shift` meets its contract.
 use mathlib.Core.Path.{ap, ◌∙◌}
 use Prim.Native.Nat.{ℕ, ◌+◌, ◌*◌, min}
 use native.Mathlib.Omega.{arith}
@@ -7,13 +7,13 @@ use Rattle.numbers.specs.Choice.{pick}
 use Rattle.numbers.specs.Saturation.{largest}
 use Rattle.voltage_shift.specs.Shift.{source_uses, vcom_uses, exactly_one}
 use Rattle.voltage_shift.proofs.Sums.{group_capped}
-use Rattle.voltage_shift.proofs.group_shift.Goals as goal
+use Rattle.voltage_shift.proofs.VoltageChange.group_shift.Goals as goal
 
 pub returns : goal.returns
 returns c =
     let a = c.args in
-    let at : ℕ → ℕ = λ n. pick (exactly_one (source_uses a.driving (get_or a.group.codes n 0)) (vcom_uses a.driving (get_or a.group.codes 16 0))) (get_or a.group.frames 0 0) 0 in
-    group_capped a.change a.driving a.group a.lut (c.changing_frames-first.ensures.is ∙ ap at (omega arith))
+    let at : ℕ → ℕ = λ n. pick (exactly_one (source_uses a.self.driving (get_or a.group.codes n 0)) (vcom_uses a.self.driving (get_or a.group.codes 16 0))) (get_or a.group.frames 0 0) 0 in
+    group_capped a.self.millivolts a.self.driving a.group a.lut (c.changing_frames-first.ensures.is ∙ ap at (omega arith))
     c.changing_frames-second.ensures.is
     c.changing_frames-third.ensures.is
     c.changing_frames-fourth.ensures.is

@@ -1,5 +1,5 @@
--- `voltage_shift::lut_shifts` meets its contract.
-use Rattle.voltage_shift.proofs.lut_shifts.Goals as goal
+-- `voltage_shift::VoltageChange::lut_shifts` meets its contract.
+use Rattle.voltage_shift.proofs.VoltageChange.lut_shifts.Goals as goal
 
 pub returns : goal.returns
 returns c =

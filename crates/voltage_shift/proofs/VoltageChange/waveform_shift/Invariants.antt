@@ -7,10 +7,10 @@ use Rattle.waveform.specs.declared.Group.{Group}
 use Rattle.waveform.specs.Phases.{no_group}
 use Rattle.voltage_shift.specs.declared.DrivingVoltage.{DrivingVoltage}
 use Rattle.voltage_shift.specs.Shift.{sum, group_shift}
-use Rattle.voltage_shift.proofs.waveform_shift.Given as goal
+use Rattle.voltage_shift.proofs.VoltageChange.waveform_shift.Given as goal
 
 abbrev pub shiftIn : ℕ → DrivingVoltage → ℕ → List Group → ℕ → ℕ
 shiftIn change v lut groups k = group_shift change v (get_or groups k no_group) lut
 
 abbrev pub invariant-loop-group : goal.invariant-loop-group
-invariant-loop-group l = (l.total ≡ min (sum l.group-index (shiftIn l.change l.driving l.lut l.group-items)) (largest 64))
+invariant-loop-group l = (l.total ≡ min (sum l.group-index (shiftIn l.fn.self.millivolts l.fn.self.driving l.fn.lut l.group-items)) (largest 64))
