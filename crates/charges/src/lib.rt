@@ -52,6 +52,7 @@ impl From<ConfigError> for ChargeError {
     }
 }
 
+// By `|`: the contract speaks of `any_of` over codes, so that `any` is no plainer.
 fn has_long_period(frame_period: [u64; 16]) -> bool
     ensures { result ≡ (long_period_test frame_period).refuses }
 {

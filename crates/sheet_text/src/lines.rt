@@ -12,8 +12,8 @@ fn put_codes(text: &mut Text, group: GroupCodes, lut: usize)
     requires { lut < 5 }
     ensures { text.new ≡ gathered text_bytes text.old (digits_text group lut) }
 {
-    for phase in 0..4 {
-        text.put_number(1, u64::from(group.codes[4 * lut + phase]));
+    for code in &group.codes[4 * lut..4 * lut + 4] {
+        text.put_number(1, u64::from(*code));
     }
 }
 

@@ -11,5 +11,5 @@ use Rattle.sheet_text.proofs.lines.put_codes.Given as goal
 abbrev pub text_in : GroupCodes → ℕ → ℕ → List ℕ
 text_in g lut phase = natural 1 (code_at g lut phase)
 
-abbrev pub invariant-loop-phase : goal.invariant-loop-phase
-invariant-loop-phase l = l.text ≡ gathered text_bytes l.initial.text (joined l.phase (text_in l.group l.lut))
+abbrev pub invariant-loop-code : goal.invariant-loop-code
+invariant-loop-code l = l.text ≡ gathered text_bytes l.initial.text (joined l.code-index (text_in l.fn.group l.fn.lut))
