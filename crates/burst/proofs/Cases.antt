@@ -15,7 +15,7 @@ use Rattle.device.specs.declared.Current.TheVariants as current
 use Rattle.device.specs.declared.Ssd1677.{Ssd1677}
 use Rattle.device.specs.Parts.{with_now, with_current, with_pointed}
 use Rattle.moment.specs.Moments.{quiet_at}
-use Rattle.data.specs.Most.{is_stream}
+use Rattle.device.specs.Kinds.{is_stream}
 use Rattle.burst.specs.declared.Course.{Course}
 use Rattle.burst.specs.declared.Reached.{Reached}
 use Rattle.burst.specs.Running.{byte_step, taking, Ran, running}

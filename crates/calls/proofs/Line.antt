@@ -19,7 +19,8 @@ use Rattle.device.specs.declared.Power.TheVariants.{Running, Asleep, InReset}
 use Rattle.world.specs.World.{WithLog, with_log, WithGlassLog, on, device_in_glass_log, log_in_glass_log, glass_in_glass_log}
 use Rattle.registers.proofs.Bounds.{Bounded, reset_bounded}
 use Rattle.guard_kinds.specs.Kinds.{current_fine}
-use Rattle.chip.specs.Close.{expected_of, missing, entries_of, closed}
+use Rattle.device.specs.Kinds.{expected_of}
+use Rattle.chip.specs.Close.{missing, entries_of, closed}
 use Rattle.chip.specs.Report.{logged}
 use Rattle.moment.proofs.Current.{current_busy}
 use Rattle.reset.specs.Reset.{restored, is_driving, display_cut, display_dropped, cut, in_reset, asserted, released, by_line}

@@ -1,27 +1,11 @@
 // The end of a command: another one, or a reset, has come (mod.rs, `close_command`).
-ghost use Rattle.std.specs.Prelude.{◌≡◌, length};
+ghost use Rattle.std.specs.Prelude.{◌≡◌};
 ghost use Rattle.diagnostic.specs.Log.{entries};
 ghost use Rattle.world.specs.World.{with_log};
-ghost use Rattle.chip.specs.Close.{expected_of, missing, reserved_unreported, closed};
+ghost use Rattle.chip.specs.Close.{missing, reserved_unreported, closed};
 
-use device::{Current, Kind, Params, Ssd1677, part};
+use device::{Current, Ssd1677, part};
 use diagnostic::{DiagnosticKind, Journal, Log};
-
-// The fewest parameters that a command of the kind takes.
-fn expected(kind: Kind) -> u16
-    ensures { result ≡ expected_of kind }
-{
-    match kind {
-        Kind::Write(params) => match params {
-            Params::Exactly(count) => count,
-            Params::Between(count, _) => count,
-            Params::Stream => 0,
-        },
-        Kind::Read => 0,
-        Kind::Unsupported => 0,
-        Kind::Reserved => 0,
-    }
-}
 
 // 26 where the current command lacks parameters.
 fn report_missing(journal: Journal, log: &mut Log, current: Current, time: u64) -> Journal
@@ -31,24 +15,18 @@ fn report_missing(journal: Journal, log: &mut Log, current: Current, time: u64) 
         Current::Idle => journal,
         Current::Ignoring => journal,
         Current::Active(active) => {
-            let kind = active.kind;
-            let want = expected(kind);
-            let received = active.received;
-            if received < want {
-                let command = active.command;
-                diagnostic_log::report(
-                    journal,
-                    log,
-                    time,
-                    DiagnosticKind::MissingData {
-                        command,
-                        expected: want,
-                        received,
-                    },
-                )
-            } else {
-                journal
+            let Some(bounds) = active.kind.bounds() else {
+                return journal;
+            };
+            if active.received < bounds.least {
+                let kind = DiagnosticKind::MissingData {
+                    command: active.command,
+                    expected: bounds.least,
+                    received: active.received,
+                };
+                return diagnostic_log::report(journal, log, time, kind);
             }
+            journal
         }
     }
 }

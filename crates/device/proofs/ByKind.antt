@@ -1,6 +1,6 @@
 -- What the bounds of a kind say of it. Assumes nothing.
-use Rattle.std.specs.Prelude.{◌≡◌, Bool, true, false, Option, Some, None}
-use mathlib.Core.Path.{refl}
+use Rattle.std.specs.Prelude.{◌≡◌, Bool, true, false, Option, Some, None, is_some}
+use mathlib.Core.Path.{refl, sym, ap, ◌∙◌}
 use Rattle.device.specs.declared.Bounds.{Bounds}
 use Rattle.device.specs.declared.Kind.{Kind}
 use Rattle.device.specs.declared.Kind.TheVariants.{Write, Read, Unsupported, Reserved}
@@ -20,10 +20,34 @@ bounded Read b e = record { no_stream = refl; least = cc; most = cc }
 bounded Unsupported b e = record { no_stream = refl; least = cc; most = cc }
 bounded Reserved b e = record { no_stream = refl; least = cc; most = cc }
 
-pub unbounded : (k : Kind) → None ≡ bounds_of k → is_stream k ≡ true
-unbounded (Write (Exactly count)) e = cc
-unbounded (Write (Between least most)) e = cc
-unbounded (Write Stream) e = refl
-unbounded Read e = cc
-unbounded Unsupported e = cc
-unbounded Reserved e = cc
+-- by whether there are bounds
+module _ (k : Kind) (o : Option Bounds) (t : Bool) (e : o ≡ bounds_of k) (f : t ≡ is_some o) where
+  pub streaming : t ≡ false → true ≡ is_stream k
+  streaming h = by k (ap is_some (sym e) ∙ sym f ∙ h)
+    where
+      by : (x : Kind) → is_some (bounds_of x) ≡ false → true ≡ is_stream x
+      by (Write (Exactly count)) i = i
+      by (Write (Between least most)) i = i
+      by (Write Stream) i = refl
+      by Read i = i
+      by Unsupported i = i
+      by Reserved i = i
+
+  pub not_streaming : t ≡ true → false ≡ is_stream k
+  not_streaming h = by k (ap is_some (sym e) ∙ sym f ∙ h)
+    where
+      by : (x : Kind) → is_some (bounds_of x) ≡ true → false ≡ is_stream x
+      by (Write (Exactly count)) i = refl
+      by (Write (Between least most)) i = refl
+      by (Write Stream) i = i
+      by Read i = refl
+      by Unsupported i = refl
+      by Reserved i = refl
+
+pub no_least : (k : Kind) → None ≡ bounds_of k → expected_of k ≡ 0
+no_least (Write (Exactly count)) e = absurd cc
+no_least (Write (Between least most)) e = absurd cc
+no_least (Write Stream) e = refl
+no_least Read e = refl
+no_least Unsupported e = refl
+no_least Reserved e = refl
