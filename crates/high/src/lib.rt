@@ -53,11 +53,10 @@ pub fn write_data(
     };
     let moved = clock::move_clock(state, time);
     if clock::is_quiet(moved) {
-        let step = data::stream(moved, black_white, red, byte);
-        if step.done {
-            return Ok(part::set_pointed(moved, step.counter, step.bus));
-        }
-        return Ok(data::write_other(moved, black_white, red, log, byte));
+        return match data::stream(moved, black_white, red, byte) {
+            Some(step) => Ok(part::set_pointed(moved, step.counter, step.bus)),
+            None => Ok(data::write_other(moved, black_white, red, log, byte)),
+        };
     }
     let present = clock::advance(state, states, luts, pixels, counts, time);
     Ok(data::write(present, black_white, red, log, byte))

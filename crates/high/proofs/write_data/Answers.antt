@@ -14,31 +14,31 @@ returns-in-Err c =
     let w = with_planes a.state a.states.now (picture a.pixels.now a.counts.now) a.black_white.now a.red.now a.log.now in
     data_refused a.luts.now a.time a.byte w _ c.planes_log_lent-lengths.ensures _ c.in-Err.ensures
 
-pub returns-then-step : goal.returns-then-step
-returns-then-step c =
+pub returns-in-Some-stream : goal.returns-in-Some-stream
+returns-in-Some-stream c =
     let a = c.args in
     let w = with_planes a.state a.states.now (picture a.pixels.now a.counts.now) a.black_white.now a.red.now a.log.now in
-    let step = c.stream-step in
+    let step = c.stream in
     rw (c.in-Some.ensures.cases.same, c.in-Some-as_mut_array.ensures.cases.same)
     (data_rests a.luts.now a.time a.byte w _ c.planes_log_lent-lengths.ensures c.in_default.ensures c.move_clock-moved.result _ (with_ram c.set_pointed.result _ _ a.log.now)
     c.move_clock-moved.ensures c.is_quiet.ensures c.if-is_quiet.true
-    (taken a.byte c.move_clock-moved.result a.black_white.now a.red.now _ _ _ step.ensures.done_value step.ensures.by_index _ a.log.now c.if-step.true c.set_pointed.ensures))
+    (taken a.byte c.move_clock-moved.result a.black_white.now a.red.now step.result _ _ step.ensures.done_value step.ensures.by_index _ _ a.log.now c.in-Some-stream.is c.set_pointed.ensures))
 
 pub write_other-requires : goal.write_other-requires
 write_other-requires c =
     let a = c.args in
-    let step = c.stream-step in
-    record { current_value = still_not a.byte c.move_clock-moved.result a.black_white.now a.red.now step.result step.new.black_white step.new.red step.ensures.done_value step.ensures.by_index c.if-step.false }
+    let step = c.stream in
+    record { current_value = still_not a.byte c.move_clock-moved.result a.black_white.now a.red.now step.result step.new.black_white step.new.red step.ensures.done_value step.ensures.by_index c.in-None.is }
 
-pub returns-then-is_quiet : goal.returns-then-is_quiet
-returns-then-is_quiet c =
+pub returns-in-None : goal.returns-in-None
+returns-in-None c =
     let a = c.args in
     let w = with_planes a.state a.states.now (picture a.pixels.now a.counts.now) a.black_white.now a.red.now a.log.now in
-    let step = c.stream-step in
+    let step = c.stream in
     rw (c.in-Some.ensures.cases.same, c.in-Some-as_mut_array.ensures.cases.same)
     (data_rests a.luts.now a.time a.byte w _ c.planes_log_lent-lengths.ensures c.in_default.ensures c.move_clock-moved.result _ _
     c.move_clock-moved.ensures c.is_quiet.ensures c.if-is_quiet.true
-    (not_taken a.byte c.move_clock-moved.result a.black_white.now a.red.now _ _ _ step.ensures.done_value step.ensures.by_index c.if-step.false _ _ c.write_other.ensures
+    (not_taken a.byte c.move_clock-moved.result a.black_white.now a.red.now step.result _ _ step.ensures.done_value step.ensures.by_index c.in-None.is _ _ c.write_other.ensures
     ∙ (λ i. data_taken a.byte (with_ram c.move_clock-moved.result a.black_white.now a.red.now (c.in-Some-as_mut_array.ensures.cases.same i)) c.move_clock-moved.result.bus.current)))
 
 pub advance-present-requires : goal.advance-present-requires
