@@ -35,7 +35,7 @@ returns-in-None c =
     let a = c.args in
     let w = with_planes a.state a.states.now (picture a.pixels.now a.counts.now) a.black_white.now a.red.now a.log.now in
     let step = c.stream in
-    rw (c.in-Some.ensures.cases.same, c.in-Some-as_mut_array.ensures.cases.same)
+    rw c.in-Some.ensures.cases.same
     (data_rests a.luts.now a.time a.byte w _ c.planes_log_lent-lengths.ensures c.in_default.ensures c.move_clock-moved.result _ _
     c.move_clock-moved.ensures c.is_quiet.ensures c.if-is_quiet.true
     (not_taken a.byte c.move_clock-moved.result a.black_white.now a.red.now step.result _ _ step.ensures.done_value step.ensures.by_index c.in-None.is _ _ c.write_other.ensures
