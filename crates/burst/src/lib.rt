@@ -7,9 +7,8 @@ ghost use Rattle.burst.specs.Running.{reached_in, byte_step, taking, ran, runnin
 ghost use Rattle.burst.specs.Burst.{course_of, reached_by, into, ran_into, bursted, burstOf};
 
 use device::{Active, Current, Ssd1677, part};
-use ram::{Counter, Entry, Window};
-
 pub use events::Events;
+use ram::{Counter, Entry, Window};
 
 mod events;
 
@@ -83,13 +82,7 @@ fn take(
 }
 
 // The events from a place on, up to the first that is no such byte.
-fn run_on(
-    plane: &mut [u8],
-    course: Course,
-    reached: Reached,
-    events: Events,
-    from: usize,
-) -> Run
+fn run_on(plane: &mut [u8], course: Course, reached: Reached, events: Events, from: usize) -> Run
     ensures { ran result.made result.reached plane.new ≡ running events.entry.kinds.now events.entry.times.now events.entry.values.now course (events.entry.count - from) from reached plane.old }
 {
     let mut next = reached;
@@ -144,13 +137,7 @@ fn put_back(state: Ssd1677, active: Active, reached: Reached) -> Ssd1677
 }
 
 // The events from a place on that are RAM data of a command into its plane.
-fn run_into(
-    state: Ssd1677,
-    active: Active,
-    plane: &mut [u8],
-    events: Events,
-    from: usize,
-) -> Burst
+fn run_into(state: Ssd1677, active: Active, plane: &mut [u8], events: Events, from: usize) -> Burst
     ensures { into result.made result.state plane.new ≡ ran_into events.entry.kinds.now events.entry.times.now events.entry.values.now (events.entry.count - from) from state active plane.old }
 {
     let course = course_of(state);

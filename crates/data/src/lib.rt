@@ -161,12 +161,7 @@ fn take_unasked(state: Ssd1677, log: &mut Log, byte: u8) -> Ssd1677
 
 // A byte of RAM data that its plane takes, which leaves the state as it is but for the counter and the bus; another byte leaves all.
 // A frame is 48,000 of them, so what they change comes back by itself and the state is read alone: each function that hands it back by value may copy it.
-pub fn stream(
-    state: Ssd1677,
-    black_white: &mut [u8],
-    red: &mut [u8],
-    byte: u8,
-) -> Option<Streamed>
+pub fn stream(state: Ssd1677, black_white: &mut [u8], red: &mut [u8], byte: u8) -> Option<Streamed>
     ensures done_value { is_some result ≡ is_streamed state black_white.old red.old state.bus.current }
     ensures by_index { (l : List ℕ) → with_ram (left_by state result) black_white.new red.new l ≡ streamed byte (with_ram state black_white.old red.old l) state.bus.current }
 {

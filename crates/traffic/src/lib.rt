@@ -34,7 +34,8 @@ fn stream(
     ensures from_le_made { (from ≤ result.made) × (result.made ≤ events.entry.count) }
     ensures ends_alike { EndsAlike events.entry.kinds.now events.entry.times.now events.entry.values.now events.entry.count lengths (bursted from state black_white.old red.old) (bursted result.made result.state black_white.new red.new) }
 {
-    if events.kinds[from] == DATA {
+    let kind = events.kinds[from];
+    if kind == DATA {
         if guard::check(state, lengths).is_ok() {
             return burst::write_burst(state, black_white, red, events, from);
         }
@@ -168,16 +169,17 @@ pub fn feed(
 ) -> Fed
     ensures { fed (refusal_number result.answer) result.made (world result.state states.new luts.new (picture pixels.new counts.new) black_white.new red.new gates.now log.new) ≡ feeding (made otp.now (event_at kinds.now times.now values.now)) (shortest kinds.now times.now values.now) 0 (world state states.old luts.old (picture pixels.old counts.old) black_white.old red.old gates.now log.old) }
 {
+    let count = kinds.len().min(times.len().min(values.len()));
     let events = Events {
         kinds,
         times,
         values,
-        count: kinds.len().min(times.len().min(values.len())),
+        count,
     };
     let mut next = state;
     let mut i: usize = 0;
     // By as many places as a turn has made: RAM data are one turn, however many bytes they are.
-    while i < events.count {
+    while i < count {
         let fed = turn(
             next,
             &mut states[..],

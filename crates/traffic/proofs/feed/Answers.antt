@@ -15,15 +15,15 @@ pub loop-i-init : goal.loop-i-init
 loop-i-init c =
     let step = made c.args.otp.now (event_at c.args.kinds.now c.args.times.now c.args.values.now) in
     let given = world c.args.state c.args.states.now c.args.luts.now (picture c.args.pixels.now c.args.counts.now) c.args.black_white.now c.args.red.now c.args.gates.now c.args.log.now in
-    let n = c.min-events.result in
+    let n = c.min-count.result in
     let all : n - 0 ≡ n = omega arith in
     (ap (λ (k : ℕ). feeding step k 0 given) all, search rules)
 
-pub turn-fed-requires : goal.turn-fed-requires
-turn-fed-requires c =
-    let one = c.min-events.ensures in
+pub invariant_of-events : goal.invariant_of-events
+invariant_of-events c =
+    let one = c.min-count.ensures in
     let two = c.min.ensures in
-    (c.loop-i-test.true, omega (arith, one, two), omega (arith, one, two), omega (arith, one, two))
+    record { with_kinds = omega (arith, one, two); with_times = omega (arith, one, two); with_values = omega (arith, one, two) }
 
 pub shape_of-states-then-is_err : goal.shape_of-states-then-is_err
 shape_of-states-then-is_err c = c.turn-fed.auto.states ∙ c.loop-i.invariant.1.0
@@ -51,13 +51,13 @@ returns-then-is_err c =
     let step = made c.args.otp.now (event_at c.args.kinds.now c.args.times.now c.args.values.now) in
     let given = world c.args.state c.args.states.now c.args.luts.now (picture c.args.pixels.now c.args.counts.now) c.args.black_white.now c.args.red.now c.args.gates.now c.args.log.now in
     let s = c in
-    let n = c.min-events.result in
+    let n = c.min-count.result in
     let t = c.turn-fed in
     let f = t.result in
     sym (ended_there step n f.answer f.made _ (c.is_err.ensures.negation ∙ ap not c.if-is_err.true))
     ∙ t.ensures.log_after
     ∙ c.loop-i.invariant.0
-    ∙ ap (λ (k : ℕ). feeding step k 0 given) (c.min-events.ensures ∙ ap (min (length s.args.kinds.now)) c.min.ensures)
+    ∙ ap (λ (k : ℕ). feeding step k 0 given) (c.min-count.ensures ∙ ap (min (length s.args.kinds.now)) c.min.ensures)
 
 pub loop-i-smaller : goal.loop-i-smaller
 loop-i-smaller c =
@@ -68,7 +68,7 @@ pub loop-i-preserved : goal.loop-i-preserved
 loop-i-preserved c =
     let step = made c.args.otp.now (event_at c.args.kinds.now c.args.times.now c.args.values.now) in
     let s = c in
-    let n = c.min-events.result in
+    let n = c.min-count.result in
     let t = c.turn-fed in
     let f = t.result in
     let a = c.is_err.ensures.negation ∙ ap not c.if-is_err.false in (
@@ -112,7 +112,7 @@ returns c =
     let given = world c.args.state c.args.states.now c.args.luts.now (picture c.args.pixels.now c.args.counts.now) c.args.black_white.now c.args.red.now c.args.gates.now c.args.log.now in
     let s = c in
     let w = world c.loop-i.next c.loop-i.states c.loop-i.luts (picture c.loop-i.pixels c.loop-i.counts) c.loop-i.black_white c.loop-i.red s.args.gates.now c.loop-i.log in
-    let n = c.min-events.result in
+    let n = c.min-count.result in
     let none : n - c.loop-i.i ≡ 0 = omega (arith, c.loop-i-test.false) in
     fed_all step n c.loop-i.i (feeding step n 0 given) w none c.loop-i.invariant.0
-    ∙ ap (λ (k : ℕ). feeding step k 0 given) (c.min-events.ensures ∙ ap (min (length s.args.kinds.now)) c.min.ensures)
+    ∙ ap (λ (k : ℕ). feeding step k 0 given) (c.min-count.ensures ∙ ap (min (length s.args.kinds.now)) c.min.ensures)

@@ -13,7 +13,7 @@ returns-then-events-at c =
     let s = c.args in
     record {
       made_value = λ h. omega (arith, c.requires, c.if-events-at.true);
-      log_after = ended_on (made s.otp.now (event_at s.events.kinds.now s.events.times.now s.events.values.now)) s.events.count (Ok tt) s.at (world s.state s.states.now s.luts.now (picture s.pixels.now s.events.counts.now) s.black_white.now s.red.now s.gates.now s.log.now) refl;
+      log_after = ended_on (made s.otp.now (event_at s.events.kinds.now s.events.times.now s.events.values.now)) s.events.count (Ok tt) s.at (world s.state s.states.now s.luts.now (picture s.pixels.now s.counts.now) s.black_white.now s.red.now s.gates.now s.log.now) refl;
     }
 
 pub returns-in-Ok : goal.returns-in-Ok
@@ -22,8 +22,8 @@ returns-in-Ok c =
     record {
       made_value = λ h. omega (arith, c.if-events-at.false);
       log_after =
-          one_made (made s.otp.now (event_at s.events.kinds.now s.events.times.now s.events.values.now)) s.events.count s.at (world s.state s.states.now s.luts.now (picture s.pixels.now s.events.counts.now) s.black_white.now s.red.now s.gates.now s.log.now) c.if-events-at.false
-          (made_one s.otp.now (event_at s.events.kinds.now s.events.times.now s.events.values.now) s.at (world s.state s.states.now s.luts.now (picture s.pixels.now s.events.counts.now) s.black_white.now s.red.now s.gates.now s.log.now) c.in-Ok.ensures c.event_of-event.ensures);
+          one_made (made s.otp.now (event_at s.events.kinds.now s.events.times.now s.events.values.now)) s.events.count s.at (world s.state s.states.now s.luts.now (picture s.pixels.now s.counts.now) s.black_white.now s.red.now s.gates.now s.log.now) c.if-events-at.false
+          (made_one s.otp.now (event_at s.events.kinds.now s.events.times.now s.events.values.now) s.at (world s.state s.states.now s.luts.now (picture s.pixels.now s.counts.now) s.black_white.now s.red.now s.gates.now s.log.now) c.in-Ok.ensures c.event_of-event.ensures);
     }
 
 pub returns-in-Err : goal.returns-in-Err
@@ -32,6 +32,6 @@ returns-in-Err c =
     record {
       made_value = λ h. absurd (never h);
       log_after =
-          none_made (made s.otp.now (event_at s.events.kinds.now s.events.times.now s.events.values.now)) s.events.count s.at (world s.state s.states.now s.luts.now (picture s.pixels.now s.events.counts.now) s.black_white.now s.red.now s.gates.now s.log.now) _ c.if-events-at.false
-          (made_one s.otp.now (event_at s.events.kinds.now s.events.times.now s.events.values.now) s.at (world s.state s.states.now s.luts.now (picture s.pixels.now s.events.counts.now) s.black_white.now s.red.now s.gates.now s.log.now) c.in-Err.ensures c.event_of-event.ensures);
+          none_made (made s.otp.now (event_at s.events.kinds.now s.events.times.now s.events.values.now)) s.events.count s.at (world s.state s.states.now s.luts.now (picture s.pixels.now s.counts.now) s.black_white.now s.red.now s.gates.now s.log.now) _ c.if-events-at.false
+          (made_one s.otp.now (event_at s.events.kinds.now s.events.times.now s.events.values.now) s.at (world s.state s.states.now s.luts.now (picture s.pixels.now s.counts.now) s.black_white.now s.red.now s.gates.now s.log.now) c.in-Err.ensures c.event_of-event.ensures);
     }

@@ -18,8 +18,8 @@ returns-else-is_ok c =
     let g = stays s.events.kinds.now s.events.times.now s.events.values.now s.events.count s.from h s.state s.black_white.now s.red.now s.lengths in
     record { from_le_made = (g.from_here, g.to_count); ends_alike = g.alike }
 
-pub returns-else-events-eq-DATA : goal.returns-else-events-eq-DATA
-returns-else-events-eq-DATA c =
+pub returns-else-kind-eq-DATA : goal.returns-else-kind-eq-DATA
+returns-else-kind-eq-DATA c =
     let s = c.args in
     let h : s.from ≤ s.events.count = omega (arith, c.requires) in
     let g = stays s.events.kinds.now s.events.times.now s.events.values.now s.events.count s.from h s.state s.black_white.now s.red.now s.lengths in
