@@ -80,7 +80,6 @@ fn display_of(
     let ends = moment::after(frequency, time, whole);
     let kind = kind_of(two);
     Display {
-        running: true,
         started,
         ends,
         kind,
@@ -93,7 +92,7 @@ fn display_of(
 #[derive(Clone, Copy)]
 pub struct Shown {
     pub run: Run,
-    pub display: Display,
+    pub display: Option<Display>,
 }
 
 fn start_display(
@@ -129,7 +128,10 @@ fn start_display(
         two,
     );
     let next = stages::wait(warned, ns);
-    Shown { run: next, display }
+    Shown {
+        run: next,
+        display: Some(display),
+    }
 }
 
 // The display, unless a LUT load found no waveform; it needs the clock and the analog supplies (mod.rs, `powered`).
@@ -204,7 +206,7 @@ fn run_of(state: Ssd1677) -> Run
 }
 
 // The run goes back into the state, which is busy for its time.
-fn settle(state: Ssd1677, run: Run, display: Display) -> Ssd1677
+fn settle(state: Ssd1677, run: Run, display: Option<Display>) -> Ssd1677
     ensures { result ≡ run_settled state run display }
 {
     let config = state.config;

@@ -87,7 +87,6 @@ pub(crate) fn display_of(setting: &[u8; 112], register: u8, partial: bool, start
     let bytes = *setting;
     let kind = kind_of(partial);
     Display {
-        running: true,
         started,
         ends: 0,
         kind,

@@ -1,6 +1,7 @@
 -- What bytes of RAM data leave of a state and of the two planes.
 use Rattle.std.specs.Prelude.{ℕ, List, eqb}
 use Rattle.numbers.specs.Choice.{pick}
+use Rattle.panel.specs.End.{display_end}
 use Rattle.device.specs.declared.Active.{Active}
 use Rattle.device.specs.declared.Current.{Current}
 use Rattle.device.specs.declared.Current.TheVariants as current
@@ -17,8 +18,7 @@ course_of d =
     record {
       window = d.regs.window;
       entry = d.regs.entry;
-      running = d.display.running;
-      ends = d.display.ends;
+      ends = display_end d.display;
       busy_until = d.bus.busy_until;
     }
 

@@ -29,9 +29,8 @@ pub struct Reached {
 pub struct Course {
     pub window: Window,
     pub entry: Entry,
-    // A display and its end.
-    pub running: bool,
-    pub ends: u64,
+    // The end of the display in progress.
+    pub ends: Option<u64>,
     pub busy_until: Option<u64>,
 }
 
@@ -62,7 +61,7 @@ fn take(
 {
     let latest = reached.latest.max(time);
     let busy_until = course.busy_until;
-    let quiet = moment::is_quiet(course.running, course.ends, busy_until, latest);
+    let quiet = moment::is_quiet(course.ends, busy_until, latest);
     if (kind == DATA) & quiet {
         let at = reached.counter;
         if ram::write(plane, at, byte) {
@@ -115,11 +114,11 @@ fn course_of(state: Ssd1677) -> Course
     let entry = regs.entry;
     let bus = state.bus;
     let busy_until = bus.busy_until;
+    let ends = panel::end_of(state.display);
     Course {
         window,
         entry,
-        running: state.display.running,
-        ends: state.display.ends,
+        ends,
         busy_until,
     }
 }

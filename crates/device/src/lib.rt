@@ -1,7 +1,7 @@
 // The state of an SSD1677 but for its lent buffers: registers, bus, supplies, status, glass, display and journal (mod.rs).
 //
 // The parts are nested by who changes them, so that a function takes and returns only its part; the functions of `part` put one
-// back. A field that is an enum cannot be stored to, so the enums stand together in `Bus`, which is written anew.
+// back.
 #![tactic(auto)]
 
 ghost use Rattle.std.specs.Prelude.{◌≡◌};
@@ -147,6 +147,7 @@ pub struct Ssd1677 {
     pub analog: bool,
     pub status: Status,
     pub panel: Panel,
-    pub display: Display,
+    // The display in progress; an end, a cut or a drop leaves none.
+    pub display: Option<Display>,
     pub journal: Journal,
 }

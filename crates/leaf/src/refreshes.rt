@@ -48,7 +48,6 @@ fn border(n: u8) -> u8 {
 
 fn display(question: &Question) -> Display {
     Display {
-        running: true,
         started: 0,
         ends: 0,
         kind: RefreshKind::Full,

@@ -6,7 +6,7 @@ ghost use Rattle.config.specs.Answer.{first_of, refused_by};
 ghost use Rattle.gates_laws.specs.OneToOne.{Scanned};
 ghost use Rattle.counts.specs.Counts.{picture};
 ghost use Rattle.power_on.specs.declared.StartError.TheVariants.{Parameters};
-ghost use Rattle.power_on.specs.Start.{all_tests, start_refused_by, start_answer_of, no_display, chip_with, unstarted, chip_in, clean, cleared, buffers, powered, powered_up, start, started, refusal_of};
+ghost use Rattle.power_on.specs.Start.{all_tests, start_refused_by, start_answer_of, chip_with, unstarted, chip_in, clean, cleared, buffers, powered, powered_up, start, started, refusal_of};
 
 use config::{ConfigError, Ssd1677Config};
 use counts::Counts;
@@ -14,7 +14,7 @@ use device::{Bus, Current, Power, Ssd1677, Status};
 use diagnostic::{Journal, Log};
 use glass::{PanelImage, RefreshKind};
 use guard_lengths::Lengths;
-use panel::{Display, Panel};
+use panel::Panel;
 
 // Why a start was refused.
 #[derive(Clone, Copy)]
@@ -115,20 +115,6 @@ fn check(config: Ssd1677Config, otp: &[u8], lengths: Lengths) -> Result<(), Star
     Ok(())
 }
 
-// No display has been started.
-fn no_display() -> Display
-    ensures { result ≡ no_display }
-{
-    Display {
-        running: false,
-        started: 0,
-        ends: 0,
-        kind: RefreshKind::PowerOn,
-        setting: [0u8; 112],
-        border: 0,
-    }
-}
-
 // Supplies off, no command, nothing reported.
 fn chip_with(config: Ssd1677Config, panel: Panel) -> Ssd1677
     ensures { result ≡ chip_with config panel }
@@ -149,7 +135,6 @@ fn chip_with(config: Ssd1677Config, panel: Panel) -> Ssd1677
         dropped: 0,
         reserved_reported: false,
     };
-    let display = no_display();
     Ssd1677 {
         config,
         now: 0,
@@ -159,7 +144,7 @@ fn chip_with(config: Ssd1677Config, panel: Panel) -> Ssd1677
         analog: false,
         status,
         panel,
-        display,
+        display: None,
         journal,
     }
 }

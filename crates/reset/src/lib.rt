@@ -10,6 +10,7 @@ ghost use Rattle.reset.specs.Reset.{restored, display_cut, cut, in_reset, assert
 use counts::Counts;
 use device::{Bus, Current, Power, Ssd1677, Status, part};
 use diagnostic::{DiagnosticKind, Log};
+use panel::Display;
 
 // The registers at their reset values, the supplies off and the status bits cleared; the RAM stays.
 pub fn restore_registers(state: Ssd1677) -> Ssd1677
@@ -28,15 +29,15 @@ pub fn restore_registers(state: Ssd1677) -> Ssd1677
 // The display is applied up to now and its image published.
 fn finish_cut(
     state: Ssd1677,
+    display: Display,
     states: &mut [i64],
     luts: &[u8],
     pixels: &mut [u8],
     counts: &mut Counts,
 ) -> Ssd1677
     requires { Ready state states.old luts.now pixels.old counts.old }
-    ensures { with_glass result states.new (picture pixels.new counts.new) ≡ display_cut luts.now (with_glass state states.old (picture pixels.old counts.old)) }
+    ensures { with_glass result states.new (picture pixels.new counts.new) ≡ display_cut luts.now display (with_glass state states.old (picture pixels.old counts.old)) }
 {
-    let display = state.display;
     let config = state.config;
     let optics = config.optics;
     let timing = config.timing;
@@ -55,8 +56,7 @@ fn finish_cut(
         &mut pixels[..],
         counts,
     );
-    let off = clock::stop(display);
-    part::set_glass(state, finished, off)
+    part::set_glass(state, finished, None)
 }
 
 // A display cut once its driving has begun publishes what the glass reached; one whose stages before it had not ended is abandoned:
@@ -72,13 +72,14 @@ fn cut_display(
     requires { Ready state states.old luts.now pixels.old counts.old }
     ensures { with_glass_log result states.new (picture pixels.new counts.new) log.new ≡ cut luts.now (with_glass_log state states.old (picture pixels.old counts.old) log.old) }
 {
-    let display = state.display;
-    if display.running & (display.started <= state.now) {
+    let Some(display) = state.display else {
+        return state;
+    };
+    if display.started <= state.now {
         let noted = chip::report(state, log, DiagnosticKind::ResetDuringDisplay);
-        return finish_cut(noted, states, luts, pixels, counts);
+        return finish_cut(noted, display, states, luts, pixels, counts);
     }
-    let off = clock::stop(display);
-    part::set_display(state, off)
+    part::set_display(state, None)
 }
 
 // RES# is low: nothing is current and nothing runs.
