@@ -62,14 +62,17 @@ pub enum SheetError {
 }
 
 // The number of a refusal.
-pub fn number(error: SheetError) -> u8
-    ensures { result ≡ number_in (sheet_refusal error) }
-{
-    match error {
-        SheetError::Length => 11,
-        SheetError::NoCode => 61,
-        SheetError::Repeats => 62,
-        SheetError::Code => 63,
+impl From<SheetError> for u8 {
+    ghost from_gives = { λ error number. number ≡ number_in (sheet_refusal error) };
+
+    #[tactic(auto, unfolding(crate::specs::Tests::sheet_refusal))]
+    fn from(error: SheetError) -> u8 {
+        match error {
+            SheetError::Length => 11,
+            SheetError::NoCode => 61,
+            SheetError::Repeats => 62,
+            SheetError::Code => 63,
+        }
     }
 }
 

@@ -106,7 +106,7 @@ fn put_setting(answer: &mut Answer, sheet: Sheet)
     let mut setting = [0u8; SETTING_BYTES];
     match drive_sheet::write(sheet, &mut setting) {
         Ok(()) => answer.put_text(&setting),
-        Err(error) => put_number(answer, drive_sheet::number(error)),
+        Err(error) => put_number(answer, u8::from(error)),
     }
 }
 

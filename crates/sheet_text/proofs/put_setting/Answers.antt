@@ -44,4 +44,4 @@ unfolding told_of
 returns-in-Err c =
     c.put_number.ensures
     ∙ ap (gathered setting_length c.args.answer.now)
-    (ap number_text c.number.ensures ∙ is_number c.args.sheet c.write.new.out c.in-Err.error c.in-Err.ensures.bytes)
+    (ap number_text c.from.ensures ∙ is_number c.args.sheet c.write.new.out c.in-Err.error c.in-Err.ensures.bytes)
