@@ -1,4 +1,5 @@
 -- What each return of the code hands over, over plain variables. Assumes nothing.
+use Rattle.std.specs.Prelude.{Option, Some}
 use Prim.Native.Nat.{ℕ, ◌+◌, ◌/◌, min}
 use mathlib.Core.Path.{◌≡◌, sym, ap, ◌∙◌}
 use mathlib.Core.Bool.{Bool, true, false, ◌&&◌, not}
@@ -45,7 +46,7 @@ ping_pong two n b e = ap (λ (x : Bool). two && x) (sym (test_bit 6 n)) ∙ e
 
 pub displays : (setting : List ℕ) (border frequency time before ns : ℕ) (two : Bool) (a w b : ℕ) (k : RefreshKind)
     → a ≡ after_ns frequency time before → w ≡ min (before + ns) (largest 64) → b ≡ after_ns frequency time w → k ≡ refresh_kind_of two
-    → record { running = true; started = a; ends = b; kind = k; setting = setting; border = border } ≡ display_of setting border frequency time before ns two
+    → record { started = a; ends = b; kind = k; setting = setting; border = border } ≡ display_of setting border frequency time before ns two
 unfolding display_of
 displays setting border frequency time before ns two a w b k e₁ e₂ e₃ e₄ = rw (e₁, e₃, e₂, e₄)
 
@@ -55,7 +56,7 @@ module _ (black_white red gates : List ℕ) (d : Ssd1677) where
       → ns ≡ duration_of (waveform_of s.run.lut d.config.timing.frame_period)
       → u ≡ tab (length luts) (lut_of gates red black_white d.config.panel scan)
       → x ≡ display_of s.run.lut d.regs.border d.config.frequency d.now s.run.ns ns two
-      → r ≡ waited ns a.run → displayed r x u a.log ≡ displayBegun black_white red gates d two s luts
+      → r ≡ waited ns a.run → displayed r (Some x) u a.log ≡ displayBegun black_white red gates d two s luts
   unfolding displayBegun
   begins two s luts scan a ns u x r e₁ e₂ e₃ e₄ e₅ e₆ = rw (e₆, e₅, e₄, e₁, e₂, e₃)
 
@@ -80,7 +81,7 @@ module _ (black_white red gates : List ℕ) (d : Ssd1677) where
   unfolding displayShown
   shows_not wanted two s luts h = rw h
 
-pub settles : (d : Ssd1677) (r : Run) (x : Display) (g : Registers) (b : Bus) (z : Ssd1677) → g ≡ with_loaded d.regs r.temperature r.lut r.waveform
+pub settles : (d : Ssd1677) (r : Run) (x : Option Display) (g : Registers) (b : Bus) (z : Ssd1677) → g ≡ with_loaded d.regs r.temperature r.lut r.waveform
     → b ≡ busy_for d.bus d.config.frequency d.now r.ns → z ≡ with_activated d g b r.clock r.analog x r.journal → z ≡ run_settled d r x
 unfolding run_settled
 settles d r x g b z e₁ e₂ e₃ = rw (e₃, e₂, e₁)

@@ -8,14 +8,13 @@ use lib.IntN.{ℤ}
 use lib.ListN.{length}
 use Rattle.numbers.specs.Choice.{pick}
 use Rattle.numbers.proofs.Painted.{length_tab}
-use Rattle.panel.specs.Finish.{finished}
 use Rattle.diagnostic.specs.declared.DiagnosticKind.TheVariants.{WithoutClock, WithoutAnalog}
 use Rattle.diagnostic.specs.declared.Stage.TheVariants as stage
 use Rattle.scan.specs.Luts.{lut_of}
 use Rattle.device.specs.declared.Ssd1677.{Ssd1677}
 use Rattle.world.specs.World.{WithGlass, with_glass, WithBuffers, Lent}
-use Rattle.clock.specs.Advance.{Ready, ending_of, glass_of, is_over, ended, clocked, advanced}
-use Rattle.clock.specs.Advance as clock
+use Rattle.clock.specs.Advance.{Ready, ending_of, clocked, advanced}
+use Rattle.clock.proofs.Arrived.{ended_holds}
 use Rattle.clock.proofs.Kept.{ReadyGlass, ready_finished}
 use Rattle.stages.specs.Run.{Step, noted}
 use Rattle.stages_laws.proofs.Kept.{either}
@@ -39,13 +38,10 @@ ready_after k s z states pixels counts e same h =
 
 -- the clock's move keeps what finishing a display asks
 pub ready_advanced : (luts : List ℕ) (time : ℕ) (g : WithGlass) → ReadyGlass luts g → ReadyGlass luts (advanced luts time g)
-unfolding advanced ended
+unfolding advanced
 ready_advanced luts time g h =
-    either (ReadyGlass luts) (is_over (clocked time g).device)
-    (clock.glass_published (clocked time g) (finished (ending_of (clocked time g).device g.device.display.ends None) luts (glass_of (clocked time g))))
-    (clocked time g)
-    (ready_finished (ending_of (clocked time g).device g.device.display.ends None) luts (clocked time g) h)
-    h
+    let x = clocked time g in
+    ended_holds (ReadyGlass luts) luts x (λ display. ready_finished (ending_of x.device display display.ends None) luts x h) h
 
 -- a display writes every LUT anew and no more
 module _ (black_white red gates : List ℕ) (d : Ssd1677) (wanted two : Bool) (s : Step) (luts : List ℕ) where

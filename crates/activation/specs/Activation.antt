@@ -1,5 +1,5 @@
 -- What 0x20 does (mod.rs, `activate`): the stages that 0x22 enables, in their order, and the present again.
-use Rattle.std.specs.Prelude.{ℕ, Bool, true, false, ◌&&◌, List, ℤ}
+use Rattle.std.specs.Prelude.{ℕ, Bool, true, false, ◌&&◌, List, ℤ, Option}
 use Rattle.numbers.specs.Choice.{pick}
 use Rattle.panel.specs.declared.Display.{Display}
 use Rattle.device.specs.declared.Ssd1677.{Ssd1677}
@@ -36,7 +36,7 @@ run_of d =
     }
 
 -- and leave it there; BUSY is high for their time from now on
-unfoldable pub run_settled : Ssd1677 → Run → Display → Ssd1677
+unfoldable pub run_settled : Ssd1677 → Run → Option Display → Ssd1677
 run_settled d r display =
     with_activated d (with_loaded d.regs r.temperature r.lut r.waveform) (busy_for d.bus d.config.frequency d.now r.ns) r.clock r.analog display r.journal
 
@@ -73,8 +73,8 @@ module _ (k : Lent) (s : WithLuts) where
   staged = after (control_of s.device.regs.update_control_2) (during (control_of s.device.regs.update_control_2))
 
 -- what the callers of an activation have once 13, 11, 15 and 12 have refused all else
-pub record Activatable (d : Ssd1677) (states : List ℤ) (luts pixels counts black_white red gates log : List ℕ) : Type 0 where
-  pub startable : Startable d.regs d.config.panel luts black_white red gates log
+pub record Activatable (d : Ssd1677) (states : List ℤ) (luts pixels counts black_white red gates : List ℕ) : Type 0 where
+  pub startable : Startable d.regs d.config.panel luts black_white red gates
   pub ready : Ready d states luts pixels counts
 
 -- all the stages, with the states and the picture as they were

@@ -1,5 +1,5 @@
 -- The display of an activation (mod.rs, `start_display` and `powered`).
-use Rattle.std.specs.Prelude.{ℕ, ◌+◌, ◌*◌, ◌/◌, ◌≤◌, ◌<◌, min, ◌≡◌, Bool, true, false, ◌&&◌, List, length, get_or}
+use Rattle.std.specs.Prelude.{ℕ, ◌+◌, ◌*◌, ◌/◌, ◌≤◌, ◌<◌, min, ◌≡◌, Bool, true, false, ◌&&◌, List, length, get_or, Option, Some}
 use Rattle.numbers.specs.Choice.{pick, bit_of}
 use Rattle.numbers.specs.Lists.{tab}
 use Rattle.numbers.specs.Saturation.{largest}
@@ -21,14 +21,13 @@ use Rattle.stages.specs.declared.Run.{Run}
 use Rattle.stages.specs.Run.{Step, noted, waited}
 
 -- what the callers of a display have: 13 refuses another MUX or geometry, 11 another length
-pub record Startable (regs : Registers) (g : PanelGeometry) (luts black_white red gates log : List ℕ) : Type 0 where
+pub record Startable (regs : Registers) (g : PanelGeometry) (luts black_white red gates : List ℕ) : Type 0 where
   pub mux_small : regs.mux < 1024
   pub sources : g.first_source + g.width ≤ 960
   pub luts_long : length luts ≡ g.height * g.width
   pub gates_long : length gates ≡ g.height
   pub black_white_long : length black_white ≡ 81600
   pub red_long : length red ≡ 81600
-  pub log_long : length log ≡ 16384
 
 -- mode 2 is a partial refresh, mode 1 a full one (mod.rs, `start_display`)
 abbrev pub refresh_kind_of : Bool → RefreshKind
@@ -53,7 +52,6 @@ warned time two options s = pick (two && bit_of (get_or options 5 0) 6) (noted t
 unfoldable pub display_of : List ℕ → ℕ → ℕ → ℕ → ℕ → ℕ → Bool → Display
 display_of setting border frequency time before ns two =
     record {
-      running = true;
       started = after_ns frequency time before;
       ends = after_ns frequency time (min (before + ns) (largest 64));
       kind = refresh_kind_of two;
@@ -64,16 +62,16 @@ display_of setting border frequency time before ns two =
 -- a run, the display, the chosen LUTs and the log
 pub record Displayed : Type 0 where
   pub run : Run
-  pub display : Display
+  pub display : Option Display
   pub luts : List ℕ
   pub log : List ℕ
 
 -- the four as one
-abbrev pub displayed : Run → Display → List ℕ → List ℕ → Displayed
+abbrev pub displayed : Run → Option Display → List ℕ → List ℕ → Displayed
 displayed r d u l = record { run = r; display = d; luts = u; log = l }
 
 -- no display has started: a step, with the display and the LUTs of before
-abbrev pub unchanged : Display → List ℕ → Step → Displayed
+abbrev pub unchanged : Option Display → List ℕ → Step → Displayed
 unchanged d luts s = displayed s.run d luts s.log
 
 module _ (black_white red gates : List ℕ) (d : Ssd1677) where
@@ -82,7 +80,7 @@ module _ (black_white red gates : List ℕ) (d : Ssd1677) where
   displayBegun two s luts =
       let ns = duration_of (waveform_of s.run.lut d.config.timing.frame_period) in
       let a = warned d.now two d.regs.display_option s in
-      displayed (waited ns a.run) (display_of s.run.lut d.regs.border d.config.frequency d.now s.run.ns ns two)
+      displayed (waited ns a.run) (Some (display_of s.run.lut d.regs.border d.config.frequency d.now s.run.ns ns two))
       (tab (length luts) (lut_of gates red black_white d.config.panel (scan_of d.regs))) a.log
 
   -- bit 2: it starts unless a LUT load found no waveform; it needs the clock, else 33, and the analog supplies, else 34 (mod.rs, `powered`)

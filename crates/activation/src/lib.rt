@@ -11,8 +11,9 @@ ghost use Rattle.counts.specs.Counts.{picture};
 ghost use Rattle.world.specs.World.{with_buffers, lent};
 ghost use Rattle.activation.specs.Activation.{analog_off, clock_off, run_of, run_settled, with_luts, staged, Activatable, activated};
 
+use counts::Counts;
 use device::{Registers, Ssd1677, part};
-use diagnostic::{DiagnosticKind, Stage};
+use diagnostic::{DiagnosticKind, Log, Stage};
 use glass::RefreshKind;
 use panel::Display;
 use scan::{PlaneOption, Scan};
@@ -46,8 +47,7 @@ fn scan_of(regs: Registers) -> Scan
 }
 
 // 37 where 0x37 asks for the RAM ping-pong of display mode 2.
-fn warn(run: Run, log: &mut [u8], time: u64, two: bool, options: [u8; 10]) -> Run
-    requires { length log.old ≡ 16384 }
+fn warn(run: Run, log: &mut Log, time: u64, two: bool, options: [u8; 10]) -> Run
     ensures { step result log.new ≡ warned time two options (step run log.old) }
 {
     if two & (options[5] & 0x40 != 0) {
@@ -80,7 +80,6 @@ fn display_of(
     let ends = moment::after(frequency, time, whole);
     let kind = kind_of(two);
     Display {
-        running: true,
         started,
         ends,
         kind,
@@ -93,7 +92,7 @@ fn display_of(
 #[derive(Clone, Copy)]
 pub struct Shown {
     pub run: Run,
-    pub display: Display,
+    pub display: Option<Display>,
 }
 
 fn start_display(
@@ -102,11 +101,11 @@ fn start_display(
     black_white: &[u8],
     red: &[u8],
     gates: &[u16],
-    log: &mut [u8],
+    log: &mut Log,
     state: Ssd1677,
     two: bool,
 ) -> Shown
-    requires { Startable state.regs state.config.panel luts.old black_white.now red.now gates.now log.old }
+    requires { Startable state.regs state.config.panel luts.old black_white.now red.now gates.now }
     ensures { displayed result.run result.display luts.new log.new ≡ displayBegun black_white.now red.now gates.now state two (step run log.old) luts.old }
 {
     let regs = state.regs;
@@ -129,7 +128,10 @@ fn start_display(
         two,
     );
     let next = stages::wait(warned, ns);
-    Shown { run: next, display }
+    Shown {
+        run: next,
+        display: Some(display),
+    }
 }
 
 // The display, unless a LUT load found no waveform; it needs the clock and the analog supplies (mod.rs, `powered`).
@@ -139,12 +141,12 @@ fn show(
     black_white: &[u8],
     red: &[u8],
     gates: &[u16],
-    log: &mut [u8],
+    log: &mut Log,
     state: Ssd1677,
     wanted: bool,
     two: bool,
 ) -> Shown
-    requires { Startable state.regs state.config.panel luts.old black_white.now red.now gates.now log.old }
+    requires { Startable state.regs state.config.panel luts.old black_white.now red.now gates.now }
     ensures { displayed result.run result.display luts.new log.new ≡ displayShown black_white.now red.now gates.now state wanted two (step run log.old) luts.old }
 {
     let display = state.display;
@@ -204,7 +206,7 @@ fn run_of(state: Ssd1677) -> Run
 }
 
 // The run goes back into the state, which is busy for its time.
-fn settle(state: Ssd1677, run: Run, display: Display) -> Ssd1677
+fn settle(state: Ssd1677, run: Run, display: Option<Display>) -> Ssd1677
     ensures { result ≡ run_settled state run display }
 {
     let config = state.config;
@@ -228,10 +230,10 @@ fn run_stages(
     black_white: &[u8],
     red: &[u8],
     gates: &[u16],
-    log: &mut [u8],
+    log: &mut Log,
     otp: &[u8],
 ) -> Ssd1677
-    requires { Startable state.regs state.config.panel luts.old black_white.now red.now gates.now log.old }
+    requires { Startable state.regs state.config.panel luts.old black_white.now red.now gates.now }
     ensures { with_luts result luts.new log.new ≡ staged (lent black_white.now red.now gates.now otp.now) (with_luts state luts.old log.old) }
 {
     let regs = state.regs;
@@ -270,14 +272,14 @@ pub fn activate(
     states: &mut [i64],
     luts: &mut [u8],
     pixels: &mut [u8],
-    counts: &mut [u32],
+    counts: &mut Counts,
     black_white: &[u8],
     red: &[u8],
     gates: &[u16],
-    log: &mut [u8],
+    log: &mut Log,
     otp: &[u8],
 ) -> Ssd1677
-    requires { Activatable state states.old luts.old pixels.old counts.old black_white.now red.now gates.now log.old }
+    requires { Activatable state states.old luts.old pixels.old counts.old black_white.now red.now gates.now }
     ensures { with_buffers result states.new luts.new (picture pixels.new counts.new) log.new ≡ activated (lent black_white.now red.now gates.now otp.now) (with_buffers state states.old luts.old (picture pixels.old counts.old) log.old) }
 {
     let settled = run_stages(state, luts, black_white, red, gates, log, otp);

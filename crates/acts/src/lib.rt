@@ -8,10 +8,10 @@ ghost use Rattle.start.specs.Start.{with_busy_for};
 ghost use Rattle.acts.specs.Reserved.{reserved, checked};
 
 use device::{Ssd1677, part};
+use diagnostic::Log;
 
 // 30, unless the command has reported one before.
-fn report_reserved(state: Ssd1677, log: &mut [u8], command: u8, value: u8) -> Ssd1677
-    requires { length log.old ≡ 16384 }
+fn report_reserved(state: Ssd1677, log: &mut Log, command: u8, value: u8) -> Ssd1677
     ensures { with_log result log.new ≡ reserved command value (with_log state log.old) }
 {
     let journal = diagnostic_log::reserved(state.journal, log, state.now, command, value);
@@ -19,8 +19,7 @@ fn report_reserved(state: Ssd1677, log: &mut [u8], command: u8, value: u8) -> Ss
 }
 
 // 30 unless the datasheet lists the byte.
-pub fn check(state: Ssd1677, log: &mut [u8], command: u8, byte: u8, is_listed: bool) -> Ssd1677
-    requires { length log.old ≡ 16384 }
+pub fn check(state: Ssd1677, log: &mut Log, command: u8, byte: u8, is_listed: bool) -> Ssd1677
     ensures { with_log result log.new ≡ checked is_listed command byte (with_log state log.old) }
 {
     if is_listed {

@@ -7,8 +7,9 @@ ghost use Rattle.world.specs.World.{with_buffers, lent};
 ghost use Rattle.activation.specs.Activation.{Activatable};
 ghost use Rattle.begin.specs.Begin.{begun};
 
+use counts::Counts;
 use device::{Power, Ssd1677};
-use diagnostic::DiagnosticKind;
+use diagnostic::{DiagnosticKind, Log};
 
 // In reset, asleep and while BUSY is high a command is dropped, but for the status read, 0x2F, which a busy chip takes.
 pub fn begin(
@@ -16,15 +17,15 @@ pub fn begin(
     states: &mut [i64],
     luts: &mut [u8],
     pixels: &mut [u8],
-    counts: &mut [u32],
+    counts: &mut Counts,
     black_white: &[u8],
     red: &[u8],
     gates: &[u16],
-    log: &mut [u8],
+    log: &mut Log,
     otp: &[u8],
     command: u8,
 ) -> Ssd1677
-    requires { Activatable state states.old luts.old pixels.old counts.old black_white.now red.now gates.now log.old }
+    requires { Activatable state states.old luts.old pixels.old counts.old black_white.now red.now gates.now }
     ensures { with_buffers result states.new luts.new (picture pixels.new counts.new) log.new ≡ begun (lent black_white.now red.now gates.now otp.now) command (with_buffers state states.old luts.old (picture pixels.old counts.old) log.old) state.bus.power }
 {
     let bus = state.bus;

@@ -1,7 +1,7 @@
 // Whether what the model shows rests on values not measured on a device (config.rs, `is_approximation`).
 #![tactic(auto)]
 
-ghost use Rattle.std.specs.Prelude.{◌≡◌, ◌<◌};
+ghost use Rattle.std.specs.Prelude.{◌≡◌};
 ghost use Rattle.otp.specs.Table.{entry_count};
 ghost use Rattle.otp.specs.Search.{any_of};
 ghost use Rattle.approximation.specs.Approximation.{approximate, approximate_entry, approximated, outcome_of};
@@ -19,21 +19,13 @@ fn is_approximate(provenance: Provenance) -> bool
     }
 }
 
-fn is_approximate_entry(otp: &[u8], entry: usize) -> bool
-    requires { entry < entry_count otp.now }
-    ensures { result ≡ approximate_entry otp.now entry }
-{
-    otp[ENTRY_BYTES * entry + 1] == 0
-}
-
 fn any_approximate_entry(otp: &[u8]) -> bool
     ensures { result ≡ any_of (approximate_entry otp.now) (entry_count otp.now) }
 {
-    let entries = otp.len() / ENTRY_BYTES;
+    let (entries, _) = otp.as_chunks::<ENTRY_BYTES>();
     let mut any = false;
-    for entry in 0..entries {
-        let one = is_approximate_entry(otp, entry);
-        any = any | one;
+    for entry in entries {
+        any |= entry[1] == 0;
     }
     any
 }

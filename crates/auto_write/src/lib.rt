@@ -44,6 +44,7 @@ pub fn auto_write(plane: &mut [u8], parameter: u8)
     let first = parameter & 0x80 != 0;
     let height = step_height(parameter);
     let rows = plane.len() / ROW_BYTES;
+    // The loops count, since it is the place that decides a byte.
     for row in 0..rows {
         let above = row / height;
         for column in 0..ROW_BYTES {

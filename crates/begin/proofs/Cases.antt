@@ -23,11 +23,11 @@ use Rattle.activation.specs.Activation.{Activatable, activated}
 use Rattle.begin.specs.Begin.{command_made, run, command_by_kind, begun}
 
 -- a command made current leaves what an activation asks
-pub still_activatable : (command : ℕ) (kind : Kind) (d r : Ssd1677) (states : List ℤ) (luts pixels counts black_white red gates log : List ℕ) → r ≡ command_made command kind d
-    → Activatable d states luts pixels counts black_white red gates log → Activatable r states luts pixels counts black_white red gates log
+pub still_activatable : (command : ℕ) (kind : Kind) (d r : Ssd1677) (states : List ℤ) (luts pixels counts black_white red gates : List ℕ) → r ≡ command_made command kind d
+    → Activatable d states luts pixels counts black_white red gates → Activatable r states luts pixels counts black_white red gates
 unfolding command_made
-still_activatable command kind d r states luts pixels counts black_white red gates log e h =
-    subst (λ (x : Ssd1677). Activatable x states luts pixels counts black_white red gates log) (sym e)
+still_activatable command kind d r states luts pixels counts black_white red gates e h =
+    subst (λ (x : Ssd1677). Activatable x states luts pixels counts black_white red gates) (sym e)
     (record { startable = h.startable; ready = h.ready })
 
 module _ (k : Lent) (command : ℕ) (w : WithBuffers) where

@@ -8,8 +8,9 @@ ghost use Rattle.world.specs.World.{with_buffers, lent, on, device_in_buffers};
 ghost use Rattle.activation.specs.Activation.{Activatable};
 ghost use Rattle.begin.specs.Begin.{command_made, run, command_by_kind};
 
+use counts::Counts;
 use device::{Active, Current, Kind, Ssd1677, part};
-use diagnostic::DiagnosticKind;
+use diagnostic::{DiagnosticKind, Log};
 
 // The command that later data belong to.
 fn make_current(state: Ssd1677, command: u8, kind: Kind) -> Ssd1677
@@ -34,15 +35,15 @@ fn start_command(
     states: &mut [i64],
     luts: &mut [u8],
     pixels: &mut [u8],
-    counts: &mut [u32],
+    counts: &mut Counts,
     black_white: &[u8],
     red: &[u8],
     gates: &[u16],
-    log: &mut [u8],
+    log: &mut Log,
     otp: &[u8],
     command: u8,
 ) -> Ssd1677
-    requires { Activatable state states.old luts.old pixels.old counts.old black_white.now red.now gates.now log.old }
+    requires { Activatable state states.old luts.old pixels.old counts.old black_white.now red.now gates.now }
     ensures { with_buffers result states.new luts.new (picture pixels.new counts.new) log.new ≡ run (lent black_white.now red.now gates.now otp.now) command (with_buffers state states.old luts.old (picture pixels.old counts.old) log.old) }
 {
     if command == 0x12 {
@@ -77,16 +78,16 @@ fn accept(
     states: &mut [i64],
     luts: &mut [u8],
     pixels: &mut [u8],
-    counts: &mut [u32],
+    counts: &mut Counts,
     black_white: &[u8],
     red: &[u8],
     gates: &[u16],
-    log: &mut [u8],
+    log: &mut Log,
     otp: &[u8],
     command: u8,
     kind: Kind,
 ) -> Ssd1677
-    requires { Activatable state states.old luts.old pixels.old counts.old black_white.now red.now gates.now log.old }
+    requires { Activatable state states.old luts.old pixels.old counts.old black_white.now red.now gates.now }
     ensures { with_buffers result states.new luts.new (picture pixels.new counts.new) log.new ≡ run (lent black_white.now red.now gates.now otp.now) command (on device_in_buffers (command_made command kind) (with_buffers state states.old luts.old (picture pixels.old counts.old) log.old)) }
 {
     let current = make_current(state, command, kind);
@@ -111,15 +112,15 @@ pub fn decode(
     states: &mut [i64],
     luts: &mut [u8],
     pixels: &mut [u8],
-    counts: &mut [u32],
+    counts: &mut Counts,
     black_white: &[u8],
     red: &[u8],
     gates: &[u16],
-    log: &mut [u8],
+    log: &mut Log,
     otp: &[u8],
     command: u8,
 ) -> Ssd1677
-    requires { Activatable state states.old luts.old pixels.old counts.old black_white.now red.now gates.now log.old }
+    requires { Activatable state states.old luts.old pixels.old counts.old black_white.now red.now gates.now }
     ensures { with_buffers result states.new luts.new (picture pixels.new counts.new) log.new ≡ command_by_kind (lent black_white.now red.now gates.now otp.now) command (with_buffers state states.old luts.old (picture pixels.old counts.old) log.old) (kind_of command) }
 {
     let known = command::kind(command);

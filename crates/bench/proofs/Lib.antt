@@ -2,3 +2,4 @@
 pub mod Passed
 pub mod Decoded
 pub mod Runs
+pub mod KindNumbers

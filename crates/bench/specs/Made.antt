@@ -65,7 +65,7 @@ kind_of false = Full
 -- a refresh with a setting and a border register
 abbrev pub display_of : List ℕ → ℕ → Bool → ℕ → Display
 display_of setting register partial started =
-    record { running = true; started = started; ends = 0; kind = kind_of partial; setting = setting; border = register }
+    record { started = started; ends = 0; kind = kind_of partial; setting = setting; border = register }
 
 -- a kind as a number
 abbrev pub kind_number : RefreshKind → ℕ

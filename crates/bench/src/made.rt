@@ -1,6 +1,6 @@
 // What the functions take, made of numbers.
 ghost use Rattle.std.specs.Prelude.{◌≡◌};
-ghost use Rattle.bench.specs.Made.{until_of, geometry_of, scan_of, panel_of, kind_of, display_of, kind_number, header_of};
+ghost use Rattle.bench.specs.Made.{until_of, geometry_of, scan_of, panel_of, kind_of, display_of, header_of};
 
 use config::{GateScan, PanelGeometry};
 use glass::{PanelImage, RefreshKind};
@@ -87,7 +87,6 @@ pub(crate) fn display_of(setting: &[u8; 112], register: u8, partial: bool, start
     let bytes = *setting;
     let kind = kind_of(partial);
     Display {
-        running: true,
         started,
         ends: 0,
         kind,
@@ -96,28 +95,16 @@ pub(crate) fn display_of(setting: &[u8; 112], register: u8, partial: bool, start
     }
 }
 
-fn kind_number(kind: RefreshKind) -> u64
-    ensures { result ≡ kind_number kind }
-{
-    match kind {
-        RefreshKind::PowerOn => 0,
-        RefreshKind::Full => 1,
-        RefreshKind::Partial => 2,
-    }
-}
-
 // An image's header as numbers.
 pub fn header_of(image: PanelImage) -> [u64; 8]
     ensures { result ≡ header_of image }
 {
-    let kind = image.kind;
-    let number = kind_number(kind);
     [
         image.width as u64,
         image.height as u64,
         image.border as u64,
         image.generation,
-        number,
+        image.kind as u64,
         image.interrupted as u64,
         image.started,
         image.at,

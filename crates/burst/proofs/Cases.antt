@@ -15,14 +15,14 @@ use Rattle.device.specs.declared.Current.TheVariants as current
 use Rattle.device.specs.declared.Ssd1677.{Ssd1677}
 use Rattle.device.specs.Parts.{with_now, with_current, with_pointed}
 use Rattle.moment.specs.Moments.{quiet_at}
-use Rattle.data.specs.Most.{is_stream}
+use Rattle.device.specs.Kinds.{is_stream}
 use Rattle.burst.specs.declared.Course.{Course}
 use Rattle.burst.specs.declared.Reached.{Reached}
 use Rattle.burst.specs.Running.{byte_step, taking, Ran, running}
 use Rattle.burst.specs.Burst.{course_of, start_of, received_as, reached_by, Into, into, put_back, bursted, ran_into, burstOf}
 
 module _ (c : Course) (kind time byte latest : ℕ) (s : Reached) (plane : List ℕ) (quiet : Bool)
-    (later : latest ≡ max s.latest time) (tells : quiet ≡ quiet_at c.running c.ends c.busy_until latest) where
+    (later : latest ≡ max s.latest time) (tells : quiet ≡ quiet_at c.ends c.busy_until latest) where
   -- the byte was taken
   pub takes_it : (wrote : Bool) (counter : Counter) (received : ℕ) {p : List ℕ} → (eqb kind 2 && quiet) ≡ true → wrote ≡ true
       → wrote ≡ wrote_at plane s.counter → p ≡ written_at plane s.counter byte

@@ -1,12 +1,13 @@
 -- What bytes of RAM data leave of a state and of the two planes.
 use Rattle.std.specs.Prelude.{ℕ, List, eqb}
 use Rattle.numbers.specs.Choice.{pick}
+use Rattle.panel.specs.End.{display_end}
 use Rattle.device.specs.declared.Active.{Active}
 use Rattle.device.specs.declared.Current.{Current}
 use Rattle.device.specs.declared.Current.TheVariants as current
 use Rattle.device.specs.declared.Ssd1677.{Ssd1677}
 use Rattle.device.specs.Parts.{with_now, with_current, with_pointed}
-use Rattle.data.specs.Most.{is_stream}
+use Rattle.device.specs.Kinds.{is_stream}
 use Rattle.burst.specs.declared.Course.{Course}
 use Rattle.burst.specs.declared.Reached.{Reached}
 use Rattle.burst.specs.Running.{Ran, running}
@@ -17,8 +18,7 @@ course_of d =
     record {
       window = d.regs.window;
       entry = d.regs.entry;
-      running = d.display.running;
-      ends = d.display.ends;
+      ends = display_end d.display;
       busy_until = d.bus.busy_until;
     }
 

@@ -10,7 +10,7 @@ use Rattle.burst.specs.declared.Reached.{Reached}
 
 -- the event is a data byte (docs/replay-format.md, kind 2), nothing else comes about at its time, and the plane has the counter's byte
 abbrev pub takes : Course → ℕ → ℕ → Reached → List ℕ → Bool
-takes c kind time s plane = (eqb kind 2 && quiet_at c.running c.ends c.busy_until (max s.latest time)) && wrote_at plane s.counter
+takes c kind time s plane = (eqb kind 2 && quiet_at c.ends c.busy_until (max s.latest time)) && wrote_at plane s.counter
 
 -- after the byte: the later clock, the counter's step, and one byte more
 abbrev pub onward : Course → ℕ → Reached → Reached

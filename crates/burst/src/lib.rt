@@ -2,12 +2,15 @@
 // counter, the clock and the command's count alone, so these go through a loop of their own and the state is put back once: a frame has 48,000.
 #![tactic(auto)]
 
-ghost use Rattle.std.specs.Prelude.{is_some, ◌≡◌, ◌-◌, ◌≤◌, length};
+ghost use Rattle.std.specs.Prelude.{is_some, ◌≡◌, ◌-◌};
 ghost use Rattle.burst.specs.Running.{reached_in, byte_step, taking, ran, running};
 ghost use Rattle.burst.specs.Burst.{course_of, reached_by, into, ran_into, bursted, burstOf};
 
 use device::{Active, Current, Ssd1677, part};
+pub use events::Events;
 use ram::{Counter, Entry, Window};
+
+mod events;
 
 // The kind of a data event (docs/replay-format.md).
 pub const DATA: u8 = 2;
@@ -26,9 +29,8 @@ pub struct Reached {
 pub struct Course {
     pub window: Window,
     pub entry: Entry,
-    // A display and its end.
-    pub running: bool,
-    pub ends: u64,
+    // The end of the display in progress.
+    pub ends: Option<u64>,
     pub busy_until: Option<u64>,
 }
 
@@ -59,7 +61,7 @@ fn take(
 {
     let latest = reached.latest.max(time);
     let busy_until = course.busy_until;
-    let quiet = moment::is_quiet(course.running, course.ends, busy_until, latest);
+    let quiet = moment::is_quiet(course.ends, busy_until, latest);
     if (kind == DATA) & quiet {
         let at = reached.counter;
         if ram::write(plane, at, byte) {
@@ -79,24 +81,17 @@ fn take(
 }
 
 // The events from a place on, up to the first that is no such byte.
-fn run_on(
-    plane: &mut [u8],
-    course: Course,
-    reached: Reached,
-    kinds: &[u8],
-    times: &[u64],
-    values: &[u8],
-    from: usize,
-    count: usize,
-) -> Run
-    requires { (count ≤ length kinds.now) × (count ≤ length times.now) × (count ≤ length values.now) }
-    ensures { ran result.made result.reached plane.new ≡ running kinds.now times.now values.now course (count - from) from reached plane.old }
+fn run_on(plane: &mut [u8], course: Course, reached: Reached, events: Events, from: usize) -> Run
+    ensures { ran result.made result.reached plane.new ≡ running events.entry.kinds.now events.entry.times.now events.entry.values.now course (events.entry.count - from) from reached plane.old }
 {
     let mut next = reached;
     let mut i = from;
     // The place where they end is part of the answer, so it is counted here.
-    while i < count {
-        let Some(onward) = take(&mut plane[..], course, next, kinds[i], times[i], values[i]) else {
+    while i < events.count {
+        let kind = events.kinds[i];
+        let time = events.times[i];
+        let byte = events.values[i];
+        let Some(onward) = take(&mut plane[..], course, next, kind, time, byte) else {
             return Run {
                 made: i,
                 reached: next,
@@ -119,11 +114,11 @@ fn course_of(state: Ssd1677) -> Course
     let entry = regs.entry;
     let bus = state.bus;
     let busy_until = bus.busy_until;
+    let ends = panel::end_of(state.display);
     Course {
         window,
         entry,
-        running: state.display.running,
-        ends: state.display.ends,
+        ends,
         busy_until,
     }
 }
@@ -141,18 +136,8 @@ fn put_back(state: Ssd1677, active: Active, reached: Reached) -> Ssd1677
 }
 
 // The events from a place on that are RAM data of a command into its plane.
-fn run_into(
-    state: Ssd1677,
-    active: Active,
-    plane: &mut [u8],
-    kinds: &[u8],
-    times: &[u64],
-    values: &[u8],
-    from: usize,
-    count: usize,
-) -> Burst
-    requires { (count ≤ length kinds.now) × (count ≤ length times.now) × (count ≤ length values.now) }
-    ensures { into result.made result.state plane.new ≡ ran_into kinds.now times.now values.now (count - from) from state active plane.old }
+fn run_into(state: Ssd1677, active: Active, plane: &mut [u8], events: Events, from: usize) -> Burst
+    ensures { into result.made result.state plane.new ≡ ran_into events.entry.kinds.now events.entry.times.now events.entry.values.now (events.entry.count - from) from state active plane.old }
 {
     let course = course_of(state);
     let counter = state.regs.counter;
@@ -161,7 +146,7 @@ fn run_into(
         counter,
         received: active.received,
     };
-    let run = run_on(plane, course, start, kinds, times, values, from, count);
+    let run = run_on(plane, course, start, events, from);
     let reached = run.reached;
     let after = put_back(state, active, reached);
     Burst {
@@ -175,36 +160,20 @@ pub fn write_burst(
     state: Ssd1677,
     black_white: &mut [u8],
     red: &mut [u8],
-    kinds: &[u8],
-    times: &[u64],
-    values: &[u8],
+    events: Events,
     from: usize,
-    count: usize,
 ) -> Burst
-    requires { (count ≤ length kinds.now) × (count ≤ length times.now) × (count ≤ length values.now) }
-    ensures { bursted result.made result.state black_white.new red.new ≡ burstOf kinds.now times.now values.now (count - from) from state black_white.old red.old state.bus.current }
+    ensures { bursted result.made result.state black_white.new red.new ≡ burstOf events.entry.kinds.now events.entry.times.now events.entry.values.now (events.entry.count - from) from state black_white.old red.old state.bus.current }
 {
-    let bus = state.bus;
-    let current = bus.current;
-    match current {
+    match state.bus.current {
         Current::Active(active) => {
-            let kind = active.kind;
-            if data::is_stream(kind) {
-                if active.command == 0x24 {
-                    return run_into(
-                        state,
-                        active,
-                        black_white,
-                        kinds,
-                        times,
-                        values,
-                        from,
-                        count,
-                    );
-                }
-                return run_into(state, active, red, kinds, times, values, from, count);
+            if active.kind.bounds().is_some() {
+                return Burst { made: from, state };
             }
-            Burst { made: from, state }
+            if active.command == 0x24 {
+                return run_into(state, active, black_white, events, from);
+            }
+            run_into(state, active, red, events, from)
         }
         Current::Idle => Burst { made: from, state },
         Current::Ignoring => Burst { made: from, state },

@@ -1,7 +1,7 @@
 -- BUSY and the next deadline (mod.rs; datasheet Table 5-2 for the pin's level).
 use Rattle.std.specs.Prelude.{ℕ, min, Bool, true, false, not, ltb, Option, Some, None}
 use Rattle.numbers.specs.Choice.{pick}
-use Rattle.panel.specs.declared.Display.{Display}
+use Rattle.panel.specs.End.{display_end}
 use Rattle.device.specs.declared.Bus.{Bus}
 use Rattle.device.specs.declared.Power.{Power}
 use Rattle.device.specs.declared.Power.TheVariants.{Running, Asleep, InReset}
@@ -31,10 +31,6 @@ unfoldable pub earlier : Option ℕ → Option ℕ → Option ℕ
 earlier None b = b
 earlier (Some a) None = Some a
 earlier (Some a) (Some b) = Some (min a b)
-
--- when a running display ends
-unfoldable pub display_end : Display → Option ℕ
-display_end d = pick d.running (Some d.ends) None
 
 -- the next instant at which something changes without a call (mod.rs, `next_deadline`)
 unfoldable pub deadline_of : Ssd1677 → Option ℕ

@@ -3,10 +3,9 @@
 #![tactic(auto)]
 
 ghost use Rattle.std.specs.Prelude.{◌≡◌};
-ghost use Rattle.busy.specs.Busy.{pending, busy_at, pin_at, earlier, display_end, deadline_of};
+ghost use Rattle.busy.specs.Busy.{pending, busy_at, pin_at, earlier, deadline_of};
 
 use device::{Power, Ssd1677};
-use panel::Display;
 
 // Whether the instant is before the deadline.
 pub fn is_pending(deadline: Option<u64>, time: u64) -> bool
@@ -56,21 +55,12 @@ fn earlier_of(one: Option<u64>, other: Option<u64>) -> Option<u64>
     }
 }
 
-fn end_of(display: Display) -> Option<u64>
-    ensures { result ≡ display_end display }
-{
-    if display.running {
-        return Some(display.ends);
-    }
-    None
-}
-
 // When BUSY falls, or a display ends and its image is published.
 pub fn deadline(state: Ssd1677) -> Option<u64>
     ensures { result ≡ deadline_of state }
 {
     let bus = state.bus;
     let busy_until = bus.busy_until;
-    let end = end_of(state.display);
+    let end = panel::end_of(state.display);
     earlier_of(end, busy_until)
 }

@@ -1,8 +1,8 @@
 -- An activation leaves BUSY high to the end of the display that it starts: BUSY lasts as long as all the stages, the display among them.
 -- Assumes nothing.
-use Rattle.std.specs.Prelude.{Some}
+use Rattle.std.specs.Prelude.{Option, Some, None}
 use Prim.Native.Nat.{ℕ, ◌+◌, ◌≤◌, ◌<◌, min}
-use mathlib.Core.Path.{◌≡◌, refl, sym, ap, subst, ◌∙◌}
+use mathlib.Core.Path.{◌≡◌, refl, sym, ap, subst}
 use mathlib.Core.Bool.{Bool, true, false, ◌&&◌}
 use mathlib.Core.List.{List}
 use native.Mathlib.Omega.{arith}
@@ -30,21 +30,25 @@ use Rattle.activation.specs.Activation.{analog_off, clock_off, run_settled, with
 use Rattle.calls.specs.Sound.{inert, UnderWay, Held}
 use Rattle.calls.proofs.Clock.{Due, held_advanced}
 
-never : false ≡ true → ⊥
-never e = let z : ◌≡◌ {A = ℕ} 0 1 = cc in omega arith
-
 -- ---- BUSY rises for a span
 rises : (bus : Bus) (frequency moment ns : ℕ) → 0 < ns → busy_for bus frequency moment ns ≡ with_until bus (Some (after_ns frequency moment ns))
 unfolding busy_for
 rises bus frequency moment ns h = rw (lt-ltb 0 ns h)
 
--- ---- the display ends within the time of the stages so far, which a u64 holds
-record TimedRun (d : Ssd1677) (t : Displayed) : Type 0 where
-  within : t.display.ends ≤ after_ns d.config.frequency d.now t.run.ns
-  held : t.run.ns ≤ largest 64
+-- ---- the display, if there is one, ends within the time of the stages so far, which a u64 holds
+record TimedRun (d : Ssd1677) (r : Run) (display : Display) : Type 0 where
+  within : display.ends ≤ after_ns d.config.frequency d.now r.ns
+  held : r.ns ≤ largest 64
+
+abbrev TimedBy : Ssd1677 → Run → Option Display → Type 0
+TimedBy d r None = Unit {0}
+TimedBy d r (Some display) = TimedRun d r display
 
 abbrev Timed : Ssd1677 → Displayed → Type 0
-Timed d t = t.display.running ≡ true → TimedRun d t
+Timed d t = TimedBy d t.run t.display
+
+untimed : (d : Ssd1677) (r : Run) (o : Option Display) → o ≡ None → TimedBy d r o
+untimed d r o is = subst (TimedBy d r) (sym is) tt
 
 warned_ns : (time : ℕ) (two : Bool) (options : List ℕ) (s : Step) → (warned time two options s).run.ns ≡ s.run.ns
 unfolding warned noted
@@ -57,7 +61,7 @@ same_end frequency moment x y e = rw e (omega arith)
 module _ (black_white red gates : List ℕ) (d : Ssd1677) (two : Bool) (s : Step) (luts : List ℕ) where
   begun_timed : Timed d (displayBegun black_white red gates d two s luts)
   unfolding displayBegun display_of waited
-  begun_timed run =
+  begun_timed =
       let ns = duration_of (waveform_of s.run.lut d.config.timing.frame_period) in
       let a = warned d.now two d.regs.display_option s in
       record {
@@ -67,8 +71,8 @@ module _ (black_white red gates : List ℕ) (d : Ssd1677) (two : Bool) (s : Step
         held = omega arith;
       }
 
-  -- none runs but one that this activation starts
-  shown_timed : (wanted : Bool) → d.display.running ≡ false → Timed d (displayShown black_white red gates d wanted two s luts)
+  -- none is in progress but one that this activation starts
+  shown_timed : (wanted : Bool) → d.display ≡ None → Timed d (displayShown black_white red gates d wanted two s luts)
   unfolding displayShown
   shown_timed wanted still =
       let x = displayBegun black_white red gates d two s luts in
@@ -77,9 +81,9 @@ module _ (black_white red gates : List ℕ) (d : Ssd1677) (two : Bool) (s : Step
       either (Timed d) (wanted && s.run.waveform_found) (pick s.run.clock (pick s.run.analog x unpowered) unclocked)
       (unchanged d.display luts s)
       (either (Timed d) s.run.clock (pick s.run.analog x unpowered) unclocked
-      (either (Timed d) s.run.analog x unpowered begun_timed (λ run. absurd (never (sym still ∙ run))))
-      (λ run. absurd (never (sym still ∙ run))))
-      (λ run. absurd (never (sym still ∙ run)))
+      (either (Timed d) s.run.analog x unpowered begun_timed (untimed d unpowered.run d.display still))
+      (untimed d unclocked.run d.display still))
+      (untimed d s.run d.display still)
 
 -- ---- the supplies' end makes it no shorter
 analog_longer : (frequency moment : ℕ) (wanted : Bool) (ns : ℕ) (r : Run) → r.ns ≤ largest 64
@@ -99,16 +103,17 @@ off_longer frequency moment analog clock ns r held =
     rw (clock_ns clock (analog_off analog ns r)) (analog_longer frequency moment analog ns r held)
 
 -- ---- BUSY
-settled_due : (d : Ssd1677) (r : Run) (display : Display) → d.bus.power ≡ Running → inert d.bus.current ≡ true
-    → (display.running ≡ true → display.ends ≤ after_ns d.config.frequency d.now r.ns) → Due (run_settled d r display)
+settled_due : (d : Ssd1677) (r : Run) (o : Option Display) → d.bus.power ≡ Running → inert d.bus.current ≡ true
+    → ((display : Display) → o ≡ Some display → display.ends ≤ after_ns d.config.frequency d.now r.ns) → Due (run_settled d r o)
 unfolding run_settled
-settled_due d r display power current timed run ahead =
+settled_due d r o power current timed display is ahead =
     let f = d.config.frequency in
-    let ends = timed run in
+    let ends = timed display is in
     let high = rises d.bus f d.now r.ns (some_span f d.now r.ns (omega arith)) in
-    subst (λ (b : Bus). UnderWay (with_activated d (with_loaded d.regs r.temperature r.lut r.waveform) b r.clock r.analog display r.journal))
+    subst (λ (b : Bus). UnderWay (with_activated d (with_loaded d.regs r.temperature r.lut r.waveform) b r.clock r.analog o r.journal) display)
     (sym high)
     (record {
+      shown = is;
       until = after_ns f d.now r.ns;
       busy = refl;
       to_its_end = ends;
@@ -118,7 +123,7 @@ settled_due d r display power current timed run ahead =
     })
 
 module _ (k : Lent) (w : WithBuffers) (power : w.device.bus.power ≡ Running) (current : inert w.device.bus.current ≡ true)
-    (still : w.device.display.running ≡ false) where
+    (still : w.device.display ≡ None) where
   staged_due : Due (staged_in k w).device
   unfolding staged
   staged_due =
@@ -128,8 +133,9 @@ module _ (k : Lent) (w : WithBuffers) (power : w.device.bus.power ≡ Running) (
       let x = during k s control in
       let ns = d.config.timing.analog_off in
       settled_due d (clock_off control.clock_off (analog_off control.analog_off ns x.run)) x.display power current
-      (λ run.
-      let shows = shown_timed k.black_white k.red k.gates d control.mode_two (before k s control) w.luts control.display still run in
+      (λ display is.
+      let shows : TimedRun d x.run display =
+      subst (TimedBy d x.run) is (shown_timed k.black_white k.red k.gates d control.mode_two (before k s control) w.luts control.display still) in
       let off = off_longer d.config.frequency d.now control.analog_off control.clock_off ns x.run shows.held in
       omega (arith, shows.within))
 

@@ -1,4 +1,4 @@
--- A command byte keeps BUSY high to the end of a running display: while one runs every command but 0x2F is held off, and where none runs
+-- A command byte keeps BUSY high to the end of the display in progress: while there is one every command but 0x2F is held off, and where there is none
 -- only 0x20 starts one. Assumes nothing.
 use Rattle.std.specs.Prelude.{Option, Some, None}
 use Prim.Native.Nat.{ℕ}
@@ -12,6 +12,7 @@ use Rattle.numbers.specs.Rows.{lookup}
 use Rattle.counter.specs.Counter.{within_of}
 use Rattle.diagnostic.specs.declared.DiagnosticKind.TheVariants.{WhileBusy, WithoutClock, WithoutAnalog, CounterOutsideWindow}
 use Rattle.diagnostic.specs.declared.Stage.TheVariants.{VcomSense}
+use Rattle.panel.specs.declared.Display.{Display}
 use Rattle.device.specs.declared.Kind.{Kind}
 use Rattle.device.specs.declared.Kind.TheVariants.{Write, Read, Unsupported, Reserved}
 use Rattle.device.specs.declared.Power.{Power}
@@ -28,18 +29,18 @@ use Rattle.stages_laws.proofs.Kept.{either}
 use Rattle.activation.specs.Activation.{activated}
 use Rattle.begin.specs.Begin.{command_made, run, command_by_kind, is_held_off, begun}
 use Rattle.calls.specs.Sound.{takes_none, UnderWay, Held}
-use Rattle.calls.proofs.Clock.{held_still, under_way_kept}
+use Rattle.calls.proofs.Clock.{held_still, held_shown, under_way_kept}
 use Rattle.calls.proofs.Activated.{held_activated}
 
 -- ---- the end of a command
 pub held_closed : (k : WithLog) → Held k.device → Held (closed k).device
 unfolding closed
-held_closed k h run = under_way_kept k.device _ refl refl refl refl refl (h run)
+held_closed k h display is = under_way_kept k.device _ refl refl refl refl refl (h display is)
 
 -- ---- what a command does at once, beside an activation, leaves the display
 module _ (k : WithLog) where
   abbrev Same : WithLog → Type 0
-  Same x = x.device.display.running ≡ k.device.display.running
+  Same x = x.device.display ≡ k.device.display
 
   unpowered_same : Same (unpowered VcomSense k)
   unfolding unpowered logged
@@ -60,7 +61,7 @@ module _ (k : WithLog) where
       let regs = k.device.regs in
       either Same (within_of regs.counter regs.window) k (logged (CounterOutsideWindow command regs.counter.x regs.counter.y) k) refl refl
 
-reset_same : (d : Ssd1677) → (soft_reset d).display.running ≡ d.display.running
+reset_same : (d : Ssd1677) → (soft_reset d).display ≡ d.display
 unfolding soft_reset restored
 reset_same d = refl
 
@@ -85,13 +86,13 @@ when P false x y p q = q
 abbrev HeldWith : WithBuffers → Type 0
 HeldWith w = Held w.device
 
--- ---- no display runs
-module _ (k : Lent) (command : ℕ) (w : WithBuffers) (still : w.device.display.running ≡ false) where
+-- ---- no display is in progress
+module _ (k : Lent) (command : ℕ) (w : WithBuffers) (still : w.device.display ≡ None) where
   made_activated : (kind : Kind) → w.device.bus.power ≡ Running → takes_none kind ≡ true → HeldWith (activated k (on device_in_buffers (command_made command kind) w))
   unfolding command_made
   made_activated kind power none = held_activated k (on device_in_buffers (command_made command kind) w) power none still
 
-  made_still : (kind : Kind) → (on device_in_buffers (command_made command kind) w).device.display.running ≡ false
+  made_still : (kind : Kind) → (on device_in_buffers (command_made command kind) w).device.display ≡ None
   unfolding command_made
   made_still kind = still
 
@@ -123,8 +124,8 @@ module _ (k : Lent) (command : ℕ) (w : WithBuffers) (still : w.device.display.
       either HeldWith (is_held_off command w.device) (on log_in_buffers (logged (WhileBusy command)) w) (command_by_kind k command w (kind_of command)) (held_still _ still)
       (kind_held (kind_of command) power refl)
 
--- ---- one runs
-module _ (k : Lent) (w : WithBuffers) (u : UnderWay w.device) where
+-- ---- one is
+module _ (k : Lent) (w : WithBuffers) {display : Display} (u : UnderWay w.device display) where
   is_pending : pending w.device.bus.busy_until w.device.now ≡ true
   unfolding pending
   is_pending =
@@ -133,27 +134,27 @@ module _ (k : Lent) (w : WithBuffers) (u : UnderWay w.device) where
       rw (u.busy, lt-ltb w.device.now u.until (omega arith))
 
   -- 0x2F is taken: its data bytes are read
-  status_under_way : UnderWay (begun k 0x2F w Running).device
+  status_under_way : UnderWay (begun k 0x2F w Running).device display
   unfolding begun command_by_kind run command_made kind_of lookup rows
   status_under_way = by (pending w.device.bus.busy_until w.device.now)
     where
-      by : (b : Bool) → UnderWay (pick (b && not (eqb 0x2F 0x2F)) (on log_in_buffers (logged (WhileBusy 0x2F)) w) (on device_in_buffers (command_made 0x2F Read) w)).device
+      by : (b : Bool) → UnderWay (pick (b && not (eqb 0x2F 0x2F)) (on log_in_buffers (logged (WhileBusy 0x2F)) w) (on device_in_buffers (command_made 0x2F Read) w)).device display
       by true = under_way_kept w.device _ refl refl refl refl refl u
       by false = under_way_kept w.device _ refl refl refl refl refl u
 
-  begun_under_way : (command : ℕ) → UnderWay (begun k command w Running).device
+  begun_under_way : (command : ℕ) → UnderWay (begun k command w Running).device display
   unfolding begun logged
   begun_under_way command = by (eqb command 0x2F) refl
     where
-      by : (b : Bool) → eqb command 0x2F ≡ b → UnderWay (begun k command w Running).device
-      by true e = subst (λ (c : ℕ). UnderWay (begun k c w Running).device) (sym (eqb-true command 0x2F e)) status_under_way
+      by : (b : Bool) → eqb command 0x2F ≡ b → UnderWay (begun k command w Running).device display
+      by true e = subst (λ (c : ℕ). UnderWay (begun k c w Running).device display) (sym (eqb-true command 0x2F e)) status_under_way
       by false e = rw (is_pending, e) (under_way_kept w.device _ refl refl refl refl u.inert_command u)
 
 pub held_begun : (k : Lent) (command : ℕ) (w : WithBuffers) → Held w.device → Held (begun k command w w.device.bus.power).device
-held_begun k command w h = by w.device.display.running refl
+held_begun k command w h = by w.device.display refl
   where
-    by : (b : Bool) → w.device.display.running ≡ b → Held (begun k command w w.device.bus.power).device
-    by true e =
-        let u = h e in
-        λ run. subst (λ (p : Power). UnderWay (begun k command w p).device) (sym u.runs) (begun_under_way k w u command)
-    by false e = begun_still k command w e w.device.bus.power refl
+    by : (o : Option Display) → w.device.display ≡ o → Held (begun k command w w.device.bus.power).device
+    by (Some display) is =
+        let u = h display is in
+        held_shown _ display (subst (λ (p : Power). UnderWay (begun k command w p).device display) (sym u.runs) (begun_under_way k w u command))
+    by None is = begun_still k command w is w.device.bus.power refl

@@ -10,6 +10,7 @@ use Rattle.numbers.specs.Choice.{pick}
 use Rattle.diagnostic.specs.declared.DiagnosticKind.TheVariants.{MissingData, ResetDuringDisplay}
 use Rattle.diagnostic.specs.Log.{Entries, reported}
 use Rattle.diagnostic.proofs.Kept.{reported_length, reported_count}
+use Rattle.panel.specs.declared.Display.{Display}
 use Rattle.panel.specs.Finish.{finished, published}
 use Rattle.panel_laws.proofs.Exactly.{states_length}
 use Rattle.device.specs.declared.Current.{Current}
@@ -19,10 +20,12 @@ use Rattle.device.specs.declared.Power.TheVariants.{Running, Asleep, InReset}
 use Rattle.world.specs.World.{WithLog, with_log, WithGlassLog, on, device_in_glass_log, log_in_glass_log, glass_in_glass_log}
 use Rattle.registers.proofs.Bounds.{Bounded, reset_bounded}
 use Rattle.guard_kinds.specs.Kinds.{current_fine}
-use Rattle.chip.specs.Close.{expected_of, missing, entries_of, closed}
+use Rattle.device.specs.Kinds.{expected_of}
+use Rattle.chip.specs.Close.{missing, entries_of, closed}
 use Rattle.chip.specs.Report.{logged}
 use Rattle.moment.proofs.Current.{current_busy}
-use Rattle.reset.specs.Reset.{restored, is_driving, display_cut, display_dropped, cut, in_reset, asserted, released, by_line}
+use Rattle.reset.specs.Reset.{restored, display_cut, display_dropped, cut, in_reset, asserted, released, by_line}
+use Rattle.reset.proofs.Kept.{cut_holds}
 
 -- ---- 26 if parameters lack
 module _ (time : ℕ) (e : Entries) where
@@ -123,9 +126,9 @@ leaves_logged w =
       log_long = reported_length (entries_of k) w.device.now ResetDuringDisplay;
     }
 
-leaves_shortened : (luts : List ℕ) (w : WithGlassLog) → LineLeaves w (on glass_in_glass_log (display_cut luts) w)
+leaves_shortened : (luts : List ℕ) (display : Display) (w : WithGlassLog) → LineLeaves w (on glass_in_glass_log (display_cut luts display) w)
 unfolding display_cut finished published
-leaves_shortened luts w =
+leaves_shortened luts display w =
     record {
       same_config = refl;
       same_swing = refl;
@@ -140,14 +143,11 @@ leaves_dropped w =
     record { same_config = refl; same_swing = refl; bounded = λ h. h; count = λ h. h; states_long = refl; log_long = λ h. h }
 
 leaves_cut : (luts : List ℕ) (w : WithGlassLog) → LineLeaves w (cut luts w)
-unfolding cut
-leaves_cut luts w = by (is_driving w.device)
-  where
-    by : (b : Bool) → LineLeaves w (pick b (on glass_in_glass_log (display_cut luts) (on log_in_glass_log (logged ResetDuringDisplay) w)) (on device_in_glass_log display_dropped w))
-    by true =
-        let v = on log_in_glass_log (logged ResetDuringDisplay) w in
-        leaves_then w v (on glass_in_glass_log (display_cut luts) v) (leaves_logged w) (leaves_shortened luts v)
-    by false = leaves_dropped w
+leaves_cut luts w =
+    let v = on log_in_glass_log (logged ResetDuringDisplay) w in
+    cut_holds (LineLeaves w) luts w
+    (λ display is. leaves_then w v (on glass_in_glass_log (display_cut luts display) v) (leaves_logged w) (leaves_shortened luts display v))
+    (leaves_dropped w) (λ is. leaves_all w)
 
 leaves_restored : (w : WithGlassLog) → LineLeaves w (on device_in_glass_log in_reset (on device_in_glass_log restored w))
 unfolding in_reset restored

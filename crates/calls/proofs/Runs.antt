@@ -1,12 +1,13 @@
 -- From an accepted start on, whatever calls came, each with what the call before it left: no further call is refused, and BUSY is high to
--- the end of a running display. Assumes nothing.
-use Rattle.std.specs.Prelude.{Some, Ok}
+-- the end of the display in progress. Assumes nothing.
+use Rattle.std.specs.Prelude.{Some, None, Ok}
 use Prim.Native.Nat.{ℕ, ◌<◌}
 use mathlib.Core.Path.{◌≡◌, sym, ap, subst, ◌∙◌}
-use mathlib.Core.Bool.{true, false}
+use mathlib.Core.Bool.{true}
 use mathlib.Core.List.{List, [], ◌∷◌}
 use Rattle.config.specs.declared.Ssd1677Config.{Ssd1677Config}
 use Rattle.config.specs.Answer.{is_accepted}
+use Rattle.panel.specs.declared.Display.{Display}
 use Rattle.world.specs.World.{World}
 use Rattle.busy.specs.Busy.{busy_at, deadline_of}
 use Rattle.query.specs.Outcome.{Outcome, outcome, state_guarded}
@@ -54,15 +55,15 @@ module _ (c : Ssd1677Config) (otp : List ℕ) (b : Buffers) (accepts : is_accept
   never_refused_asking = state_passes present.device run_kept.sound.state
 
   -- after a call that asserts RES# no refresh is under way
-  pub reset_stops : (time : ℕ) → (called otp present (set_reset time true)).held.device.display.running ≡ false
+  pub reset_stops : (time : ℕ) → (called otp present (set_reset time true)).held.device.display ≡ None
   reset_stops time =
-      ap (λ (o : Outcome World). o.held.device.display.running) (never_refused (set_reset time true)) ∙ low_stops otp present run_kept.held time
+      ap (λ (o : Outcome World). o.held.device.display) (never_refused (set_reset time true)) ∙ low_stops otp present run_kept.held time
 
-  module _ (run : present.device.display.running ≡ true) where
+  module _ (display : Display) (is : present.device.display ≡ Some display) where
     -- while a refresh runs, BUSY is high up to its end
-    pub busy_while_running : (t : ℕ) → t < present.device.display.ends → busy_at present.device.bus t ≡ true
-    busy_while_running t h = busy_to_end present.device (run_kept.held run) t h
+    pub busy_while_running : (t : ℕ) → t < display.ends → busy_at present.device.bus t ≡ true
+    busy_while_running t h = busy_to_end present.device display (run_kept.held display is) t h
 
     -- and the next deadline is that end
-    pub deadline_while_running : deadline_of present.device ≡ Some present.device.display.ends
-    deadline_while_running = deadline_at_end present.device (run_kept.held run) run
+    pub deadline_while_running : deadline_of present.device ≡ Some display.ends
+    deadline_while_running = deadline_at_end present.device display (run_kept.held display is)

@@ -1,6 +1,7 @@
 -- What every call keeps from an accepted start on: nothing is refused on the way; a running refresh keeps BUSY to its end.
 use Rattle.std.specs.Prelude.{ℕ, ◌≤◌, ◌<◌, ◌≡◌, Bool, true, false, List, eqb, length, Some}
 use Rattle.otp.specs.Table.{bad_table}
+use Rattle.panel.specs.declared.Display.{Display}
 use Rattle.device.specs.declared.Current.{Current}
 use Rattle.device.specs.declared.Current.TheVariants.{Idle, Ignoring, Active}
 use Rattle.device.specs.declared.Kind.{Kind}
@@ -40,15 +41,16 @@ inert Idle = true
 inert Ignoring = true
 inert (Active a) = takes_none a.kind
 
--- a refresh under way: the chip runs, the clock is before its end, and BUSY is high at least to that end
-pub record UnderWay (d : Ssd1677) : Type 0 where
+-- a refresh under way: it is the one in progress, the chip runs, the clock is before its end, and BUSY is high at least to that end
+pub record UnderWay (d : Ssd1677) (display : Display) : Type 0 where
+  pub shown : d.display ≡ Some display
   pub until : ℕ
   pub busy : d.bus.busy_until ≡ Some until
-  pub to_its_end : d.display.ends ≤ until
-  pub before_its_end : d.now < d.display.ends
+  pub to_its_end : display.ends ≤ until
+  pub before_its_end : d.now < display.ends
   pub runs : d.bus.power ≡ Running
   pub inert_command : inert d.bus.current ≡ true
 
--- of every running refresh
+-- of the refresh in progress, if there is one
 abbrev pub Held : Ssd1677 → Type 0
-Held d = d.display.running ≡ true → UnderWay d
+Held d = (display : Display) → d.display ≡ Some display → UnderWay d display

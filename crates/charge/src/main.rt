@@ -9,10 +9,10 @@ ghost use Rattle.std.specs.Prelude.{◌≤◌, length};
 
 use charges::{ChargeError, LINE_BYTES};
 use config::Ssd1677Timing;
-use full_read::read_full;
+use full_read::{is_at_end, read_full};
 use otp::{ENTRY_BYTES, MOST_ENTRIES};
 use std::io;
-use std::io::{Input, Read};
+use std::io::Input;
 
 // One byte more than the longest table has, so that longer input is seen to be longer.
 const INPUT_BYTES: usize = ENTRY_BYTES * MOST_ENTRIES + 1;
@@ -22,13 +22,6 @@ const TEXT_BYTES: usize = LINE_BYTES * MOST_ENTRIES;
 fn default_periods() -> [u64; 16] {
     let timing = Ssd1677Timing::default();
     timing.frame_period
-}
-
-// Reading stops at the first read that gets nothing. Past the end another read gets nothing either and does not fail: one that fails or
-// gets a byte tells that what was read is not the whole.
-fn is_cut_short(input: &mut impl Read) -> bool {
-    let mut byte = [0u8; 1];
-    !matches!(input.read(&mut byte), Ok(0))
 }
 
 fn write_lines(rt: &(impl Print + Eprint), lines: &[u8]) -> io::Result<()> {
@@ -65,7 +58,7 @@ fn answer_input(rt: &(impl Input + Print + Eprint), frame_period: [u64; 16]) -> 
     let mut table = [0u8; INPUT_BYTES];
     let mut input = rt.reader();
     match read_full(&mut input, &mut table) {
-        Ok(read) if read == INPUT_BYTES || !is_cut_short(&mut input) => {
+        Ok(read) if read == INPUT_BYTES || is_at_end(&mut input).unwrap_or(false) => {
             answer_table(rt, &table[..read], frame_period)
         }
         _ => say::failure(rt, "charge: standard input could not be read to its end\n"),

@@ -1,5 +1,6 @@
 // What is said where there are no lines: a refusal's number in three columns on standard output, or `  -` where there is no number, and
 // on standard error what is wrong in words.
+use column::Columns;
 use config::ConfigError;
 use otp::ENTRY_BYTES;
 use std::io;
@@ -9,10 +10,10 @@ pub fn words(rt: &impl Eprint, text: &str) -> io::Result<()> {
 }
 
 pub fn refusal(rt: &impl Print, number: u64) -> io::Result<()> {
-    let mut line = [0u8; 4];
-    let line_end = column::put(&mut line, 0, 3, false, number);
-    column::put_line_end(&mut line, line_end);
-    rt.write_all(&line)
+    let mut line = Columns::<4>::new();
+    line.put_number(3, number);
+    line.put(b'\n');
+    rt.write_all(line.text())
 }
 
 fn no_number(rt: &impl Print) -> io::Result<()> {

@@ -1,15 +1,14 @@
--- A text that fills its buffer, periods that 81 lets pass, and what a call leaves where it is refused and where it is not.
+-- Periods that 81 lets pass, and what a call leaves where it is refused and where it is not.
 -- Assumes nothing.
 use mathlib.Core.Path.{◌≡◌, refl, sym, ap, ◌∙◌}
 use mathlib.Core.Bool.{Bool, true, false, ◌||◌}
-use mathlib.Core.List.{List, [], ◌∷◌, ◌++◌, append-nil}
+use mathlib.Core.List.{List, [], ◌∷◌, ◌++◌}
 use Prim.Native.Nat.{ℕ, zero, suc, ◌<◌}
 use native.Mathlib.Nat.{not-suc-le-zero, le_of_suc-le-suc, eq-or-lt_of_le}
 use native.Mathlib.Omega.{arith}
 use mathlib.Core.Logic.{⊎_elim}
 use lib.Dec.{ltb}
-use lib.ListN.{length, get_or, drop}
-use lib.Seq.{drop-length}
+use lib.ListN.{get_or}
 use borrow.Author.Tests.{ltb-false}
 use Rattle.numbers.proofs.Cases.{took, passed}
 use Rattle.std.specs.Prelude.{Ok, Err}
@@ -17,16 +16,7 @@ use Rattle.config.specs.declared.ConfigError.{ConfigError}
 use Rattle.config.specs.Answer.{Answer, accepted, refused, is_accepted, Test, first_of, refused_by, answer_of}
 use Rattle.config.proofs.Answers.{refuses, passes, none_left, stops_at, goes_past, ok_accepted}
 use Rattle.otp.specs.Search.{any_of}
-use Rattle.column.specs.Columns.{Buffer, buffer, appended}
-use Rattle.column.proofs.Appended.{fronted}
 use Rattle.charges.specs.Charge.{longest_period, long_period_test, AllShort, with_answer, tested}
-
--- a text from the buffer's front to its end
-pub filled : (text before : List ℕ) {at : ℕ} {now : List ℕ} → buffer at now ≡ appended (buffer 0 before) text → at ≡ length before → now ≡ text
-filled text before {at} {now} e h =
-    let f = fronted text before e in
-    let same : length text ≡ length before = sym (ap (λ (b : Buffer). b.at) f) ∙ h in
-    ap (λ (b : Buffer). b.bytes) f ∙ ap (λ (n : ℕ). text ++ drop n before) same ∙ ap (λ (l : List ℕ). text ++ l) (drop-length before) ∙ append-nil text
 
 -- where none of the first n passes a test, each of them fails it
 none_passes : (p : ℕ → Bool) (n : ℕ) → any_of p n ≡ false → (k : ℕ) → k < n → p k ≡ false

@@ -52,23 +52,13 @@ impl From<ConfigError> for ChargeError {
     }
 }
 
-fn number_of(lut: PixelLut) -> usize
-    ensures { result ≡ lut_number lut }
-{
-    match lut {
-        PixelLut::Lut0 => 0,
-        PixelLut::Lut1 => 1,
-        PixelLut::Lut2 => 2,
-        PixelLut::Lut3 => 3,
-    }
-}
-
+// By `|`: the contract speaks of `any_of` over codes, so that `any` is no plainer.
 fn has_long_period(frame_period: [u64; 16]) -> bool
     ensures { result ≡ (long_period_test frame_period).refuses }
 {
     let mut long = false;
-    for code in 0..16 {
-        long = long | (LONGEST_PERIOD < frame_period[code]);
+    for ns in frame_period {
+        long |= LONGEST_PERIOD < ns;
     }
     long
 }
@@ -89,11 +79,11 @@ pub fn charge(frame_period: [u64; 16], setting: &[u8], lut: PixelLut) -> Result<
     if has_long_period(frame_period) {
         return Err(ChargeError::LongPeriod);
     }
-    if setting.len() != SETTING_BYTES {
+    let Ok(setting) = <&[u8; SETTING_BYTES]>::try_from(setting) else {
         return Err(ChargeError::OtherLength);
-    }
-    let waveform = sum::waveform_of(setting, &frame_period);
-    Ok(sum::charge_of(waveform, number_of(lut)))
+    };
+    let waveform = setting::from_setting(setting, &frame_period);
+    Ok(sum::charge_of(waveform, lut as usize))
 }
 
 // The lines of all entries, which fill `out`.
@@ -102,12 +92,13 @@ fn put_text(out: &mut [u8], otp: &[u8], frame_period: &[u64; 16])
     requires periods { AllShort frame_period.now }
     ensures { out.new ≡ charge_text frame_period.now otp.now }
 {
-    let entries = otp.len() / ENTRY_BYTES;
-    let mut at: usize = 0;
-    for entry in 0..entries {
+    let mut setting = [0u8; SETTING_BYTES];
+    for entry in 0..otp.len() / ENTRY_BYTES {
         let from = ENTRY_BYTES * entry + 6;
-        let end = from + SETTING_BYTES;
-        at = line::put_line(out, at, &otp[from..end], entry, frame_period);
+        setting.copy_from_slice(&otp[from..from + SETTING_BYTES]);
+        let line = line::line_of(&setting, entry, frame_period);
+        let at = LINE_BYTES * entry;
+        out[at..at + LINE_BYTES].copy_from_slice(line.text());
     }
 }
 

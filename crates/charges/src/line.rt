@@ -1,63 +1,34 @@
 // The line of an entry: its number, and the charge of LUT 0 to 3 (SCOPE, Charge).
-ghost use Rattle.std.specs.Prelude.{◌≡◌, ◌+◌, ◌<◌, ◌≤◌, length};
+ghost use Rattle.std.specs.Prelude.{◌≡◌};
 ghost use Rattle.waveform.specs.declared.Drive.TheVariants.{Lut};
 ghost use Rattle.waveform.specs.Phases.{phases_of};
-ghost use Rattle.column.specs.Columns.{whole, buffer, appended};
+ghost use Rattle.column.specs.Columns.{gathered};
 ghost use Rattle.charges.specs.Charge.{drive_sum, BoundedWaveform, AllShort};
-ghost use Rattle.charges.specs.Report.{sums_text, charge_line};
+ghost use Rattle.charges.specs.Report.{sums_text, charge_line, charge_line_bytes};
 
+use crate::{LINE_BYTES, SETTING_BYTES};
+use column::Columns;
 use waveform::Waveform;
 
-// A column of 21. No number of 64 bits reaches into the first, and `column::put` writes at most 20.
-fn put_whole(out: &mut [u8], at: usize, sum: i64) -> usize
-    requires room { at + 21 ≤ length out.old }
-    ensures text { buffer result out.new ≡ appended (buffer at out.old) (whole 21 sum) }
-    ensures end { result ≡ at + 21 }
+type Line = Columns<LINE_BYTES>;
+
+fn put_sums(line: &mut Line, waveform: Waveform)
+    requires { BoundedWaveform waveform }
+    ensures { line.new ≡ gathered charge_line_bytes line.old (sums_text (λ lut. drive_sum (phases_of waveform (Lut lut)))) }
 {
-    let negative = numbers::is_negative(sum);
-    let n = numbers::magnitude_i64(sum);
-    out[at] = b' ';
-    column::put(out, at + 1, 20, negative, n)
+    for lut in 0..4 {
+        line.put_whole(21, crate::sum::charge_of(waveform, lut));
+    }
 }
 
-fn put_sum(out: &mut [u8], at: usize, waveform: Waveform, lut: usize) -> usize
-    requires room { at + 21 ≤ length out.old }
-    requires lut { lut < 4 }
-    requires bounded { BoundedWaveform waveform }
-    ensures text { buffer result out.new ≡ appended (buffer at out.old) (whole 21 (drive_sum (phases_of waveform (Lut lut)))) }
-    ensures end { result ≡ at + 21 }
+pub(crate) fn line_of(setting: &[u8; SETTING_BYTES], entry: usize, frame_period: &[u64; 16]) -> Line
+    requires { AllShort frame_period.now }
+    ensures { result ≡ charge_line frame_period.now setting.now entry }
 {
-    let sum = crate::sum::charge_of(waveform, lut);
-    put_whole(out, at, sum)
-}
-
-fn put_sums(out: &mut [u8], at: usize, waveform: Waveform) -> usize
-    requires room { at + 84 ≤ length out.old }
-    requires bounded { BoundedWaveform waveform }
-    ensures text { buffer result out.new ≡ appended (buffer at out.old) (sums_text (λ lut. drive_sum (phases_of waveform (Lut lut)))) }
-    ensures end { result ≡ at + 84 }
-{
-    let first = put_sum(out, at, waveform, 0);
-    let second = put_sum(out, first, waveform, 1);
-    let third = put_sum(out, second, waveform, 2);
-    put_sum(out, third, waveform, 3)
-}
-
-pub(crate) fn put_line(
-    out: &mut [u8],
-    at: usize,
-    setting: &[u8],
-    entry: usize,
-    frame_period: &[u64; 16],
-) -> usize
-    requires room { at + 88 ≤ length out.old }
-    requires setting { length setting.now ≡ 112 }
-    requires periods { AllShort frame_period.now }
-    ensures text { buffer result out.new ≡ appended (buffer at out.old) (charge_line frame_period.now setting.now entry) }
-    ensures end { result ≡ at + 88 }
-{
-    let waveform = crate::sum::waveform_of(setting, frame_period);
-    let number_end = column::put(out, at, 3, false, entry as u64);
-    let sums_end = put_sums(out, number_end, waveform);
-    column::put_line_end(out, sums_end)
+    let waveform = setting::from_setting(setting, frame_period);
+    let mut line = Line::new();
+    line.put_number(3, entry as u64);
+    put_sums(&mut line, waveform);
+    line.put(b'\n');
+    line
 }

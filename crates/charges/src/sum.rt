@@ -1,12 +1,11 @@
 // The signed sum of drive over a whole waveform, in millivolts × nanoseconds: before the panel's sign, and held to nothing.
 // With periods up to 100,000,000 ns no product and no sum leaves 64 bits, so each is plain arithmetic.
-ghost use Rattle.std.specs.Prelude.{◌≡◌, false, ◌≤◌, ◌<◌, pos, nat_abs, ◌*ℤ◌, length};
+ghost use Rattle.std.specs.Prelude.{◌≡◌, false, ◌≤◌, ◌<◌, pos, nat_abs, ◌*ℤ◌};
 ghost use Rattle.waveform.specs.declared.Drive.TheVariants.{Lut};
 ghost use Rattle.waveform.specs.Exact.{frames_drive};
 ghost use Rattle.waveform.specs.Phases.{driven, phases_of};
-ghost use Rattle.waveform.specs.Setting.{waveform_of};
 ghost use Rattle.waveform.specs.Walks.{Drivable, phase_in, four_in, group_in};
-ghost use Rattle.charges.specs.Charge.{drive_sum, AllShort, BoundedPhase, BoundedGroup, BoundedWaveform};
+ghost use Rattle.charges.specs.Charge.{drive_sum, BoundedPhase, BoundedGroup, BoundedWaveform};
 
 use waveform::{Drive, Driving, Group, Phase, Waveform};
 
@@ -77,21 +76,8 @@ pub(crate) fn charge_of(waveform: Waveform, lut: usize) -> i64
         positive_drives_black: false,
     };
     let mut sum: i64 = 0;
-    for k in 0..10 {
-        let group = waveform.groups[k];
+    for group in waveform.groups {
         sum += group_charge(driving, group);
     }
     sum
-}
-
-// The waveform of a setting.
-pub(crate) fn waveform_of(setting: &[u8], frame_period: &[u64; 16]) -> Waveform
-    requires setting { length setting.now ≡ 112 }
-    requires periods { AllShort frame_period.now }
-    ensures is { result ≡ waveform_of setting.now frame_period.now }
-    ensures bounded { BoundedWaveform result }
-{
-    let mut copied = [0u8; 112];
-    byte_copy::copy(setting, &mut copied);
-    setting::from_setting(&copied, frame_period)
 }

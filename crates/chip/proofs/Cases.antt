@@ -13,17 +13,19 @@ use Rattle.device.specs.declared.Current.{Current}
 use Rattle.device.specs.declared.Current.TheVariants.{Ignoring, Active}
 use Rattle.device.specs.Parts.{with_bus, with_current, with_journal}
 use Rattle.world.specs.World.{WithLog, with_log}
-use Rattle.chip.specs.Close.{entries_of, expected_of, missing, reserved_unreported, closed}
+use Rattle.device.specs.Kinds.{expected_of}
+use Rattle.chip.specs.Close.{entries_of, missing, reserved_unreported, closed}
 use Rattle.chip.specs.Report.{logged}
 
-module _ (time : ℕ) (e : Entries) (current : Current) (a : the.Active) (want : ℕ) (is : current ≡ Active a) (wants : want ≡ expected_of a.kind) where
-  pub lacks : (r : Entries) → a.received < want → r ≡ reported e time (MissingData a.command want a.received) → r ≡ missing time e current
+module _ (time : ℕ) (e : Entries) (current : Current) (a : the.Active) (is : current ≡ Active a) where
+  pub lacks : (want : ℕ) (r : Entries) → want ≡ expected_of a.kind → a.received < want
+      → r ≡ reported e time (MissingData a.command want a.received) → r ≡ missing time e current
   unfolding missing
-  lacks r h f = rw (is, ← wants, lt-ltb a.received want h) f
+  lacks want r wants h f = rw (is, ← wants, lt-ltb a.received want h) f
 
-  pub lacks_none : want ≤ a.received → e ≡ missing time e current
+  pub lacks_none : (want : ℕ) → want ≡ expected_of a.kind → want ≤ a.received → e ≡ missing time e current
   unfolding missing
-  lacks_none h = rw (is, ← wants, le-ltb a.received want h)
+  lacks_none want wants h = rw (is, ← wants, le-ltb a.received want h)
 
 pub closes : (k : WithLog) (e : Entries) (j : Journal) (d : Ssd1677) (bus : Bus) (r : Ssd1677)
     → e ≡ missing k.device.now (entries_of k) k.device.bus.current → j ≡ reserved_unreported e.journal → d ≡ with_journal k.device j

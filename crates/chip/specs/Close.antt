@@ -4,22 +4,11 @@ use Rattle.numbers.specs.Choice.{pick}
 use Rattle.diagnostic.specs.declared.Journal.{Journal}
 use Rattle.diagnostic.specs.declared.DiagnosticKind.TheVariants.{MissingData}
 use Rattle.diagnostic.specs.Log.{Entries, entries, reported}
-use Rattle.device.specs.declared.Kind.{Kind}
-use Rattle.device.specs.declared.Kind.TheVariants.{Write, Read, Unsupported, Reserved}
-use Rattle.device.specs.declared.Params.TheVariants.{Exactly, Between, Stream}
 use Rattle.device.specs.declared.Current.{Current}
 use Rattle.device.specs.declared.Current.TheVariants.{Idle, Ignoring, Active}
+use Rattle.device.specs.Kinds.{expected_of}
 use Rattle.device.specs.Parts.{with_bus, with_current, with_journal}
 use Rattle.world.specs.World.{WithLog, with_log}
-
--- the fewest parameters that a command of the kind takes
-abbrev pub expected_of : Kind → ℕ
-expected_of (Write (Exactly count)) = count
-expected_of (Write (Between least most)) = least
-expected_of (Write Stream) = 0
-expected_of Read = 0
-expected_of Unsupported = 0
-expected_of Reserved = 0
 
 -- 26 where the current command lacks parameters
 unfoldable pub missing : ℕ → Entries → Current → Entries

@@ -1,7 +1,8 @@
 -- What the clock's move does (mod.rs, `advance`; SCOPE, Time: time never goes back, the later clock counts).
-use Rattle.std.specs.Prelude.{ℕ, max, Bool, false, ◌&&◌, List, leb, ℤ, Option, None}
+use Rattle.std.specs.Prelude.{ℕ, max, Bool, List, leb, ℤ, Option, Some, None}
 use Rattle.numbers.specs.Choice.{pick}
 use Rattle.panel.specs.declared.Display.{Display}
+use Rattle.panel.specs.End.{display_end}
 use Rattle.panel.specs.Finish.{Glass, glass, Ending, ending, Finishable, finished}
 use Rattle.device.specs.declared.Ssd1677.{Ssd1677}
 use Rattle.device.specs.Parts.{with_now, with_bus}
@@ -13,36 +14,33 @@ use Rattle.moment.specs.Moments.{lowered, quiet_at}
 abbrev pub Ready : Ssd1677 → List ℤ → List ℕ → List ℕ → List ℕ → Type 0
 Ready d states luts pixels counts = Finishable d.config.timing.frame_period d.panel.swing states luts pixels counts
 
--- a display that no longer runs
-abbrev pub stopped : Display → Display
-stopped d = record { running = false; started = d.started; ends = d.ends; kind = d.kind; setting = d.setting; border = d.border }
-
--- the end of the running display at a moment, whole or cut
-abbrev pub ending_of : Ssd1677 → ℕ → Option ℕ → Ending
-ending_of d at until = ending d.display d.config.optics.positive_drives_black d.config.timing.frame_period at until
+-- the end of a display at a moment, whole or cut
+abbrev pub ending_of : Ssd1677 → Display → ℕ → Option ℕ → Ending
+ending_of d display at until = ending display d.config.optics.positive_drives_black d.config.timing.frame_period at until
 
 -- the glass as the state has it
 abbrev pub glass_of : WithGlass → Glass
 glass_of g = glass g.device.panel g.states g.picture
 
--- the glass that a display left, and the display stopped
+-- the glass that a display left, and no display any more
 abbrev pub glass_published : WithGlass → Glass → WithGlass
-glass_published g after = with_glass (part.with_panel_and_display g.device after.panel (stopped g.device.display)) after.states after.picture
-
--- the display runs and the clock has reached its end
-abbrev pub is_over : Ssd1677 → Bool
-is_over d = d.display.running && leb d.display.ends d.now
+glass_published g after = with_glass (part.with_panel_and_display g.device after.panel None) after.states after.picture
 
 -- at the clock no display ends and BUSY does not fall
 abbrev pub is_quiet : Ssd1677 → Bool
-is_quiet d = quiet_at d.display.running d.display.ends d.bus.busy_until d.now
+is_quiet d = quiet_at (display_end d.display) d.bus.busy_until d.now
 
 -- a display whose end has come is finished whole, dated its end
-unfoldable pub ended : List ℕ → WithGlass → WithGlass
-ended luts g =
-    pick (is_over g.device)
-    (glass_published g (finished (ending_of g.device g.device.display.ends None) luts (glass_of g)))
+abbrev pub ended_by : List ℕ → WithGlass → Option Display → WithGlass
+ended_by luts g None = g
+ended_by luts g (Some display) =
+    pick (leb display.ends g.device.now)
+    (glass_published g (finished (ending_of g.device display display.ends None) luts (glass_of g)))
     g
+
+-- that of the display in progress
+unfoldable pub ended : List ℕ → WithGlass → WithGlass
+ended luts g = ended_by luts g g.device.display
 
 -- BUSY, at the clock
 abbrev pub quieted : WithGlass → WithGlass

@@ -5,19 +5,10 @@ ghost use Rattle.std.specs.Prelude.{◌≡◌, max};
 ghost use Rattle.counts.specs.Counts.{picture};
 ghost use Rattle.device.specs.Parts.{with_now};
 ghost use Rattle.world.specs.World.{with_glass};
-ghost use Rattle.clock.specs.Advance.{Ready, stopped, ended, is_quiet, advanced};
+ghost use Rattle.clock.specs.Advance.{Ready, ended, is_quiet, advanced};
 
+use counts::Counts;
 use device::{Ssd1677, part};
-use panel::Display;
-
-// A display that has ended, been cut or been dropped.
-pub fn stop(display: Display) -> Display
-    ensures { result ≡ stopped display }
-{
-    let mut next = display;
-    next.running = false;
-    next
-}
 
 // A display whose end has come is finished whole, and its image published.
 fn end_display(
@@ -25,13 +16,15 @@ fn end_display(
     states: &mut [i64],
     luts: &[u8],
     pixels: &mut [u8],
-    counts: &mut [u32],
+    counts: &mut Counts,
 ) -> Ssd1677
     requires { Ready state states.old luts.now pixels.old counts.old }
     ensures { with_glass result states.new (picture pixels.new counts.new) ≡ ended luts.now (with_glass state states.old (picture pixels.old counts.old)) }
 {
-    let display = state.display;
-    if display.running & (display.ends <= state.now) {
+    let Some(display) = state.display else {
+        return state;
+    };
+    if display.ends <= state.now {
         let config = state.config;
         let optics = config.optics;
         let timing = config.timing;
@@ -47,10 +40,9 @@ fn end_display(
             &mut states[..],
             luts,
             &mut pixels[..],
-            &mut counts[..],
+            counts,
         );
-        let off = stop(display);
-        return part::set_glass(state, finished, off);
+        return part::set_glass(state, finished, None);
     }
     state
 }
@@ -68,10 +60,10 @@ pub fn move_clock(state: Ssd1677, time: u64) -> Ssd1677
 pub fn is_quiet(state: Ssd1677) -> bool
     ensures { result ≡ is_quiet state }
 {
-    let display = state.display;
     let bus = state.bus;
     let busy_until = bus.busy_until;
-    moment::is_quiet(display.running, display.ends, busy_until, state.now)
+    let ends = panel::end_of(state.display);
+    moment::is_quiet(ends, busy_until, state.now)
 }
 
 // Brings the chip to a moment; an earlier one than the latest seen counts as the latest.
@@ -80,7 +72,7 @@ pub fn advance(
     states: &mut [i64],
     luts: &[u8],
     pixels: &mut [u8],
-    counts: &mut [u32],
+    counts: &mut Counts,
     time: u64,
 ) -> Ssd1677
     requires { Ready state states.old luts.now pixels.old counts.old }
@@ -90,13 +82,7 @@ pub fn advance(
     if is_quiet(moved) {
         return moved;
     }
-    let shown = end_display(
-        moved,
-        &mut states[..],
-        luts,
-        &mut pixels[..],
-        &mut counts[..],
-    );
+    let shown = end_display(moved, &mut states[..], luts, &mut pixels[..], counts);
     let bus = moment::lower_busy(shown.bus, shown.now);
     part::set_bus(shown, bus)
 }

@@ -1,5 +1,5 @@
 -- The root of column's proofs.
-pub mod Appended
-pub mod Columns
+pub mod Symbols
 pub mod Fronts
+pub mod Gathered
 pub mod Reading

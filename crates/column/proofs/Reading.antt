@@ -17,7 +17,7 @@ use Rattle.numbers.specs.Lists.{tab}
 use Rattle.numbers.proofs.Cases.{left, right}
 use Rattle.column.specs.Columns.{natural}
 use Rattle.column.specs.Reading.{same, value_from, value_of, read_of, digit_of, step_of, last_of}
-use Rattle.column.proofs.Columns.{column_length}
+use Rattle.column.proofs.Symbols.{column_length}
 use Rattle.column.proofs.Fronts.{front, front_length, column_more, front_more}
 
 -- ---- texts, and a byte more

@@ -1,5 +1,5 @@
--- Columns of decimals, right-justified (SCOPE, Listing), in ASCII, and text appended in a buffer.
-use Rattle.std.specs.Prelude.{Bool, false, ◌&&◌, ◌||◌, List, [], ◌∷◌, ◌++◌, ℕ, ◌+◌, ◌-◌, ◌/◌, ◌%◌, ◌^◌, ℤ, pos, nat_abs, eqb, leb, length, take, drop}
+-- Columns of decimals, right-justified (SCOPE, Listing), in ASCII, and text gathered.
+use Rattle.std.specs.Prelude.{Bool, false, ◌&&◌, ◌||◌, List, [], ◌∷◌, ◌++◌, ℕ, ◌+◌, ◌-◌, ◌/◌, ◌%◌, ◌^◌, ℤ, pos, nat_abs, eqb, leb, ltb, length, take, drop}
 use Rattle.std.specs.Int.Signed.{lt_z}
 use Rattle.numbers.specs.Choice.{pick}
 use Rattle.numbers.specs.Lists.{tab}
@@ -37,6 +37,10 @@ pub record Buffer : Type 0 where
 abbrev pub buffer : ℕ → List ℕ → Buffer
 buffer at bytes = record { at = at; bytes = bytes }
 
--- a text over the bytes at the place, and the place past it
-unfoldable pub appended : Buffer → List ℕ → Buffer
-appended b text = buffer (b.at + length text) (take b.at b.bytes ++ text ++ drop (b.at + length text) b.bytes)
+-- a text more after what was gathered, as far as there is room
+unfoldable pub gathered : ℕ → List ℕ → List ℕ → List ℕ
+gathered room before text = before ++ take (room - length before) text
+
+-- a text over the front of bytes, and the place past it; where there are fewer bytes than the room asked for, nothing
+abbrev pub in_front : ℕ → List ℕ → List ℕ → Buffer
+in_front room text bytes = pick (ltb (length bytes) room) (buffer 0 bytes) (buffer (length text) (text ++ drop (length text) bytes))

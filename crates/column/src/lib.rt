@@ -1,10 +1,12 @@
-// Columns of decimals, right-justified: written into a lent buffer, and read (`read`).
+// Columns of decimals, right-justified: gathered, and read (`read`).
 #![tactic(auto)]
 
 pub mod read;
 
-ghost use Rattle.std.specs.Prelude.{◌≡◌, ◌+◌, ◌^◌, ◌<◌, ◌≤◌, length};
-ghost use Rattle.column.specs.Columns.{has_digit, symbol_at, column_of, whole, buffer, appended, line_end};
+ghost use Rattle.std.specs.Prelude.{◌≡◌, ◌^◌, ◌<◌, ◌≤◌, true, [], ◌∷◌, length, take, List, ℕ};
+ghost use Rattle.column.specs.Columns.{has_digit, symbol_at, column_of, natural, whole, buffer, gathered, in_front};
+
+use std::marker::Model;
 
 const POWERS_OF_TEN: [u64; 20] = [
     1,
@@ -36,22 +38,23 @@ fn power_of_ten(place: usize) -> u64
     POWERS_OF_TEN[place]
 }
 
+// A number of 64 bits has none past the last power's place.
 fn has_digit(n: u64, place: usize) -> bool
-    requires { place < 20 }
-    ensures { result ≡ has_digit n place }
+    ensures is { result ≡ has_digit n place }
+    ensures near { result ≡ true → place < 20 }
 {
-    let power = power_of_ten(place);
-    (place == 0) | (power <= n)
+    if place < POWERS_OF_TEN.len() {
+        return (place == 0) | (power_of_ten(place) <= n);
+    }
+    false
 }
 
 // What stands at a place of a column.
 fn symbol(negative: bool, n: u64, place: usize) -> u8
-    requires { place < 20 }
     ensures { result ≡ symbol_at negative n place }
 {
     if has_digit(n, place) {
-        let power = power_of_ten(place);
-        let digit = (n / power % 10) as u8;
+        let digit = (n / power_of_ten(place) % 10) as u8;
         return b'0' + digit;
     }
     if negative {
@@ -63,36 +66,86 @@ fn symbol(negative: bool, n: u64, place: usize) -> u8
     b' '
 }
 
-// A column at a place of `out`; answers the place past it.
-pub fn put(out: &mut [u8], at: usize, width: usize, negative: bool, n: u64) -> usize
-    requires narrow { width ≤ 20 }
-    requires room { at + width ≤ length out.old }
-    ensures text { buffer result out.new ≡ appended (buffer at out.old) (column_of width negative n) }
-    ensures end { result ≡ at + width }
-{
-    for i in 0..width {
-        let byte = symbol(negative, n, width - 1 - i);
-        out[at + i] = byte;
+// Text of up to `ROOM` bytes. What does not fit is left out.
+#[derive(Drop)]
+pub struct Columns<const ROOM: usize> {
+    bytes: [u8; ROOM],
+    len: usize,
+}
+
+impl<const ROOM: usize> Model for Columns<ROOM> {
+    ghost Value = { List ℕ };
+
+    ghost view = { λ c. take c.len c.bytes };
+
+    ghost invariant = { λ c. c.len ≤ ROOM };
+}
+
+impl<const ROOM: usize> Columns<ROOM> {
+    pub fn new() -> Self
+        ensures { result ≡ [] }
+    {
+        Columns {
+            bytes: [0; ROOM],
+            len: 0,
+        }
     }
-    at + width
-}
 
-// The same of a whole number, in millivolts.
-pub fn put_millivolts(out: &mut [u8], at: usize, millivolts: i64) -> usize
-    requires room { at + 7 ≤ length out.old }
-    ensures text { buffer result out.new ≡ appended (buffer at out.old) (whole 7 millivolts) }
-    ensures end { result ≡ at + 7 }
-{
-    let negative = numbers::is_negative(millivolts);
-    let n = numbers::magnitude_i64(millivolts);
-    put(out, at, 7, negative, n)
-}
+    // A byte more.
+    pub fn put(&mut self, byte: u8)
+        ensures { self.new ≡ gathered ROOM self.old (byte ∷ []) }
+    {
+        if self.len < ROOM {
+            self.bytes[self.len] = byte;
+            self.len += 1;
+        }
+    }
 
-pub fn put_line_end(out: &mut [u8], at: usize) -> usize
-    requires room { at + 1 ≤ length out.old }
-    ensures text { buffer result out.new ≡ appended (buffer at out.old) line_end }
-    ensures end { result ≡ at + 1 }
-{
-    out[at] = b'\n';
-    at + 1
+    pub fn put_text(&mut self, text: &[u8])
+        ensures { self.new ≡ gathered ROOM self.old text.now }
+    {
+        for byte in text {
+            self.put(*byte);
+        }
+    }
+
+    fn put_column(&mut self, width: usize, negative: bool, n: u64)
+        ensures { self.new ≡ gathered ROOM self.old (column_of width negative n) }
+    {
+        for i in 0..width {
+            self.put(symbol(negative, n, width - 1 - i));
+        }
+    }
+
+    // A column of a number.
+    pub fn put_number(&mut self, width: usize, n: u64)
+        ensures { self.new ≡ gathered ROOM self.old (natural width n) }
+    {
+        self.put_column(width, false, n);
+    }
+
+    // The same of a whole number, which may be below 0.
+    pub fn put_whole(&mut self, width: usize, z: i64)
+        ensures { self.new ≡ gathered ROOM self.old (whole width z) }
+    {
+        self.put_column(width, z < 0, z.unsigned_abs());
+    }
+
+    pub fn text(&self) -> &[u8]
+        ensures { result.now ≡ self.now }
+    {
+        &self.bytes[..self.len]
+    }
+
+    // Writes the text to the front of `out` and answers its length. An `out` of fewer than `ROOM` bytes stays as it is, and the answer is 0.
+    pub fn write_to(&self, out: &mut [u8]) -> usize
+        ensures text { buffer result out.new ≡ in_front ROOM self.now out.old }
+        ensures within { result ≤ length out.new }
+    {
+        if out.len() < ROOM {
+            return 0;
+        }
+        out[..self.len].copy_from_slice(&self.bytes[..self.len]);
+        self.len
+    }
 }

@@ -12,7 +12,7 @@ fn digit(n: u64, byte: u8) -> Option<u64>
     if b'9' < byte {
         return None;
     }
-    let units = numbers::wide(byte - b'0');
+    let units = u64::from(byte - b'0');
     if (u64::MAX - units) / 10 < n {
         return None;
     }

@@ -1,31 +1,18 @@
 // The groups of a setting and their phases, read where the bytes stand (datasheet Figure 6-6): a waveform made of all of them
-// is 424 bytes, written before any of it is read.
+// is 424 bytes, written before any of it is read. So a group and a phase go by their numbers, which must be below 10 and 4.
 ghost use Rattle.std.specs.Prelude.{◌≡◌, ◌<◌, get_or};
 ghost use Rattle.waveform.specs.Phases.{Takes, code_for};
 ghost use Rattle.waveform.specs.Setting.{code_in, codes_of, frame_rate_of, group_codes_of};
 ghost use Rattle.waveform.specs.Walks.{Drivable, phase_in};
-ghost use Rattle.walk.specs.Ready.{no_frames};
 ghost use Rattle.combine.specs.Groups.{timed_group};
 
 use waveform::{Drive, Driving, Phase};
-
-// A group without frames moves nothing, so its phases need not be made.
-pub(crate) fn idle(setting: &[u8; 112], group: usize) -> bool
-    requires { group < 10 }
-    ensures { result ≡ no_frames (group_codes_of setting.now group).frames }
-{
-    let at = 5 * group;
-    (setting[50 + at] == 0)
-        & (setting[51 + at] == 0)
-        & (setting[52 + at] == 0)
-        & (setting[53 + at] == 0)
-}
 
 pub(crate) fn frames(setting: &[u8; 112], group: usize, phase: usize) -> u64
     requires { (group < 10) × (phase < 4) }
     ensures { result ≡ get_or (group_codes_of setting.now group).frames phase 0 }
 {
-    numbers::wide(setting[50 + 5 * group + phase])
+    u64::from(setting[50 + 5 * group + phase])
 }
 
 fn frame_ns(setting: &[u8; 112], frame_period: &[u64; 16], group: usize) -> u64
@@ -65,14 +52,11 @@ pub(crate) fn phase_of(
     requires { (group < 10) × (phase < 4) × Drivable driving }
     ensures { result ≡ phase_in driving (timed_group setting.now frame_period.now group) phase }
 {
-    let levels = driving.levels;
-    let drive = driving.drive;
-    let source = levels.source(code_for(setting, drive, group, phase));
-    let vcom = levels.vcom_swing(code_in(setting[40 + group], phase));
-    let millivolts = source - vcom;
+    let source = code_for(setting, driving.drive, group, phase);
+    let vcom = code_in(setting[40 + group], phase);
     Phase {
         frames: frames(setting, group, phase),
         frame_ns: frame_ns(setting, frame_period, group),
-        millivolts,
+        millivolts: walk::phases::pixel_millivolts(driving.levels, source, vcom),
     }
 }

@@ -139,8 +139,9 @@ pub fn transfer_whole(
         positive_drives_black,
     };
     let mut moved = Transfer::identity(swing);
+    // By their numbers: a group's bytes lie in seven places of the setting.
     for k in 0..10 {
-        if !groups::idle(setting, k) {
+        if !walk::phases::idle(setting::frames(setting, k)) {
             moved = group_combined(setting, frame_period, driving, k, moved);
         }
     }

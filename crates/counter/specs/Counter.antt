@@ -1,5 +1,5 @@
 -- The RAM's window, data-entry mode and address counter (datasheet §8.2–8.5; SCOPE, RAM).
-use Rattle.std.specs.Prelude.{Bool, true, false, ◌&&◌, ℕ, ◌+◌, ◌-◌, ◌*◌, ◌/◌, min, max, ltb, leb}
+use Rattle.std.specs.Prelude.{Bool, true, false, ◌&&◌, ℕ, ◌+◌, ◌-◌, ◌*◌, ◌/◌, min, max, ltb, leb, Option, Some, None}
 use Rattle.numbers.specs.Choice.{pick, bit_of}
 use Rattle.counter.specs.declared.Window.{Window}
 use Rattle.counter.specs.declared.Counter.{Counter}
@@ -13,48 +13,38 @@ reset_window = record { x_start = 0; x_end = 959; y_start = 0; y_end = 679 }
 abbrev pub reset_entry : Entry
 reset_entry = record { 0 = 3 }
 
--- where one step along an axis leads: to a place, or past the window's end
-pub data Next : Type 0 where
-  To : ℕ → Next
-  Past : Next
-
--- a step along an axis towards the window's end: at or past the end there is none, otherwise it is one more or one less (§8.2–8.5)
-unfoldable pub axis_step : Bool → ℕ → ℕ → Next
-axis_step true at end = pick (ltb at end) (To (at + 1)) Past
-axis_step false at end = pick (ltb end at) (To (at - 1)) Past
-
--- a step that is not there
-abbrev pub is_past : Next → Bool
-is_past (To next) = false
-is_past Past = true
+-- where a step along an axis leads, towards the window's end: at or past the end there is none, otherwise it is one more or one less (§8.2–8.5)
+unfoldable pub axis_step : Bool → ℕ → ℕ → Option ℕ
+axis_step true at end = pick (ltb at end) (Some (at + 1)) None
+axis_step false at end = pick (ltb end at) (Some (at - 1)) None
 
 -- the counter's step in x, in bytes of eight pixels; ID0, bit 0 of the mode, says whether x increments (§8.2–8.5)
-abbrev pub byte_step : Counter → Window → Entry → Next
+abbrev pub byte_step : Counter → Window → Entry → Option ℕ
 byte_step c w e = axis_step (bit_of e.0 0) (c.x / 8) (w.x_end / 8)
 
 -- the counter's step in y, in rows; ID1, bit 1 of the mode, says whether y increments (§8.2–8.5)
-abbrev pub row_step : Counter → Window → Entry → Next
+abbrev pub row_step : Counter → Window → Entry → Option ℕ
 row_step c w e = axis_step (bit_of e.0 1) c.y w.y_end
 
 -- the row after a step in y: past the end the window's start (§8.2–8.5)
-abbrev pub row_after : Next → ℕ → ℕ
-row_after (To row) start = row
-row_after Past start = start
+abbrev pub row_after : Option ℕ → ℕ → ℕ
+row_after (Some row) start = row
+row_after None start = start
 
 -- the pixel after a step in x: the first of the byte, past the end the window's start, whose low three bits stay (SCOPE, RAM)
-abbrev pub pixel_after : Next → ℕ → ℕ
-pixel_after (To byte) start = byte * 8
-pixel_after Past start = start
+abbrev pub pixel_after : Option ℕ → ℕ → ℕ
+pixel_after (Some byte) start = byte * 8
+pixel_after None start = start
 
 -- AM 0, x moves first: y steps when x returns to its start (§8.2–8.5)
-abbrev pub x_first : Counter → Window → Next → Next → Counter
-x_first c w (To byte) inY = record { x = byte * 8; y = c.y }
-x_first c w Past inY = record { x = w.x_start; y = row_after inY w.y_start }
+abbrev pub x_first : Counter → Window → Option ℕ → Option ℕ → Counter
+x_first c w (Some byte) inY = record { x = byte * 8; y = c.y }
+x_first c w None inY = record { x = w.x_start; y = row_after inY w.y_start }
 
 -- AM 1, y moves first: x steps when y returns to its start (§8.2–8.5)
-abbrev pub y_first : Counter → Window → Next → Next → Counter
-y_first c w inX (To row) = record { x = c.x; y = row }
-y_first c w inX Past = record { x = pixel_after inX w.x_start; y = w.y_start }
+abbrev pub y_first : Counter → Window → Option ℕ → Option ℕ → Counter
+y_first c w inX (Some row) = record { x = c.x; y = row }
+y_first c w inX None = record { x = pixel_after inX w.x_start; y = w.y_start }
 
 -- where the counter goes after a byte of data; AM, bit 2 of the mode, says which axis moves first (§8.2–8.5)
 unfoldable pub advanced_of : Counter → Window → Entry → Counter

@@ -9,9 +9,10 @@ ghost use Rattle.numbers.specs.Choice.{bit_of};
 ghost use Rattle.counter.specs.Counter.{reset_window, reset_entry, between, within_of, advanced_of};
 ghost use Rattle.counter.specs.Registers.{ten_bits};
 
+use axis::Axis;
 use config::{RAM_GATES, RAM_SOURCES};
 
-mod moves;
+mod axis;
 
 // The window of 0x44 and 0x45, in pixels and rows, as written: with a decrementing direction the start is above the end.
 #[derive(Clone, Copy)]
@@ -104,29 +105,47 @@ impl Counter {
     }
 
     // Where the counter goes after a byte of data, whatever the counter, window and mode. One axis moves, and the other only where
-    // the first is past its end; x and y come together once, so that no counter is put together and taken apart on each way.
+    // the first is past its end.
+    #[tactic(auto, unfolding(crate::specs::Counter::advanced_of))]
     pub fn advanced(self, window: Window, entry: Entry) -> Counter
         ensures { result ≡ advanced_of self window entry }
     {
-        let x_start = window.x_start;
-        let mut x = self.x;
-        let mut y = self.y;
+        let columns = Axis {
+            at: self.x / 8,
+            end: window.x_end / 8,
+            increments: entry.x_increments(),
+        };
+        let rows = Axis {
+            at: self.y,
+            end: window.y_end,
+            increments: entry.y_increments(),
+        };
         if entry.y_first() {
-            if moves::is_past_y(self, window, entry) {
-                x = moves::x_or_start(self, window, entry);
-                y = window.y_start;
-            } else {
-                y = moves::next_y(self, window, entry);
+            match rows.step() {
+                Some(row) => Counter { x: self.x, y: row },
+                None => {
+                    let x = match columns.step() {
+                        Some(column) => column * 8,
+                        None => window.x_start,
+                    };
+                    Counter {
+                        x,
+                        y: window.y_start,
+                    }
+                }
             }
         } else {
-            if moves::is_past_x(self, window, entry) {
-                x = x_start;
-                y = moves::y_or_start(self, window, entry);
-            } else {
-                x = moves::next_x(self, window, entry);
+            match columns.step() {
+                Some(column) => Counter {
+                    x: column * 8,
+                    y: self.y,
+                },
+                None => Counter {
+                    x: window.x_start,
+                    y: rows.step().unwrap_or(window.y_start),
+                },
             }
         }
-        Counter { x: x, y: y }
     }
 }
 

@@ -6,7 +6,7 @@ use Prim.Native.Nat.{ℕ, zero, suc, ◌+◌, ◌≤◌, ◌<◌}
 use native.Mathlib.Numerals.{add-one}
 use native.Mathlib.Omega.{arith}
 use lib.Dec.{eqb}
-use lib.ListN.{length, set, take, get_or, length-set}
+use lib.ListN.{length, set, take, get_or, replicate, length-set}
 use lib.Seq.{take-suc, get_or-set_same, get_or-set_other, ext_get_or}
 use borrow.Author.Tests.{eqb-true, eqb-false}
 use Rattle.numbers.specs.Choice.{pick}
@@ -72,6 +72,11 @@ set_at t x v g l = by (eqb x g) refl
     by : (b : Bool) → eqb x g ≡ b → get_or (set t x v) g 0 ≡ pick b v (get_or t g 0)
     by true e = ap (λ (k : ℕ). get_or (set t x v) k 0) (sym (eqb-true x g e)) ∙ get_or-set_same t x v 0 l
     by false e = get_or-set_other t x g v 0 (λ s. eqb-false x g e (sym s))
+
+-- no pixel
+pub counts_none : replicate 256 0 ≡ counts_of []
+unfolding counts_of occurs tab
+counts_none = refl
 
 -- as many pixels of one grey: their number at the grey's place, and nothing elsewhere
 pub counts_same : (n x : ℕ) → x < 256 → set (counts_of []) x n ≡ counts_of (tab n (λ _. x))

@@ -76,25 +76,25 @@ counted_none xs =
     }
 
 -- one more, in the first table
-pub counted_one : {xs : List ℕ} {i : ℕ} {a a' b c d : List ℕ} → Counted xs i a b c d → i < length xs → get_or xs i 0 < 256
-    → a' ≡ one_more a (get_or xs i 0) → Counted xs (i + 1) a' b c d
-counted_one {xs} {i} {a} {a'} {b} {c} {d} p l byte ea =
+pub counted_one : {xs : List ℕ} {i j : ℕ} {a a' b c d : List ℕ} → Counted xs i a b c d → i < length xs → get_or xs i 0 < 256
+    → a' ≡ one_more a (get_or xs i 0) → j ≡ i + 1 → Counted xs j a' b c d
+counted_one {xs} {i} {j} {a} {a'} {b} {c} {d} p l byte ea e =
     record {
-      within = omega arith;
+      within = omega (arith, e);
       a_long = more_length a (get_or xs i 0) ea ∙ p.a_long;
       b_long = p.b_long;
       c_long = p.c_long;
       d_long = p.d_long;
-      is = λ g m. omega (arith, p.is g m, more_at a (get_or xs i 0) g ea (omega (arith, p.a_long)), occurs_more g xs i (i + 1) l refl);
+      is = λ g m. omega (arith, p.is g m, more_at a (get_or xs i 0) g ea (omega (arith, p.a_long)), occurs_more g xs i j l e);
     }
 
 -- four more, a table each
-pub counted_four : {xs : List ℕ} {i : ℕ} {a a' b b' c c' d d' : List ℕ} → Counted xs i a b c d → i + 3 < length xs → ((k : ℕ) → get_or xs k 0 < 256)
+pub counted_four : {xs : List ℕ} {i j : ℕ} {a a' b b' c c' d d' : List ℕ} → Counted xs i a b c d → i + 3 < length xs → ((k : ℕ) → get_or xs k 0 < 256)
     → a' ≡ one_more a (get_or xs i 0) → b' ≡ one_more b (get_or xs (i + 1) 0) → c' ≡ one_more c (get_or xs (i + 2) 0) → d' ≡ one_more d (get_or xs (i + 3) 0)
-    → Counted xs (i + 4) a' b' c' d'
-counted_four {xs} {i} {a} {a'} {b} {b'} {c} {c'} {d} {d'} p l byte ea eb ec ed =
+    → j ≡ i + 4 → Counted xs j a' b' c' d'
+counted_four {xs} {i} {j} {a} {a'} {b} {b'} {c} {c'} {d} {d'} p l byte ea eb ec ed e =
     record {
-      within = omega arith;
+      within = omega (arith, e);
       a_long = more_length a (get_or xs i 0) ea ∙ p.a_long;
       b_long = more_length b (get_or xs (i + 1) 0) eb ∙ p.b_long;
       c_long = more_length c (get_or xs (i + 2) 0) ec ∙ p.c_long;
@@ -110,7 +110,7 @@ counted_four {xs} {i} {a} {a'} {b} {b'} {c} {c'} {d} {d'} p l byte ea eb ec ed =
             occurs_more g xs i (i + 1) (omega arith) refl,
             occurs_more g xs (i + 1) (i + 2) (omega arith) (omega arith),
             occurs_more g xs (i + 2) (i + 3) (omega arith) (omega arith),
-            occurs_more g xs (i + 3) (i + 4) (omega arith) (omega arith),
+            occurs_more g xs (i + 3) j (omega arith) (omega (arith, e)),
           );
     }
 

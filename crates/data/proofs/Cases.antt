@@ -28,14 +28,12 @@ use Rattle.device.specs.Parts.{with_bus, with_current, with_pointed}
 use Rattle.world.specs.World.{WithLog, with_log, WithRam, with_ram, on, device_in_ram, log_in_ram}
 use Rattle.chip.specs.Report.{logged}
 use Rattle.parameter.specs.Parameter.{parameter_taken}
-use Rattle.data.specs.declared.Streamed.{Streamed}
-use Rattle.data.specs.Most.{is_stream, most_of}
+use Rattle.device.specs.Kinds.{is_stream, most_of}
 use Rattle.data.specs.Data.{one_byte_more, current_set, writing_on, surplus, at_most, plane_for, plane_written, is_inside, counter_stepped, out_of_range, ram_written, data_by_kind, unasked, data_taken}
-use Rattle.data.specs.Stream.{left_as, is_streamed, streamed}
+use Rattle.data.specs.Stream.{is_streamed, streamed}
 
-pub goes_on : (d r : Ssd1677) (a b : Active) (bus : Bus) → b ≡ a → bus ≡ with_current d.bus (current.Active b) → r ≡ with_bus d bus
-    → r ≡ current_set (current.Active a) d
-goes_on d r a b bus e₁ e₂ e₃ = rw (e₃, e₂, e₁)
+pub goes_on : (d e r : Ssd1677) (a b : Active) → e ≡ d → b ≡ a → r ≡ current_set (current.Active b) e → r ≡ current_set (current.Active a) d
+goes_on d e r a b e₁ e₂ e₃ = rw (e₃, e₂, e₁)
 
 module _ (a : Active) (w : WithRam) where
   pub is_surplus : (k : WithLog) (r : Ssd1677)
@@ -80,10 +78,6 @@ module _ (a : Active) (k : WithLog) where
       → n ≡ logged (RamOutOfRange a.command k.device.regs.counter.x k.device.regs.counter.y) k → n ≡ out_of_range a k
   unfolding out_of_range
   past_first n h e = rw h e
-
-pub steps : (d r : Ssd1677) (c : Counter) (a b : Active) (bus : Bus) → c ≡ advanced_of d.regs.counter d.regs.window d.regs.entry → b ≡ a
-    → bus ≡ with_current d.bus (current.Active b) → r ≡ with_pointed d c bus → r ≡ current_set (current.Active a) (counter_stepped d)
-steps d r c a b bus e₁ e₂ e₃ e₄ = rw (e₄, e₃, e₂, e₁)
 
 -- a write that does not find its byte leaves the plane
 pub untouched : (p : List ℕ) (c : Counter) (byte : ℕ) → wrote_at p c ≡ false → written_at p c byte ≡ p
@@ -196,7 +190,5 @@ module _ (byte : ℕ) (d : Ssd1677) (b r : List ℕ) (c : Current) where
   pub streamed_as : (z w : WithRam) → true ≡ is_streamed d b r c → w ≡ with_ram d b r w.log → z ≡ data_taken byte w c → z ≡ streamed byte w c
   streamed_as z w y e f = took _ _ _ _ (ap (λ (x : WithRam). is_streamed x.device x.black_white x.red c) e ∙ sym y) f
 
-  pub leaves : (s : Streamed) (e f : List ℕ) → s ≡ left_as d.regs.counter d.bus → false ≡ is_streamed d b r c → e ≡ b → f ≡ r
-      → (s.done ≡ is_streamed d b r c)
-      × ((l : List ℕ) → with_ram (with_pointed d s.counter s.bus) e f l ≡ streamed byte (with_ram d b r l) c)
-  leaves s e f is n p q = (ap (λ (x : Streamed). x.done) is ∙ n, λ l. passed _ _ _ _ (sym n) (rw (is, p, q)))
+  pub leaves : (e f : List ℕ) → false ≡ is_streamed d b r c → e ≡ b → f ≡ r → (l : List ℕ) → with_ram d e f l ≡ streamed byte (with_ram d b r l) c
+  leaves e f n p q l = passed _ _ _ _ (sym n) (rw (p, q))

@@ -1,20 +1,20 @@
 -- A byte of RAM data that its plane takes (mod.rs, `write_ram`), apart from all else that a data byte may be.
-use Rattle.std.specs.Prelude.{ℕ, Bool, false, ◌&&◌, List}
+use Rattle.std.specs.Prelude.{ℕ, Bool, false, ◌&&◌, List, Option, Some, None}
 use Rattle.numbers.specs.Choice.{pick}
-use Rattle.counter.specs.declared.Counter.{Counter}
 use Rattle.ram.specs.Plane.{plane_of, wrote_at}
-use Rattle.device.specs.declared.Bus.{Bus}
 use Rattle.device.specs.declared.Current.{Current}
 use Rattle.device.specs.declared.Current.TheVariants as current
 use Rattle.device.specs.declared.Ssd1677.{Ssd1677}
+use Rattle.device.specs.Kinds.{is_stream}
+use Rattle.device.specs.Parts.{with_pointed}
 use Rattle.world.specs.World.{WithRam}
 use Rattle.data.specs.declared.Streamed.{Streamed}
-use Rattle.data.specs.Most.{is_stream}
 use Rattle.data.specs.Data.{plane_for, data_taken}
 
--- nothing was done
-abbrev pub left_as : Counter → Bus → Streamed
-left_as c bus = record { done = false; counter = c; bus = bus }
+-- the state that such a byte leaves; where there was none, the one before
+abbrev pub left_by : Ssd1677 → Option Streamed → Ssd1677
+left_by d (Some s) = with_pointed d s.counter s.bus
+left_by d None = d
 
 -- whether the current command takes RAM data and its plane has the counter's byte
 abbrev pub is_streamed : Ssd1677 → List ℕ → List ℕ → Current → Bool

@@ -1,98 +1,49 @@
 // A data byte, once the clock has moved (mod.rs, `write_data` and `write_ram`).
 #![tactic(auto)]
 
-ghost use Rattle.std.specs.Prelude.{◌≡◌, true, false, List, ℕ, eqb, length};
+ghost use Rattle.std.specs.Prelude.{◌≡◌, true, false, List, ℕ, eqb, is_some};
 ghost use Rattle.device.specs.declared.Current.TheVariants as current;
 ghost use Rattle.numbers.specs.Choice.{pick};
 ghost use Rattle.ram.specs.Plane.{plane_of, wrote_at, written_at};
 ghost use Rattle.diagnostic.specs.declared.DiagnosticKind.TheVariants.{ExtraData};
 ghost use Rattle.chip.specs.Report.{logged};
-ghost use Rattle.data.specs.Most.{is_stream, most_of};
-ghost use Rattle.device.specs.Parts.{with_pointed};
 ghost use Rattle.world.specs.World.{with_log, with_ram, on, device_in_ram, log_in_ram};
-ghost use Rattle.data.specs.Stream.{left_as, is_streamed, streamed};
+ghost use Rattle.data.specs.Stream.{left_by, is_streamed, streamed};
 ghost use Rattle.data.specs.Data.{one_byte_more, current_set, writing_on, surplus, at_most, counter_stepped, out_of_range, plane_for, unasked, data_taken};
 
-use device::{Active, Bus, Current, Kind, Params, Power, Ssd1677, part};
-use diagnostic::DiagnosticKind;
+use device::{Active, Bus, Current, Power, Ssd1677, part};
+use diagnostic::{DiagnosticKind, Log};
 use ram::Counter;
 
-// What a byte of RAM data leaves.
+// What a byte of RAM data that its plane has taken leaves.
 #[derive(Clone, Copy)]
 pub struct Streamed {
-    // The byte was one, and its plane has taken it.
-    pub done: bool,
     pub counter: Counter,
     pub bus: Bus,
-}
-
-// Nothing was done.
-fn left(counter: Counter, bus: Bus) -> Streamed
-    ensures { result ≡ left_as counter bus }
-{
-    Streamed {
-        done: false,
-        counter,
-        bus,
-    }
-}
-
-// Whether a command of the kind takes RAM data.
-pub fn is_stream(kind: Kind) -> bool
-    ensures { result ≡ is_stream kind }
-{
-    match kind {
-        Kind::Write(params) => match params {
-            Params::Exactly(_) => false,
-            Params::Between(_, _) => false,
-            Params::Stream => true,
-        },
-        Kind::Read => false,
-        Kind::Unsupported => false,
-        Kind::Reserved => false,
-    }
-}
-
-// The most parameter bytes that a command of the kind takes.
-fn most_of(kind: Kind) -> u16
-    ensures { result ≡ most_of kind }
-{
-    match kind {
-        Kind::Write(params) => match params {
-            Params::Exactly(count) => count,
-            Params::Between(_, count) => count,
-            Params::Stream => 0,
-        },
-        Kind::Read => 0,
-        Kind::Unsupported => 0,
-        Kind::Reserved => 0,
-    }
 }
 
 // The command with one byte more, and what it has reported.
 fn count(active: Active, extra: bool, range: bool) -> Active
     ensures { result ≡ one_byte_more active extra range }
 {
-    let received = active.received.saturating_add(1);
-    let mut next = active;
-    next.received = received;
-    next.extra_reported = extra;
-    next.range_reported = range;
-    next
+    Active {
+        received: active.received.saturating_add(1),
+        extra_reported: extra,
+        range_reported: range,
+        ..active
+    }
 }
 
-// The command stays the current one, with a byte more.
-fn go_on(state: Ssd1677, active: Active, extra: bool, range: bool) -> Ssd1677
-    ensures { result ≡ current_set (current.Active (one_byte_more active extra range)) state }
+// The command is the current one.
+pub fn go_on(state: Ssd1677, active: Active) -> Ssd1677
+    ensures { result ≡ current_set (current.Active active) state }
 {
-    let next = count(active, extra, range);
-    let bus = part::set_current(state.bus, Current::Active(next));
+    let bus = part::set_current(state.bus, Current::Active(active));
     part::set_bus(state, bus)
 }
 
 // 25, unless the command has reported it.
-fn report_extra(state: Ssd1677, log: &mut [u8], active: Active) -> Ssd1677
-    requires { length log.old ≡ 16384 }
+fn report_extra(state: Ssd1677, log: &mut Log, active: Active) -> Ssd1677
     ensures { with_log result log.new ≡ pick active.extra_reported (with_log state log.old) (logged (ExtraData active.command) (with_log state log.old)) }
 {
     if active.extra_reported {
@@ -103,12 +54,11 @@ fn report_extra(state: Ssd1677, log: &mut [u8], active: Active) -> Ssd1677
 }
 
 // More bytes than the command takes, whatever the planes.
-fn take_surplus(state: Ssd1677, log: &mut [u8], active: Active) -> Ssd1677
-    requires { length log.old ≡ 16384 }
+fn take_surplus(state: Ssd1677, log: &mut Log, active: Active) -> Ssd1677
     ensures { (b d : List ℕ) → with_ram result b d log.new ≡ surplus active (with_ram state b d log.old) }
 {
     let noted = report_extra(state, log, active);
-    go_on(noted, active, true, active.range_reported)
+    go_on(noted, count(active, true, active.range_reported))
 }
 
 // A byte of a command that takes `most` at most.
@@ -116,39 +66,34 @@ fn up_to(
     state: Ssd1677,
     black_white: &mut [u8],
     red: &mut [u8],
-    log: &mut [u8],
+    log: &mut Log,
     active: Active,
     most: u16,
     byte: u8,
 ) -> Ssd1677
-    requires { length log.old ≡ 16384 }
     ensures { with_ram result black_white.new red.new log.new ≡ at_most most byte active (with_ram state black_white.old red.old log.old) }
 {
     let index = active.received;
     if index < most {
         let command = active.command;
         let taken = parameter::parameter(state, black_white, red, log, command, index, byte);
-        return go_on(taken, active, active.extra_reported, active.range_reported);
+        let next = count(active, active.extra_reported, active.range_reported);
+        return go_on(taken, next);
     }
     take_surplus(state, log, active)
 }
 
-// The counter steps, and the command stays the current one.
-fn step(state: Ssd1677, active: Active, range: bool) -> Ssd1677
-    ensures { result ≡ current_set (current.Active (one_byte_more active active.extra_reported range)) (counter_stepped state) }
+// The counter steps, by the window and the data-entry mode.
+pub fn step(state: Ssd1677) -> Ssd1677
+    ensures { result ≡ counter_stepped state }
 {
-    let at = state.regs.counter;
-    let window = state.regs.window;
-    let entry = state.regs.entry;
-    let counter = at.advanced(window, entry);
-    let next = count(active, active.extra_reported, range);
-    let bus = part::set_current(state.bus, Current::Active(next));
-    part::set_pointed(state, counter, bus)
+    let regs = state.regs;
+    let counter = regs.counter.advanced(regs.window, regs.entry);
+    part::set_regs(state, part::set_counter(regs, counter))
 }
 
 // 31, unless the command has reported it.
-pub fn report_range(state: Ssd1677, log: &mut [u8], active: Active) -> Ssd1677
-    requires { length log.old ≡ 16384 }
+pub fn report_range(state: Ssd1677, log: &mut Log, active: Active) -> Ssd1677
     ensures { with_log result log.new ≡ out_of_range active (with_log state log.old) }
 {
     if active.range_reported {
@@ -168,12 +113,12 @@ pub fn report_range(state: Ssd1677, log: &mut [u8], active: Active) -> Ssd1677
 }
 
 // Past the RAM the counter steps all the same.
-fn step_outside(state: Ssd1677, log: &mut [u8], active: Active) -> Ssd1677
-    requires { length log.old ≡ 16384 }
+fn step_outside(state: Ssd1677, log: &mut Log, active: Active) -> Ssd1677
     ensures { (b d : List ℕ) → with_ram result b d log.new ≡ writing_on active active.extra_reported true (on device_in_ram counter_stepped (on log_in_ram (out_of_range active) (with_ram state b d log.old))) }
 {
     let noted = report_range(state, log, active);
-    step(noted, active, true)
+    let moved = step(noted);
+    go_on(moved, count(active, active.extra_reported, true))
 }
 
 // A data byte of 0x24 or 0x26, at the counter; whether the plane has the counter's byte.
@@ -189,8 +134,7 @@ fn put(black_white: &mut [u8], red: &mut [u8], command: u8, at: Counter, byte: u
 }
 
 // 24 for a byte with no command before it, of a chip that runs, whatever the planes.
-fn report_unasked(state: Ssd1677, log: &mut [u8], byte: u8) -> Ssd1677
-    requires { length log.old ≡ 16384 }
+fn report_unasked(state: Ssd1677, log: &mut Log, byte: u8) -> Ssd1677
     ensures { (b d : List ℕ) → with_ram result b d log.new ≡ unasked byte (with_ram state b d log.old) state.bus.power }
 {
     let old = state.bus;
@@ -207,8 +151,7 @@ fn report_unasked(state: Ssd1677, log: &mut [u8], byte: u8) -> Ssd1677
 }
 
 // No command is current, and later bytes are ignored.
-fn take_unasked(state: Ssd1677, log: &mut [u8], byte: u8) -> Ssd1677
-    requires { length log.old ≡ 16384 }
+fn take_unasked(state: Ssd1677, log: &mut Log, byte: u8) -> Ssd1677
     ensures { (b d : List ℕ) → with_ram result b d log.new ≡ data_taken byte (with_ram state b d log.old) current.Idle }
 {
     let noted = report_unasked(state, log, byte);
@@ -218,35 +161,27 @@ fn take_unasked(state: Ssd1677, log: &mut [u8], byte: u8) -> Ssd1677
 
 // A byte of RAM data that its plane takes, which leaves the state as it is but for the counter and the bus; another byte leaves all.
 // A frame is 48,000 of them, so what they change comes back by itself and the state is read alone: each function that hands it back by value may copy it.
-pub fn stream(state: Ssd1677, black_white: &mut [u8], red: &mut [u8], byte: u8) -> Streamed
-    ensures done_value { result.done ≡ is_streamed state black_white.old red.old state.bus.current }
-    ensures by_index { (l : List ℕ) → with_ram (with_pointed state result.counter result.bus) black_white.new red.new l ≡ streamed byte (with_ram state black_white.old red.old l) state.bus.current }
+pub fn stream(state: Ssd1677, black_white: &mut [u8], red: &mut [u8], byte: u8) -> Option<Streamed>
+    ensures done_value { is_some result ≡ is_streamed state black_white.old red.old state.bus.current }
+    ensures by_index { (l : List ℕ) → with_ram (left_by state result) black_white.new red.new l ≡ streamed byte (with_ram state black_white.old red.old l) state.bus.current }
 {
     let at = state.regs.counter;
     let bus = state.bus;
-    let current = bus.current;
-    match current {
+    match bus.current {
         Current::Active(active) => {
-            let kind = active.kind;
-            if is_stream(kind) {
-                if put(black_white, red, active.command, at, byte) {
-                    let window = state.regs.window;
-                    let entry = state.regs.entry;
-                    let counter = at.advanced(window, entry);
-                    let next = count(active, active.extra_reported, active.range_reported);
-                    let after = part::set_current(bus, Current::Active(next));
-                    return Streamed {
-                        done: true,
-                        counter,
-                        bus: after,
-                    };
-                }
-                return left(at, bus);
+            if active.kind.bounds().is_some() {
+                return None;
             }
-            left(at, bus)
+            if put(black_white, red, active.command, at, byte) {
+                let counter = at.advanced(state.regs.window, state.regs.entry);
+                let next = count(active, active.extra_reported, active.range_reported);
+                let bus = part::set_current(bus, Current::Active(next));
+                return Some(Streamed { counter, bus });
+            }
+            None
         }
-        Current::Idle => left(at, bus),
-        Current::Ignoring => left(at, bus),
+        Current::Idle => None,
+        Current::Ignoring => None,
     }
 }
 
@@ -255,24 +190,17 @@ pub fn write_other(
     state: Ssd1677,
     black_white: &mut [u8],
     red: &mut [u8],
-    log: &mut [u8],
+    log: &mut Log,
     byte: u8,
 ) -> Ssd1677
-    requires log_len { length log.old ≡ 16384 }
     requires current_value { is_streamed state black_white.old red.old state.bus.current ≡ false }
     ensures { with_ram result black_white.new red.new log.new ≡ data_taken byte (with_ram state black_white.old red.old log.old) state.bus.current }
 {
-    let bus = state.bus;
-    let current = bus.current;
-    match current {
-        Current::Active(active) => {
-            let kind = active.kind;
-            if is_stream(kind) {
-                return step_outside(state, log, active);
-            }
-            let most = most_of(kind);
-            up_to(state, black_white, red, log, active, most, byte)
-        }
+    match state.bus.current {
+        Current::Active(active) => match active.kind.bounds() {
+            Some(bounds) => up_to(state, black_white, red, log, active, bounds.most, byte),
+            None => step_outside(state, log, active),
+        },
         Current::Idle => take_unasked(state, log, byte),
         Current::Ignoring => state,
     }
@@ -283,15 +211,13 @@ pub fn write(
     state: Ssd1677,
     black_white: &mut [u8],
     red: &mut [u8],
-    log: &mut [u8],
+    log: &mut Log,
     byte: u8,
 ) -> Ssd1677
-    requires { length log.old ≡ 16384 }
     ensures { with_ram result black_white.new red.new log.new ≡ data_taken byte (with_ram state black_white.old red.old log.old) state.bus.current }
 {
-    let step = stream(state, black_white, red, byte);
-    if step.done {
-        return part::set_pointed(state, step.counter, step.bus);
+    match stream(state, black_white, red, byte) {
+        Some(step) => part::set_pointed(state, step.counter, step.bus),
+        None => write_other(state, black_white, red, log, byte),
     }
-    write_other(state, black_white, red, log, byte)
 }

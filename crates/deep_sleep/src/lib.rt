@@ -6,6 +6,7 @@ ghost use Rattle.world.specs.World.{with_ram};
 ghost use Rattle.acts.specs.Acts.{asleep, slept};
 
 use device::{Bus, Power, Ssd1677, part};
+use diagnostic::Log;
 
 // Asleep: the supplies are off, and BUSY has no end.
 fn fall_asleep(state: Ssd1677) -> Ssd1677
@@ -34,10 +35,9 @@ pub fn deep_sleep(
     state: Ssd1677,
     black_white: &mut [u8],
     red: &mut [u8],
-    log: &mut [u8],
+    log: &mut Log,
     byte: u8,
 ) -> Ssd1677
-    requires { length log.old ≡ 16384 }
     ensures { with_ram result black_white.new red.new log.new ≡ slept byte (with_ram state black_white.old red.old log.old) }
 {
     let noted = acts::check(state, log, 0x10, byte, (byte == 0) | (byte == 3));

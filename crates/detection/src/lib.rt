@@ -7,7 +7,7 @@ ghost use Rattle.acts.specs.Acts.{with_hv_not_ready, with_vci_low, hv_detected, 
 
 use acts::{busy_for, check};
 use device::{Ssd1677, Status, part};
-use diagnostic::Stage;
+use diagnostic::{Log, Stage};
 
 // A step of the cool-down of 0x14, in nanoseconds.
 const COOL_DOWN: u64 = 10000000;
@@ -44,8 +44,7 @@ fn cool_downs(byte: u8) -> u8
 }
 
 // With the supplies up the HV is ready at the first detection; without them the detection cannot succeed.
-fn detect_hv(state: Ssd1677, log: &mut [u8], byte: u8) -> Ssd1677
-    requires { length log.old ≡ 16384 }
+fn detect_hv(state: Ssd1677, log: &mut Log, byte: u8) -> Ssd1677
     ensures { with_log result log.new ≡ hv_detected byte (with_log state log.old) }
 {
     if start::powered(state) {
@@ -65,8 +64,7 @@ fn hv_listed(byte: u8) -> bool
 }
 
 // 0x14.
-pub fn hv_ready_detection(state: Ssd1677, log: &mut [u8], byte: u8) -> Ssd1677
-    requires { length log.old ≡ 16384 }
+pub fn hv_ready_detection(state: Ssd1677, log: &mut Log, byte: u8) -> Ssd1677
     ensures { with_log result log.new ≡ hv_ready byte (with_log state log.old) }
 {
     let listed = hv_listed(byte);
@@ -93,8 +91,7 @@ fn millivolts(byte: u8) -> u32
 }
 
 // Whether VCI lies below the level, with the supplies up.
-fn detect_vci(state: Ssd1677, log: &mut [u8], byte: u8) -> Ssd1677
-    requires { length log.old ≡ 16384 }
+fn detect_vci(state: Ssd1677, log: &mut Log, byte: u8) -> Ssd1677
     ensures { with_log result log.new ≡ vci_detected byte (with_log state log.old) }
 {
     if start::powered(state) {
@@ -115,8 +112,7 @@ fn vci_listed(byte: u8) -> bool
 }
 
 // 0x15.
-pub fn vci_detection(state: Ssd1677, log: &mut [u8], byte: u8) -> Ssd1677
-    requires { length log.old ≡ 16384 }
+pub fn vci_detection(state: Ssd1677, log: &mut Log, byte: u8) -> Ssd1677
     ensures { with_log result log.new ≡ vci_sensed byte (with_log state log.old) }
 {
     let listed = vci_listed(byte);

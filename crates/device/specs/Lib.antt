@@ -1,2 +1,3 @@
 -- The root of device's specs.
 pub mod Parts
+pub mod Kinds

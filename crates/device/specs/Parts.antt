@@ -91,8 +91,8 @@ with_status d newStatus =
       journal = d.journal;
     }
 
--- another display
-abbrev pub with_display : Ssd1677 → Display → Ssd1677
+-- another display, or none
+abbrev pub with_display : Ssd1677 → Option Display → Ssd1677
 with_display d newDisplay =
     record {
       config = d.config;
@@ -124,7 +124,7 @@ with_journal d newJournal =
     }
 
 -- the glass and the display: an end and a cut change both
-abbrev pub with_panel_and_display : Ssd1677 → Panel → Display → Ssd1677
+abbrev pub with_panel_and_display : Ssd1677 → Panel → Option Display → Ssd1677
 with_panel_and_display d newPanel newDisplay =
     record {
       config = d.config;
@@ -172,7 +172,7 @@ with_slept d newBus newClock newAnalog =
     }
 
 -- what the stages of an activation change
-abbrev pub with_activated : Ssd1677 → Registers → Bus → Bool → Bool → Display → Journal → Ssd1677
+abbrev pub with_activated : Ssd1677 → Registers → Bus → Bool → Bool → Option Display → Journal → Ssd1677
 with_activated d newRegs newBus newClock newAnalog newDisplay newJournal =
     record {
       config = d.config;

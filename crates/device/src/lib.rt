@@ -1,8 +1,11 @@
 // The state of an SSD1677 but for its lent buffers: registers, bus, supplies, status, glass, display and journal (mod.rs).
 //
 // The parts are nested by who changes them, so that a function takes and returns only its part; the functions of `part` put one
-// back. A field that is an enum cannot be stored to, so the enums stand together in `Bus`, which is written anew.
+// back.
 #![tactic(auto)]
+
+ghost use Rattle.std.specs.Prelude.{◌≡◌};
+ghost use Rattle.device.specs.Kinds.{bounds_of};
 
 use config::{GateScan, Ssd1677Config};
 use diagnostic::Journal;
@@ -12,7 +15,7 @@ use ram::{Counter, Entry, Window};
 pub mod part;
 
 // How many parameter bytes a command takes.
-#[derive(Clone, Copy)]
+#[derive(Clone, Copy, PartialEq, Eq)]
 pub enum Params {
     Exactly(u16),
     Between(u16, u16),
@@ -21,7 +24,7 @@ pub enum Params {
 }
 
 // What the model does with a command.
-#[derive(Clone, Copy)]
+#[derive(Clone, Copy, PartialEq, Eq)]
 pub enum Kind {
     Write(Params),
     // A command whose data bytes are read by the MCU.
@@ -29,6 +32,30 @@ pub enum Kind {
     // Accepted without effect.
     Unsupported,
     Reserved,
+}
+
+// The fewest and the most parameter bytes of a command.
+#[derive(Clone, Copy)]
+pub struct Bounds {
+    pub least: u16,
+    pub most: u16,
+}
+
+impl Kind {
+    // How many parameter bytes a command of the kind takes; RAM data have no bounds.
+    pub fn bounds(self) -> Option<Bounds>
+        ensures { result ≡ bounds_of self }
+    {
+        match self {
+            Kind::Write(Params::Exactly(count)) => Some(Bounds {
+                least: count,
+                most: count,
+            }),
+            Kind::Write(Params::Between(least, most)) => Some(Bounds { least, most }),
+            Kind::Write(Params::Stream) => None,
+            Kind::Read | Kind::Unsupported | Kind::Reserved => Some(Bounds { least: 0, most: 0 }),
+        }
+    }
 }
 
 // The registers (datasheet Table 7-1).
@@ -120,6 +147,7 @@ pub struct Ssd1677 {
     pub analog: bool,
     pub status: Status,
     pub panel: Panel,
-    pub display: Display,
+    // The display in progress; an end, a cut or a drop leaves none.
+    pub display: Option<Display>,
     pub journal: Journal,
 }

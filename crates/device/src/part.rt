@@ -53,8 +53,8 @@ pub fn set_status(state: Ssd1677, status: Status) -> Ssd1677
     next
 }
 
-// Another display.
-pub fn set_display(state: Ssd1677, display: Display) -> Ssd1677
+// Another display, or none.
+pub fn set_display(state: Ssd1677, display: Option<Display>) -> Ssd1677
     ensures { result ≡ with_display state display }
 {
     let mut next = state;
@@ -72,7 +72,7 @@ pub fn set_journal(state: Ssd1677, journal: Journal) -> Ssd1677
 }
 
 // The glass and the display: an end and a cut change both.
-pub fn set_glass(state: Ssd1677, panel: Panel, display: Display) -> Ssd1677
+pub fn set_glass(state: Ssd1677, panel: Panel, display: Option<Display>) -> Ssd1677
     ensures { result ≡ with_panel_and_display state panel display }
 {
     let mut driven = state;
@@ -117,7 +117,7 @@ pub fn set_activated(
     bus: Bus,
     clock: bool,
     analog: bool,
-    display: Display,
+    display: Option<Display>,
     journal: Journal,
 ) -> Ssd1677
     ensures { result ≡ with_activated state regs bus clock analog display journal }

@@ -126,3 +126,8 @@ pub struct Name {
 
 // Records that the log has room for; past it they are counted, not kept.
 pub const MAX_DIAGNOSTICS: u16 = 1024;
+
+// The log: 1,024 records of 16 bytes (SCOPE, Log).
+pub const LOG_BYTES: usize = 16_384;
+
+pub type Log = [u8; LOG_BYTES];

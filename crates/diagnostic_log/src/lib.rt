@@ -4,11 +4,10 @@
 ghost use Rattle.std.specs.Prelude.{◌≡◌, length};
 ghost use Rattle.diagnostic.specs.Log.{entries, reported, reserved_reported};
 
-use diagnostic::{DiagnosticKind, Journal, MAX_DIAGNOSTICS};
+use diagnostic::{DiagnosticKind, Journal, Log, MAX_DIAGNOSTICS};
 
 // The record goes to the first free place; past the last only the dropped count rises.
-pub fn report(journal: Journal, log: &mut [u8], time: u64, kind: DiagnosticKind) -> Journal
-    requires { length log.old ≡ 16384 }
+pub fn report(journal: Journal, log: &mut Log, time: u64, kind: DiagnosticKind) -> Journal
     ensures { entries result log.new ≡ reported (entries journal log.old) time kind }
 {
     let mut after = journal;
@@ -26,8 +25,7 @@ pub fn report(journal: Journal, log: &mut [u8], time: u64, kind: DiagnosticKind)
 }
 
 // The first reserved or unlisted value of a command is reported; the others of the same command are not.
-pub fn reserved(journal: Journal, log: &mut [u8], time: u64, command: u8, value: u8) -> Journal
-    requires { length log.old ≡ 16384 }
+pub fn reserved(journal: Journal, log: &mut Log, time: u64, command: u8, value: u8) -> Journal
     ensures { entries result log.new ≡ reserved_reported (entries journal log.old) time command value }
 {
     if journal.reserved_reported {

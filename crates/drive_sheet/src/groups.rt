@@ -18,9 +18,8 @@ pub(crate) fn any_bad_repeats(sheet: Sheet) -> bool
     ensures { result ≡ (repeats_test sheet).refuses }
 {
     let mut bad = false;
-    for k in 0..10 {
-        let one = bad_repeats(sheet.groups[k]);
-        bad = bad | one;
+    for group in sheet.groups {
+        bad |= bad_repeats(group);
     }
     bad
 }
@@ -29,9 +28,8 @@ fn any_high_code(codes: [u8; 20]) -> bool
     ensures { result ≡ any_of (high_code codes) 20 }
 {
     let mut high = false;
-    for k in 0..20 {
-        let one = 3 < codes[k];
-        high = high | one;
+    for code in codes {
+        high |= 3 < code;
     }
     high
 }
@@ -47,9 +45,8 @@ pub(crate) fn any_bad_codes(sheet: Sheet) -> bool
     ensures { result ≡ (codes_test sheet).refuses }
 {
     let mut bad = false;
-    for k in 0..10 {
-        let one = bad_codes(sheet.groups[k]);
-        bad = bad | one;
+    for group in sheet.groups {
+        bad |= bad_codes(group);
     }
     bad
 }

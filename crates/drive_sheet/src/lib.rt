@@ -5,15 +5,15 @@
 mod groups;
 mod supplies;
 
-ghost use Rattle.std.specs.Prelude.{◌≡◌, ◌<◌, length, replicate, OnOk};
+ghost use Rattle.std.specs.Prelude.{◌≡◌, ◌<◌, length, OnOk};
 ghost use Rattle.numbers.specs.Lists.{tab};
 ghost use Rattle.voltage.specs.Codes.{vcom_voltage};
 ghost use Rattle.waveform.specs.Voltages.{or_zero};
-ghost use Rattle.waveform.specs.Setting.{group_codes_of, waveform_of};
+ghost use Rattle.waveform.specs.Setting.{group_codes_of};
 ghost use Rattle.drive_sheet.specs.Bytes.{setting_of, sheet_byte, last_byte, sheet_of};
 ghost use Rattle.drive_sheet.specs.Tests.{Prepared, sheet_refusal, told_of, number_in, reply, written_of};
 
-use waveform::{GroupCodes, Levels, Waveform};
+use waveform::{GroupCodes, Levels};
 
 const SETTING_BYTES: usize = 112;
 
@@ -62,14 +62,17 @@ pub enum SheetError {
 }
 
 // The number of a refusal.
-pub fn number(error: SheetError) -> u8
-    ensures { result ≡ number_in (sheet_refusal error) }
-{
-    match error {
-        SheetError::Length => 11,
-        SheetError::NoCode => 61,
-        SheetError::Repeats => 62,
-        SheetError::Code => 63,
+impl From<SheetError> for u8 {
+    ghost from_gives = { λ error number. number ≡ number_in (sheet_refusal error) };
+
+    #[tactic(auto, unfolding(crate::specs::Tests::sheet_refusal))]
+    fn from(error: SheetError) -> u8 {
+        match error {
+            SheetError::Length => 11,
+            SheetError::NoCode => 61,
+            SheetError::Repeats => 62,
+            SheetError::Code => 63,
+        }
     }
 }
 
@@ -111,6 +114,7 @@ fn fill(sheet: Sheet, codes: SupplyCodes, out: &mut [u8])
     requires { (length out.old ≡ 112) × Prepared sheet codes }
     ensures { out.new ≡ setting_of sheet }
 {
+    // By its counter, which is the byte's place.
     for i in 0..SETTING_BYTES {
         out[i] = byte_at(sheet, codes, i);
     }
@@ -150,38 +154,21 @@ fn vcom_of(code: u8) -> i64
     voltage::vcom_millivolts(code).unwrap_or(0)
 }
 
-// A group of a setting as it is decoded for a refresh, with the code of its frame rate for a period.
-fn group_codes(setting: &[u8; 112], waveform: Waveform, number: usize) -> GroupCodes
-    requires { (number < 10) × (waveform ≡ waveform_of setting.now (replicate 16 0)) }
-    ensures { result ≡ group_codes_of setting.now number }
-{
-    let group = waveform.groups[number];
-    let frames = group.frames;
-    let codes = group.codes;
-    GroupCodes {
-        frames,
-        repeats: group.repeats,
-        frame_rate: setting::frame_rate_code(setting, number),
-        codes,
-    }
-}
-
+// The ten groups of a setting, as they are decoded for a refresh.
 fn groups_of(setting: &[u8; 112]) -> [GroupCodes; 10]
     ensures { result ≡ tab 10 (group_codes_of setting.now) }
 {
-    let no_periods = [0u64; 16];
-    let waveform = setting::from_setting(setting, &no_periods);
     [
-        group_codes(setting, waveform, 0),
-        group_codes(setting, waveform, 1),
-        group_codes(setting, waveform, 2),
-        group_codes(setting, waveform, 3),
-        group_codes(setting, waveform, 4),
-        group_codes(setting, waveform, 5),
-        group_codes(setting, waveform, 6),
-        group_codes(setting, waveform, 7),
-        group_codes(setting, waveform, 8),
-        group_codes(setting, waveform, 9),
+        setting::group_codes(setting, 0),
+        setting::group_codes(setting, 1),
+        setting::group_codes(setting, 2),
+        setting::group_codes(setting, 3),
+        setting::group_codes(setting, 4),
+        setting::group_codes(setting, 5),
+        setting::group_codes(setting, 6),
+        setting::group_codes(setting, 7),
+        setting::group_codes(setting, 8),
+        setting::group_codes(setting, 9),
     ]
 }
 

@@ -9,7 +9,7 @@ ghost use Rattle.query.specs.Outcome.{outcome, answer_in};
 ghost use Rattle.driven.specs.Read.{reading_in, with_read, data_read};
 
 use device::Ssd1677;
-use guard::Refused;
+use guard::{Refusal, Refused};
 use reading::Reading;
 
 // A byte read by the MCU. None when the chip drives nothing: the line floats, the board decides its level.
@@ -35,11 +35,22 @@ pub fn read_data(
         black_white.len(),
         red.len(),
     );
-    match guard::check(state, lengths) {
-        Ok(()) => {
-            let present = clock::advance(state, states, luts, pixels, counts, time);
-            Ok(reading::read(present, black_white, red, log))
-        }
-        Err(refusal) => Err(Refused { refusal, state }),
+    if let Err(refusal) = guard::check(state, lengths) {
+        return Err(Refused { refusal, state });
     }
+    // The guard has seen both lengths.
+    let Some(counts) = counts.as_mut_array() else {
+        return Err(Refused {
+            refusal: Refusal::Counts,
+            state,
+        });
+    };
+    let Some(log) = log.as_mut_array() else {
+        return Err(Refused {
+            refusal: Refusal::Buffer,
+            state,
+        });
+    };
+    let present = clock::advance(state, states, luts, pixels, counts, time);
+    Ok(reading::read(present, black_white, red, log))
 }

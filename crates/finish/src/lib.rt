@@ -1,6 +1,7 @@
 // The end of a display, whole or cut (panel.rs, `Panel::finish`).
 #![tactic(auto)]
 
+use counts::Counts;
 use glass::PanelImage;
 use panel::{Display, Panel};
 
@@ -56,7 +57,7 @@ pub fn finish(
     states: &mut [i64],
     luts: &[u8],
     pixels: &mut [u8],
-    counts: &mut [u32],
+    counts: &mut Counts,
 ) -> Panel
     requires { Finishable frame_period panel.swing states.old luts.now pixels.old counts.old }
     ensures { glass result states.new (picture pixels.new counts.new) ≡ finished (ending display positive_drives_black frame_period at until) luts.now (glass panel states.old (picture pixels.old counts.old)) }
@@ -69,7 +70,7 @@ pub fn finish(
         until,
     );
     refresh::repaint(refresh, luts, &mut states[..], &mut pixels[..]);
-    counts::count(&pixels[..], &mut counts[..]);
+    counts::count(&pixels[..], counts);
     let moved = refresh::drive_border(refresh, display.border, panel);
     publish(moved, display, at, until)
 }

@@ -78,6 +78,7 @@ pub fn gate_of_row(gates: &mut [u16], geometry: PanelGeometry)
     ensures { gates.new ≡ gates_stored geometry geometry.height gates.old }
 {
     let height = geometry.height;
+    // By its counter, which is what is stored.
     for gate in 0..height {
         let row = physical_row(gate, geometry) as usize;
         if row < gates.len() {

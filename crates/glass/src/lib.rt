@@ -137,7 +137,7 @@ pub fn level(gray: u8, swing: i64) -> i64
     requires { pos 1 ≤ℤ swing }
     ensures { result ≡ level_z gray swing }
 {
-    share(numbers::wide(gray), swing as u64) as i64
+    share(u64::from(gray), swing as u64) as i64
 }
 
 // 510 × state / swing for a large swing, with one division by a number that is not constant: the swing is 510 × step + rest, and

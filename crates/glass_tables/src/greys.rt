@@ -38,6 +38,7 @@ pub fn firsts(swing: i64, shift: u64) -> [u8; 512]
     ensures { result ≡ firsts_of swing shift }
 {
     let mut firsts = [0; 512];
+    // By its counter, which is the step's number.
     for i in 0..512 {
         firsts[i] = first(i, swing, shift);
     }
@@ -61,6 +62,7 @@ pub fn ends(swing: i64) -> [u64; 256]
     ensures { result ≡ ends_of (nat_abs swing) }
 {
     let mut ends = [0; 256];
+    // By its counter, which is the grey.
     for i in 0..256 {
         ends[i] = end(i as u64, swing as u64);
     }

@@ -6,8 +6,7 @@ use glass::Transfer;
 
 pub mod greys;
 
-ghost use Rattle.std.specs.Prelude.{◌≡◌, pos, ◌-ℤ◌, ◌≤ℤ◌};
-ghost use Rattle.numbers.specs.Saturation.{sat_z};
+ghost use Rattle.std.specs.Prelude.{◌≡◌, pos, ◌≤ℤ◌};
 ghost use Rattle.glass_tables.specs.Moves.{moved_by, Fitting, Does};
 
 // A transfer with its bounds put before its sum, which then needs no saturation: `x` held between `lo` and `hi`, plus `add`.
@@ -16,18 +15,6 @@ pub struct Move {
     pub lo: i64,
     pub hi: i64,
     pub add: i64,
-}
-
-fn saturating_sub_i64(a: i64, b: i64) -> i64
-    ensures { result ≡ sat_z (a -ℤ b) }
-{
-    if b < 0 {
-        if i64::MAX + b < a {
-            return i64::MAX;
-        }
-        return a - b;
-    }
-    if a < i64::MIN + b { i64::MIN } else { a - b }
 }
 
 // The move that does what a transfer does: its bounds, each less what it adds. A bound that no state of 64 bits comes to is then the end
@@ -44,8 +31,8 @@ pub fn move_of(transfer: Transfer) -> Move
             add: 0,
         };
     }
-    let lo = saturating_sub_i64(transfer.lo, transfer.add);
-    let hi = saturating_sub_i64(transfer.hi, transfer.add);
+    let lo = transfer.lo.saturating_sub(transfer.add);
+    let hi = transfer.hi.saturating_sub(transfer.add);
     Move {
         lo,
         hi,

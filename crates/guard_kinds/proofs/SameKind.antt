@@ -6,28 +6,16 @@ use lib.Dec.{eqb}
 use borrow.Author.Tests.{eqb-true, eq-eqb}
 use Rattle.numbers.specs.Choice.{pick}
 use Rattle.numbers.proofs.Cases.{left, right}
+use Rattle.std.specs.Option.{option_eq}
 use Rattle.device.specs.declared.Kind.{Kind}
+use Rattle.device.specs.contracts.KindPartialEq.TheImpl.{eq-value}
 use Rattle.device.specs.declared.Kind.TheVariants.{Write, Read, Unsupported, Reserved}
 use Rattle.device.specs.declared.Params.TheVariants.{Exactly, Between, Stream}
 use Rattle.device.specs.declared.Active as the
 use Rattle.device.specs.declared.Current.{Current}
 use Rattle.device.specs.declared.Current.TheVariants.{Active}
 use Rattle.command.specs.Table.{kind_of}
-use Rattle.guard_kinds.specs.declared.Code.{Code}
-use Rattle.guard_kinds.specs.Kinds.{code_of, same_code, same_kind, gives, current_fine}
-
-pub same : (a b : Kind) (x y : Code) → x ≡ code_of a → y ≡ code_of b → same_code x y ≡ same_kind a b
-unfolding same_kind
-same a b x y e f = rw (e, f)
-
-module _ (current : Current) (a : the.Active) (known : Option Kind) (is : current ≡ Active a) (given : known ≡ kind_of a.command) where
-  pub of_kind : (k : Kind) (r : Bool) → known ≡ Some k → r ≡ same_kind k a.kind → r ≡ current_fine current
-  unfolding current_fine
-  of_kind k r e f = f ∙ ap (λ (x : Option Kind). gives x a.kind) (sym e ∙ given) ∙ ap current_fine (sym is)
-
-  pub of_none : known ≡ None → false ≡ current_fine current
-  unfolding current_fine
-  of_none e = ap (λ (x : Option Kind). gives x a.kind) (sym e ∙ given) ∙ ap current_fine (sym is)
+use Rattle.guard_kinds.specs.Kinds.{Code, code_of, same_code, same_kind, gives, current_fine}
 
 -- ---- the numbers of a kind name it
 kind_from : Code → Kind
@@ -70,3 +58,51 @@ same_as_itself k = agrees (code_of k)
 pub active_fine : (a : the.Active) → kind_of a.command ≡ Some a.kind → current_fine (Active a) ≡ true
 unfolding current_fine
 active_fine a e = ap (λ (x : Option Kind). gives x a.kind) e ∙ same_as_itself a.kind
+
+-- ---- what `==` says of two kinds
+twice : (t : Bool) → t ≡ (t && t)
+twice true = refl
+twice false = refl
+
+pub compared : (a b : Kind) → eq-value.it a b ≡ same_kind a b
+unfolding same_kind
+compared (Write (Exactly n)) (Write (Exactly k)) = twice (eqb n k)
+compared (Write (Exactly n)) (Write (Between k l)) = refl
+compared (Write (Exactly n)) (Write Stream) = refl
+compared (Write (Exactly n)) Read = refl
+compared (Write (Exactly n)) Unsupported = refl
+compared (Write (Exactly n)) Reserved = refl
+compared (Write (Between n m)) (Write (Exactly k)) = refl
+compared (Write (Between n m)) (Write (Between k l)) = refl
+compared (Write (Between n m)) (Write Stream) = refl
+compared (Write (Between n m)) Read = refl
+compared (Write (Between n m)) Unsupported = refl
+compared (Write (Between n m)) Reserved = refl
+compared (Write Stream) (Write (Exactly k)) = refl
+compared (Write Stream) (Write (Between k l)) = refl
+compared (Write Stream) (Write Stream) = refl
+compared (Write Stream) Read = refl
+compared (Write Stream) Unsupported = refl
+compared (Write Stream) Reserved = refl
+compared Read (Write (Exactly k)) = refl
+compared Read (Write (Between k l)) = refl
+compared Read (Write Stream) = refl
+compared Read Read = refl
+compared Read Unsupported = refl
+compared Read Reserved = refl
+compared Unsupported (Write (Exactly k)) = refl
+compared Unsupported (Write (Between k l)) = refl
+compared Unsupported (Write Stream) = refl
+compared Unsupported Read = refl
+compared Unsupported Unsupported = refl
+compared Unsupported Reserved = refl
+compared Reserved (Write (Exactly k)) = refl
+compared Reserved (Write (Between k l)) = refl
+compared Reserved (Write Stream) = refl
+compared Reserved Read = refl
+compared Reserved Unsupported = refl
+compared Reserved Reserved = refl
+
+pub given_compared : (o : Option Kind) (k : Kind) → option_eq eq-value.it o (Some k) ≡ gives o k
+given_compared None k = refl
+given_compared (Some given) k = compared given k

@@ -1,14 +1,19 @@
 -- When an active command has the kind that `kind` gives it (13; SCOPE, Refusals).
-use Rattle.std.specs.Prelude.{Bool, true, false, ◌&&◌, eqb, Option, Some, None}
+use Rattle.std.specs.Prelude.{ℕ, Bool, true, false, ◌&&◌, eqb, Option, Some, None}
 use Rattle.device.specs.declared.Kind.{Kind}
 use Rattle.device.specs.declared.Kind.TheVariants.{Write, Read, Unsupported, Reserved}
 use Rattle.device.specs.declared.Params.TheVariants.{Exactly, Between, Stream}
 use Rattle.device.specs.declared.Current.{Current}
 use Rattle.device.specs.declared.Current.TheVariants.{Idle, Ignoring, Active}
 use Rattle.command.specs.Table.{kind_of}
-use Rattle.guard_kinds.specs.declared.Code.{Code}
 
 -- a kind in numbers: its form, and the fewest and most parameter bytes
+pub record Code : Type 0 where
+  pub form : ℕ
+  pub least : ℕ
+  pub most : ℕ
+
+-- the numbers of a kind
 abbrev pub code_of : Kind → Code
 code_of (Write (Exactly n)) = record { form = 0; least = n; most = n }
 code_of (Write (Between n m)) = record { form = 1; least = n; most = m }

@@ -2,18 +2,14 @@
 #![tactic(auto)]
 
 ghost use Rattle.std.specs.Prelude.{◌≡◌};
-ghost use Rattle.guard_lengths.specs.Lengths.{fits, lengths_fit, counts_fit, lengths_of, glass_lent, glass_log_lent, planes_log_lent, all_lent};
+ghost use Rattle.guard_lengths.specs.Lengths.{fits, lengths_fit, counts_fit, glass_lent, glass_log_lent, planes_log_lent, all_lent};
 
 use config::PanelGeometry;
+use counts::GREYS;
+use diagnostic::LOG_BYTES;
 use ram::PLANE_BYTES;
 
-// 1,024 records of 16 bytes.
-const LOG_BYTES: usize = 16_384;
-
-// A count for each grey.
-const GREYS: usize = 256;
-
-// Every call is lent the buffers of the glass.
+// Every call is lent the buffers of the glass; each of the four below adds to the one before it.
 #[derive(Clone, Copy)]
 pub struct Lengths {
     pub states: usize,
@@ -26,36 +22,20 @@ pub struct Lengths {
     pub gates: Option<usize>,
 }
 
-fn lengths_of(
-    states: usize,
-    luts: usize,
-    pixels: usize,
-    counts: usize,
-    log: Option<usize>,
-    black_white: Option<usize>,
-    red: Option<usize>,
-    gates: Option<usize>,
-) -> Lengths
-    ensures { result ≡ lengths_of states luts pixels counts log black_white red gates }
+// Lent to `advance`.
+pub fn glass_lent(states: usize, luts: usize, pixels: usize, counts: usize) -> Lengths
+    ensures { result ≡ glass_lent states luts pixels counts }
 {
     Lengths {
         states,
         luts,
         pixels,
         counts,
-        log,
-        black_white,
-        red,
-        gates,
+        log: None,
+        black_white: None,
+        red: None,
+        gates: None,
     }
-}
-
-// Lent to `advance`.
-pub fn glass_lent(states: usize, luts: usize, pixels: usize, counts: usize) -> Lengths
-    ensures { result ≡ glass_lent states luts pixels counts }
-{
-    let none = None;
-    lengths_of(states, luts, pixels, counts, none, none, none, none)
 }
 
 // Lent to `set_reset`.
@@ -68,9 +48,10 @@ pub fn glass_log_lent(
 ) -> Lengths
     ensures { result ≡ glass_log_lent states luts pixels counts log }
 {
-    let none = None;
-    let log = Some(log);
-    lengths_of(states, luts, pixels, counts, log, none, none, none)
+    Lengths {
+        log: Some(log),
+        ..glass_lent(states, luts, pixels, counts)
+    }
 }
 
 // Lent to `write_data` and `read_data`.
@@ -85,11 +66,11 @@ pub fn planes_log_lent(
 ) -> Lengths
     ensures { result ≡ planes_log_lent states luts pixels counts log black_white red }
 {
-    let none = None;
-    let log = Some(log);
-    let black_white = Some(black_white);
-    let red = Some(red);
-    lengths_of(states, luts, pixels, counts, log, black_white, red, none)
+    Lengths {
+        black_white: Some(black_white),
+        red: Some(red),
+        ..glass_log_lent(states, luts, pixels, counts, log)
+    }
 }
 
 // Lent to `new` and `write_command`.
@@ -105,11 +86,10 @@ pub fn all_lent(
 ) -> Lengths
     ensures { result ≡ all_lent states luts pixels counts log black_white red gates }
 {
-    let log = Some(log);
-    let black_white = Some(black_white);
-    let red = Some(red);
-    let gates = Some(gates);
-    lengths_of(states, luts, pixels, counts, log, black_white, red, gates)
+    Lengths {
+        gates: Some(gates),
+        ..planes_log_lent(states, luts, pixels, counts, log, black_white, red)
+    }
 }
 
 fn fits(lent: Option<usize>, right: usize) -> bool

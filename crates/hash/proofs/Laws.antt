@@ -1,15 +1,12 @@
 -- The hash of a list that grows, and its bound. Assumes nothing.
-use mathlib.Core.Path.{◌≡◌, refl, sym, ap, subst, ◌∙◌}
-use mathlib.Core.Bool.{true, false}
+use mathlib.Core.Path.{◌≡◌, refl, sym, ap, ◌∙◌}
 use mathlib.Core.List.{List, [], ◌∷◌, ◌++◌}
-use Prim.Native.Nat.{ℕ, ◌+◌, ◌-◌, ◌/◌, ◌%◌, ◌^◌, ◌<◌, ◌≤◌}
+use Prim.Native.Nat.{ℕ, ◌+◌, ◌-◌, ◌/◌, ◌%◌, ◌^◌, ◌<◌}
 use native.Mathlib.Numerals.{add-one}
 use native.Mathlib.Omega.{arith}
-use lib.IntN.{ℤ, pos, negsuc, nat_abs}
-use lib.Signed.{lt_z}
+use lib.IntN.{ℤ}
 use lib.ListN.{length, take, get_or}
 use lib.Seq.{take-suc, take-length}
-use Rattle.numbers.proofs.Lin.{whole, lt_true}
 use Rattle.hash.specs.Hash.{step_of, hash_from, word_bytes, pattern_of, four_of, count_bytes, state_bytes}
 
 pub hash_more : (h : ℕ) (s t : List ℕ) → hash_from h (s ++ t) ≡ hash_from (hash_from h s) t
@@ -21,11 +18,6 @@ pub step_below : (h b : ℕ) → step_of h b < 4294967291
 unfolding step_of
 step_below h b = omega arith
 
-pub hash_below : (h : ℕ) (s : List ℕ) → h < 4294967291 → hash_from h s < 4294967291
-unfolding hash_from
-hash_below h [] k = k
-hash_below h (b ∷ s) k = hash_below (step_of h b) s (step_below h b)
-
 -- ---- a list of things whose bytes stand one after the other
 module _ {A : Type 0} (f : List A → List ℕ) (more : (s : List A) (x : A) → f (s ++ (x ∷ [])) ≡ f s ++ f (x ∷ [])) (l : List A) (i : ℕ) where
   pub turn : (d : A) {h r : ℕ} → i < length l → h ≡ hash_from 0 (f (take i l)) → r ≡ hash_from h (f (get_or l i d ∷ [])) → r ≡ hash_from 0 (f (take (i + 1) l))
@@ -36,9 +28,6 @@ module _ {A : Type 0} (f : List A → List ℕ) (more : (s : List A) (x : A) →
 
   pub all : {h : ℕ} → i ≡ length l → h ≡ hash_from 0 (f (take i l)) → h ≡ hash_from 0 (f l)
   all k e = e ∙ ap (λ (n : ℕ). hash_from 0 (f (take n l))) k ∙ ap (λ (t : List A). hash_from 0 (f t)) (take-length l)
-
-  pub below : {h : ℕ} → h ≡ hash_from 0 (f (take i l)) → h < 4294967291
-  below e = subst (λ (n : ℕ). n < 4294967291) (sym e) (hash_below 0 (f (take i l)) (omega arith))
 
 pub bytes_more : (s : List ℕ) (b : ℕ) → s ++ (b ∷ []) ≡ s ++ (b ∷ [])
 bytes_more s b = refl
@@ -57,16 +46,3 @@ pub states_more : (s : List ℤ) (z : ℤ) → state_bytes (s ++ (z ∷ [])) ≡
 unfolding state_bytes
 states_more [] z = refl
 states_more (y ∷ s) z = ap (λ (t : List ℕ). four_of (pattern_of y) ++ four_of (pattern_of y / 2 ^ 32) ++ t) (states_more s z)
-
--- ---- two's complement
-pub above : (z : ℤ) {s : ℕ} → s ≡ nat_abs z → lt_z z (pos 0) ≡ true → 1 ≤ s
-above (pos n) e f = absurd (omega (whole, lt_true (pos n) (pos 0) f))
-above (negsuc n) e f = omega arith
-
-pub negative : (z : ℤ) {s : ℕ} → s ≡ nat_abs z → lt_z z (pos 0) ≡ true → 18446744073709551615 - (s - 1) ≡ pattern_of z
-negative (pos n) e f = absurd (omega (whole, lt_true (pos n) (pos 0) f))
-negative (negsuc n) e f = omega arith
-
-pub positive : (z : ℤ) {s : ℕ} → s ≡ nat_abs z → lt_z z (pos 0) ≡ false → s ≡ pattern_of z
-positive (pos n) e f = e
-positive (negsuc n) e f = absurd (let z : ◌≡◌ {A = ℕ} 0 1 = cc in omega arith)

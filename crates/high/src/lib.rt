@@ -9,7 +9,7 @@ ghost use Rattle.world.specs.World.{with_planes};
 ghost use Rattle.high.specs.Data.{data_written};
 
 use device::{Ssd1677, part};
-use guard::Refused;
+use guard::{Refusal, Refused};
 
 // A byte with D/C# high, written by the MCU. A byte of RAM data, of which a frame has 48,000, is done here at once.
 pub fn write_data(
@@ -38,13 +38,25 @@ pub fn write_data(
     if let Err(refusal) = guard::check(state, lengths) {
         return Err(Refused { refusal, state });
     }
+    // The guard has seen both lengths.
+    let Some(counts) = counts.as_mut_array() else {
+        return Err(Refused {
+            refusal: Refusal::Counts,
+            state,
+        });
+    };
+    let Some(log) = log.as_mut_array() else {
+        return Err(Refused {
+            refusal: Refusal::Buffer,
+            state,
+        });
+    };
     let moved = clock::move_clock(state, time);
     if clock::is_quiet(moved) {
-        let step = data::stream(moved, black_white, red, byte);
-        if step.done {
-            return Ok(part::set_pointed(moved, step.counter, step.bus));
-        }
-        return Ok(data::write_other(moved, black_white, red, log, byte));
+        return match data::stream(moved, black_white, red, byte) {
+            Some(step) => Ok(part::set_pointed(moved, step.counter, step.bus)),
+            None => Ok(data::write_other(moved, black_white, red, log, byte)),
+        };
     }
     let present = clock::advance(state, states, luts, pixels, counts, time);
     Ok(data::write(present, black_white, red, log, byte))

@@ -1,16 +1,17 @@
 -- All else leaves the picture alone (#108): a call that ends no refresh and cuts none leaves every pixel and every grey count as it was,
 -- whatever they were. A refresh that a fall of RES# drops is neither ended nor cut. Assumes nothing.
-use Rattle.std.specs.Prelude.{None}
+use Rattle.std.specs.Prelude.{Option, Some, None}
 use Prim.Native.Nat.{ℕ, ◌-◌, max}
 use mathlib.Core.Path.{◌≡◌, refl, sym, ap, subst, ◌∙◌}
 use mathlib.Core.Bool.{Bool, true, false, ◌&&◌, not}
 use mathlib.Core.List.{List, [], ◌∷◌, ◌++◌}
 use native.Mathlib.Omega.{arith}
-use lib.Dec.{eqb}
+use lib.Dec.{eqb, leb}
 use lib.ListN.{length}
 use borrow.Author.Tests.{eqb-true}
 use Rattle.numbers.specs.Choice.{pick}
 use Rattle.numbers.specs.Rows.{lookup}
+use Rattle.panel.specs.declared.Display.{Display}
 use Rattle.panel.specs.Finish.{finished}
 use Rattle.diagnostic.specs.declared.DiagnosticKind.TheVariants.{ResetDuringDisplay, WhileBusy, WhileAsleep, WhileInReset}
 use Rattle.device.specs.declared.Kind.TheVariants.{Write}
@@ -20,10 +21,10 @@ use Rattle.device.specs.declared.Power.TheVariants.{Running, Asleep, InReset}
 use Rattle.world.specs.World.{World, WithGlass, with_glass, WithGlassLog, WithBuffers, Lent, lent_of, on, device_in_glass_log, log_in_glass_log, glass_in_glass_log, device_in_buffers, log_in_buffers, glass_in_world, glass_log_in_world, buffers_in_world}
 use Rattle.command.specs.Table.{rows, kind_of}
 use Rattle.busy.specs.Busy.{pending}
-use Rattle.clock.specs.Advance.{is_over, clocked, quieted, glass_published, ending_of, glass_of, ended, advanced}
+use Rattle.clock.specs.Advance.{clocked, quieted, glass_published, ending_of, glass_of, ended_by, ended, advanced}
 use Rattle.chip.specs.Close.{closed}
 use Rattle.chip.specs.Report.{logged}
-use Rattle.reset.specs.Reset.{restored, is_driving, display_cut, display_dropped, cut, in_reset, asserted, released, by_line}
+use Rattle.reset.specs.Reset.{restored, display_cut, display_dropped, cut_by, cut, in_reset, asserted, released, by_line}
 use Rattle.activation.specs.Activation.{with_luts, staged_in, activated}
 use Rattle.begin.specs.Begin as begin
 use Rattle.res.specs.Line.{line_taken}
@@ -36,8 +37,8 @@ use Rattle.history.proofs.Blind.{Seen}
 use Rattle.history.proofs.Steps.{quiet_closed}
 use Rattle.history.proofs.Begun.{told, still_told, quiet_log, still_begun}
 use Rattle.history.proofs.Core.{core_taken}
-use Rattle.history.proofs.Shows.{refresh, ends_in}
-use Rattle.history.proofs.Line.{cut_in, power_moved}
+use Rattle.history.proofs.Shows.{refresh, ends_by, ends_in}
+use Rattle.history.proofs.Line.{cuts_by, cut_in, power_moved}
 use Rattle.history.proofs.Moved.{cut_at, cut_moved, pending_moved}
 use Rattle.history.proofs.Once.{once_in, staged_once, at_once, at_once_is, reaches}
 use Rattle.history.proofs.Taken.{reaches_is, worked_by}
@@ -58,33 +59,42 @@ then_none (u ∷ us) vs e = absurd (some_none u (us ++ vs) e)
 -- ---- the clock's move
 advance_leaves : (luts : List ℕ) (time : ℕ) (g : WithGlass) → ends_in luts time g.device ≡ [] → (advanced luts time g).picture ≡ g.picture
 unfolding advanced ended
-advance_leaves luts time g = by (is_over (clocked time g).device)
+advance_leaves luts time g = by g.device.display
   where
     x : WithGlass
     x = clocked time g
 
-    by : (b : Bool) → pick b (refresh luts g.device.display all ∷ []) [] ≡ []
-        → (quieted (pick b (glass_published x (finished (ending_of x.device x.device.display.ends None) luts (glass_of x))) x)).picture ≡ g.picture
-    by true e = absurd (some_none (refresh luts g.device.display all) [] e)
-    by false e = refl
+    at : (display : Display) (b : Bool) → pick b (refresh luts display all ∷ []) [] ≡ []
+        → (quieted (pick b (glass_published x (finished (ending_of x.device display display.ends None) luts (glass_of x))) x)).picture ≡ g.picture
+    at display true e = absurd (some_none (refresh luts display all) [] e)
+    at display false e = refl
+
+    by : (o : Option Display) → ends_by luts (max g.device.now time) o ≡ [] → (quieted (ended_by luts x o)).picture ≡ g.picture
+    by None e = refl
+    by (Some display) e = at display (leb display.ends (max g.device.now time)) e
 
 -- ---- the reset line
 asserted_leaves : (luts : List ℕ) (w : WithGlassLog) → cut_in luts w.device ≡ [] → (asserted luts w).picture ≡ w.picture
 unfolding asserted in_reset restored cut display_cut closed logged
-asserted_leaves luts w = by (is_driving w.device)
+asserted_leaves luts w = by w.device.display
   where
-    v : WithGlassLog
-    v = on log_in_glass_log (logged ResetDuringDisplay) (on log_in_glass_log closed w)
+    c : WithGlassLog
+    c = on log_in_glass_log closed w
 
-    fallen : Bool → WithGlassLog
-    fallen b = on device_in_glass_log in_reset (on device_in_glass_log restored (pick b (on glass_in_glass_log (display_cut luts) v) (on device_in_glass_log display_dropped (on log_in_glass_log closed w))))
+    fallen : WithGlassLog → WithGlassLog
+    fallen x = on device_in_glass_log in_reset (on device_in_glass_log restored x)
 
-    u : Worked
-    u = refresh luts w.device.display (up_to (lasted w.device.config.frequency (w.device.now - w.device.display.started)))
+    u : Display → Worked
+    u display = refresh luts display (up_to (lasted w.device.config.frequency (w.device.now - display.started)))
 
-    by : (b : Bool) → pick b (u ∷ []) [] ≡ [] → (fallen b).picture ≡ w.picture
-    by true e = absurd (some_none u [] e)
-    by false e = refl
+    at : (display : Display) (b : Bool) → pick b (u display ∷ []) [] ≡ []
+        → (fallen (pick b (on glass_in_glass_log (display_cut luts display) (on log_in_glass_log (logged ResetDuringDisplay) c)) (on device_in_glass_log display_dropped c))).picture ≡ w.picture
+    at display true e = absurd (some_none (u display) [] e)
+    at display false e = refl
+
+    by : (o : Option Display) → cuts_by luts w.device.config.frequency w.device.now o ≡ [] → (fallen (cut_by luts c o)).picture ≡ w.picture
+    by None e = refl
+    by (Some display) e = at display (leb display.started w.device.now) e
 
 line_leaves : (luts : List ℕ) (low : Bool) (w : WithGlassLog) (power : Power) → pick (falls low power) (cut_in luts w.device) [] ≡ []
     → (by_line luts low w power).picture ≡ w.picture

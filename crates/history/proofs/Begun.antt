@@ -1,11 +1,11 @@
 -- The clock's move and a command's start: what the core keeps of them does not look at the glass, the journal or the log, and a command
 -- other than 0x20 leaves the glass. Assumes nothing.
 use Rattle.std.specs.Prelude.{Option, Some, None}
-use Prim.Native.Nat.{ℕ}
+use Prim.Native.Nat.{ℕ, max}
 use mathlib.Core.Path.{◌≡◌, refl, sym, ap, ◌∙◌}
 use mathlib.Core.Bool.{Bool, true, false, ◌||◌}
 use mathlib.Core.List.{List, []}
-use lib.Dec.{eqb}
+use lib.Dec.{eqb, leb}
 use Rattle.numbers.specs.Choice.{pick}
 use Rattle.diagnostic.specs.declared.DiagnosticKind.{DiagnosticKind}
 use Rattle.diagnostic.specs.declared.DiagnosticKind.TheVariants.{UnknownCommand, ReservedCommand, UnsupportedCommand, WhileBusy, WhileAsleep, WhileInReset}
@@ -15,7 +15,8 @@ use Rattle.device.specs.declared.Power.{Power}
 use Rattle.device.specs.declared.Power.TheVariants.{Running, Asleep, InReset}
 use Rattle.world.specs.World.{WithLog, with_log, WithGlass, with_glass, WithBuffers, with_buffers, Lent, on, device_in_buffers, log_in_buffers}
 use Rattle.command.specs.Table.{kind_of}
-use Rattle.clock.specs.Advance.{is_over, clocked, quieted, glass_published, ending_of, glass_of, ended, advanced}
+use Rattle.clock.specs.Advance.{clocked, quieted, glass_published, ending_of, glass_of, ended_by, ended, advanced}
+use Rattle.panel.specs.declared.Display.{Display}
 use Rattle.panel.specs.Finish.{finished}
 use Rattle.chip.specs.Report.{logged}
 use Rattle.reset.specs.Reset.{restored}
@@ -31,16 +32,23 @@ use Rattle.history.proofs.Display.{staged_plain}
 -- ---- the clock's move
 pub blind_advanced : (luts : List ℕ) (time : ℕ) → Blind plain_glass plain_glass (advanced luts time)
 unfolding advanced ended
-blind_advanced luts time g = by (is_over (clocked time g).device)
+blind_advanced luts time g = by g.device.display
   where
-    over : WithGlass → WithGlass
-    over x = glass_published x (finished (ending_of x.device x.device.display.ends None) luts (glass_of x))
+    left : Option Display → WithGlass → WithGlass
+    left o x = plain_glass (quieted (ended_by luts (clocked time x) o))
 
-    by : (b : Bool)
-        → plain_glass (quieted (pick b (over (clocked time g)) (clocked time g)))
-        ≡ plain_glass (quieted (pick b (over (clocked time (plain_glass g))) (clocked time (plain_glass g))))
-    by true = refl
-    by false = refl
+    over : Display → WithGlass → WithGlass
+    over display x = glass_published x (finished (ending_of x.device display display.ends None) luts (glass_of x))
+
+    at : (display : Display) (b : Bool)
+        → plain_glass (quieted (pick b (over display (clocked time g)) (clocked time g)))
+        ≡ plain_glass (quieted (pick b (over display (clocked time (plain_glass g))) (clocked time (plain_glass g))))
+    at display true = refl
+    at display false = refl
+
+    by : (o : Option Display) → left o g ≡ left o (plain_glass g)
+    by None = refl
+    by (Some display) = at display (leb display.ends (max g.device.now time))
 
 -- ---- 0x20
 joined_plain : (w : WithBuffers) (s : WithLuts) → plain_buffers (both_left s (arrived w s)) ≡ plain_buffers (both_left (plain_luts s) (arrived (plain_buffers w) (plain_luts s)))

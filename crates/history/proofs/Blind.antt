@@ -1,5 +1,6 @@
 -- What a step of the chip does to the core does not look at the glass, the journal or the log, and most steps leave the glass: the two laws,
 -- and how they go through a sequence, a choice and a larger bundle. Assumes nothing.
+use Rattle.std.specs.Prelude.{Option}
 use mathlib.Core.Path.{◌≡◌, sym, ap, subst, ◌∙◌}
 use mathlib.Core.Bool.{Bool, true, false}
 use mathlib.Core.List.{List, []}
@@ -57,7 +58,7 @@ plain_planes w = with_planes (plain w.device) [] unseen w.black_white w.red []
 pub record Seen : Type 0 where
   pub config : Ssd1677Config
   pub panel : Panel
-  pub display : Display
+  pub display : Option Display
   pub states : List ℤ
   pub picture : Picture
 

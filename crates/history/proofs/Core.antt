@@ -1,10 +1,13 @@
 -- An accepted call steps the core as its definition says, whatever the glass, the journal and the log hold (SCOPE, History: the
 -- reckoning is fed none of them). Assumes nothing.
+use Rattle.std.specs.Prelude.{Option, Some, None}
 use Prim.Native.Nat.{ℕ}
 use mathlib.Core.Path.{◌≡◌, refl, sym, ap, ◌∙◌}
 use mathlib.Core.Bool.{Bool, true, false}
 use mathlib.Core.List.{List, []}
+use lib.Dec.{leb}
 use Rattle.numbers.specs.Choice.{pick}
+use Rattle.panel.specs.declared.Display.{Display}
 use Rattle.diagnostic.specs.declared.DiagnosticKind.TheVariants.{ResetDuringDisplay}
 use Rattle.device.specs.declared.Power.{Power}
 use Rattle.device.specs.declared.Power.TheVariants.{Running, Asleep, InReset}
@@ -12,7 +15,7 @@ use Rattle.world.specs.World.{World, WithLog, with_log, WithGlass, with_glass, W
 use Rattle.clock.specs.Advance.{advanced}
 use Rattle.chip.specs.Close.{closed}
 use Rattle.chip.specs.Report.{logged}
-use Rattle.reset.specs.Reset.{restored, is_driving, display_cut, display_dropped, cut, in_reset, asserted, released, by_line}
+use Rattle.reset.specs.Reset.{restored, display_cut, display_dropped, cut_by, cut, in_reset, asserted, released, by_line}
 use Rattle.data.specs.Data.{data_taken}
 use Rattle.begin.specs.Begin as begin
 use Rattle.res.specs.Line.{line_taken}
@@ -31,16 +34,24 @@ use Rattle.history.proofs.Begun.{blind_advanced, quiet_log, blind_begun}
 -- ---- the reset line
 blind_asserted : (luts : List ℕ) → Blind plain_glass_log plain_glass_log (asserted luts)
 unfolding asserted in_reset restored cut display_cut closed logged
-blind_asserted luts w = by (is_driving w.device)
+blind_asserted luts w = by w.device.display
   where
-    fallen : Bool → WithGlassLog → WithGlassLog
-    fallen b x =
-        on device_in_glass_log in_reset
-        (on device_in_glass_log restored (pick b (on glass_in_glass_log (display_cut luts) (on log_in_glass_log (logged ResetDuringDisplay) (on log_in_glass_log closed x))) (on device_in_glass_log display_dropped (on log_in_glass_log closed x))))
+    fallen : WithGlassLog → WithGlassLog
+    fallen x = plain_glass_log (on device_in_glass_log in_reset (on device_in_glass_log restored x))
 
-    by : (b : Bool) → plain_glass_log (fallen b w) ≡ plain_glass_log (fallen b (plain_glass_log w))
-    by true = refl
-    by false = refl
+    cuts : Display → Bool → WithGlassLog → WithGlassLog
+    cuts display b x =
+        let c = on log_in_glass_log closed x in
+        pick b (on glass_in_glass_log (display_cut luts display) (on log_in_glass_log (logged ResetDuringDisplay) c)) (on device_in_glass_log display_dropped c)
+
+    at : (display : Display) (b : Bool) → fallen (cuts display b w) ≡ fallen (cuts display b (plain_glass_log w))
+    at display true = refl
+    at display false = refl
+
+    by : (o : Option Display)
+        → fallen (cut_by luts (on log_in_glass_log closed w) o) ≡ fallen (cut_by luts (on log_in_glass_log closed (plain_glass_log w)) o)
+    by None = refl
+    by (Some display) = at display (leb display.started w.device.now)
 
 blind_line : (luts : List ℕ) (low : Bool) (power : Power) → Blind plain_glass_log plain_glass_log (λ (w : WithGlassLog). by_line luts low w power)
 unfolding by_line released

@@ -1,4 +1,5 @@
 -- The display of 0x20 and all its stages: what the core keeps of them does not look at the glass, the journal or the log. Assumes nothing.
+use Rattle.std.specs.Prelude.{Some}
 use Prim.Native.Nat.{ℕ}
 use mathlib.Core.Path.{◌≡◌, refl, sym, ap, ◌∙◌}
 use mathlib.Core.Bool.{Bool, true, false, ◌&&◌}
@@ -37,7 +38,7 @@ module _ (black_white red gates : List ℕ) (d : Ssd1677) (luts : List ℕ) wher
   abbrev from : Bool → Step → Step → Displayed
   from two s a =
       let ns = duration_of (waveform_of s.run.lut d.config.timing.frame_period) in
-      displayed (waited ns a.run) (display_of s.run.lut d.regs.border d.config.frequency d.now s.run.ns ns two)
+      displayed (waited ns a.run) (Some (display_of s.run.lut d.regs.border d.config.frequency d.now s.run.ns ns two))
       (tab (length luts) (lut_of gates red black_white d.config.panel (scan_of d.regs))) a.log
 
   pub blind_begun : (two : Bool) → Blind plain_step plain_displayed (λ (s : Step). displayBegun black_white red gates d two s luts)

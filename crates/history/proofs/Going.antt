@@ -1,5 +1,6 @@
 -- The refresh that the reckoning follows is the one of the device, after every call, and what a call works in by the one is what it works in
 -- by the other. Assumes nothing.
+use Rattle.std.specs.Prelude.{Option}
 use Prim.Native.Nat.{ℕ, max}
 use mathlib.Core.Path.{◌≡◌, refl, sym, ap, subst, ◌∙◌}
 use mathlib.Core.Bool.{Bool, true, false}
@@ -95,7 +96,7 @@ module _ (otp : List ℕ) (w : World) where
         ∙ ap (onward (activates t 0x20 (core_of w)) t (begins otp c)) moves
         ∙ onward_once (activates t 0x20 (core_of w)) (begins otp c) (shows_in w))
     commands command false e =
-        ap (λ (d : Display). shown_by d (taken otp w (write_command time command)).luts)
+        ap (λ (d : Option Display). shown_by d (taken otp w (write_command time command)).luts)
         (ap (λ (s : Seen). s.display) (still_begun (lent_of otp w) command e a.device.bus.power a))
         ∙ ap (shown_by g.device.display) (luts_begun (lent_of otp w) command e a a.device.bus.power)
         ∙ moves

@@ -7,65 +7,69 @@ use mathlib.Core.List.{List, [], ◌∷◌}
 use lib.Dec.{leb, ltb}
 use borrow.Author.Tests.{leb-true, leb-false, lt-ltb, le-ltb}
 use Rattle.numbers.specs.Choice.{pick}
-use Rattle.numbers.proofs.Cases.{right}
+use Rattle.panel.specs.declared.Display.{Display}
 use Rattle.panel.specs.Finish.{finished}
 use Rattle.device.specs.declared.Bus.{Bus}
 use Rattle.device.specs.declared.Ssd1677.{Ssd1677}
 use Rattle.world.specs.World.{WithGlass}
 use Rattle.busy.specs.Busy.{pending}
 use Rattle.moment.specs.Moments.{lowered}
-use Rattle.clock.specs.Advance.{is_over, clocked, quieted, glass_published, ending_of, ended, advanced}
-use Rattle.clock.specs.Advance as chip
+use Rattle.clock.specs.Advance.{clocked, quieted, glass_published, ending_of, glass_of, ended_by, ended, advanced}
 use Rattle.history.specs.Reckon.{up_to, lasted, Worked}
 use Rattle.history.proofs.Shows.{refresh}
-use Rattle.history.proofs.Line.{cut_in, bus_moved, now_moved}
+use Rattle.history.proofs.Line.{cuts_by, cut_in, bus_moved, now_moved}
 
 -- ---- what a cut is, before and after the clock's move
-and_none : (a b : Bool) → a && (b && false) ≡ false
-and_none true true = refl
-and_none true false = refl
-and_none false b = refl
+and_none : (a : Bool) → a && false ≡ false
+and_none true = refl
+and_none false = refl
 
-and_all : (r s e l : Bool) → r && e ≡ false → (e ≡ false → l ≡ true) → r && s ≡ r && (s && l)
-and_all false s e l o f = refl
-and_all true false e l o f = refl
-and_all true true e l o f = sym (f o)
+and_all : (a : Bool) → a && true ≡ a
+and_all true = refl
+and_all false = refl
 
--- what the reckoning says that a reset at a moment cuts
+-- what the reckoning says that a reset at a moment cuts of a display
+abbrev pub cuts_at : List ℕ → ℕ → ℕ → Option Display → List Worked
+cuts_at luts frequency t None = []
+cuts_at luts frequency t (Some display) =
+    pick (leb display.started t && ltb t display.ends) (refresh luts display (up_to (lasted frequency (t - display.started))) ∷ []) []
+
+-- of the refresh under way
 abbrev pub cut_at : List ℕ → ℕ → Ssd1677 → List Worked
-cut_at luts t d =
-    pick (d.display.running && (leb d.display.started t && ltb t d.display.ends)) (refresh luts d.display (up_to (lasted d.config.frequency (t - d.display.started))) ∷ []) []
+cut_at luts t d = cuts_at luts d.config.frequency t d.display
 
 pub cut_moved : (luts : List ℕ) (time : ℕ) (g : WithGlass) → cut_in luts (advanced luts time g).device ≡ cut_at luts (max g.device.now time) g.device
 unfolding advanced ended
-cut_moved luts time g = by (is_over (clocked time g).device) refl
+cut_moved luts time g = by g.device.display refl
   where
     x : WithGlass
     x = clocked time g
 
-    d : Ssd1677
-    d = g.device
+    f : ℕ
+    f = g.device.config.frequency
 
     t : ℕ
     t = max g.device.now time
 
-    y : Bool → WithGlass
-    y b = quieted (pick b (glass_published x (finished (ending_of x.device x.device.display.ends None) luts (chip.glass_of x))) x)
+    cuts : Display → Bool → List Worked
+    cuts display b = pick b (refresh luts display (up_to (lasted f (t - display.started))) ∷ []) []
 
-    cuts : Bool → List Worked
-    cuts b = pick b (refresh luts d.display (up_to (lasted d.config.frequency (t - d.display.started))) ∷ []) []
-
-    by : (b : Bool) → is_over x.device ≡ b → cut_in luts (y b).device ≡ cut_at luts t d
-    by true o =
-        let late = leb-true d.display.ends t (right d.display.running (leb d.display.ends t) o) in
+    at : (display : Display) (b : Bool) → g.device.display ≡ Some display → leb display.ends t ≡ b
+        → cut_in luts (quieted (pick b (glass_published x (finished (ending_of x.device display display.ends None) luts (glass_of x))) x)).device
+        ≡ cuts_at luts f t (Some display)
+    at display true is e =
         sym
-        (ap cuts
-        (ap (λ (l : Bool). d.display.running && (leb d.display.started t && l)) (le-ltb t d.display.ends late)
-        ∙ and_none d.display.running (leb d.display.started t)))
-    by false o =
-        ap cuts
-        (and_all d.display.running (leb d.display.started t) (leb d.display.ends t) (ltb t d.display.ends) o
-        (λ early. lt-ltb t d.display.ends (leb-false d.display.ends t early)))
+        (ap (cuts display)
+        (ap (λ (early : Bool). leb display.started t && early) (le-ltb t display.ends (leb-true display.ends t e)) ∙ and_none (leb display.started t)))
+    at display false is e =
+        ap (cuts_by luts f t) is
+        ∙ sym
+        (ap (cuts display)
+        (ap (λ (early : Bool). leb display.started t && early) (lt-ltb t display.ends (leb-false display.ends t e)) ∙ and_all (leb display.started t)))
+
+    by : (o : Option Display) → g.device.display ≡ o → cut_in luts (quieted (ended_by luts x o)).device ≡ cuts_at luts f t o
+    by None is = ap (cuts_by luts f t) is
+    by (Some display) is = at display (leb display.ends t) is refl
 
 -- ---- BUSY, before and after the clock's move
 pending_lowered : (until : Option ℕ) (bus : Bus) (t : ℕ) → bus.busy_until ≡ until → pending (lowered until bus t).busy_until t ≡ pending until t

@@ -2,9 +2,8 @@
 use Prim.Native.Nat.{ℕ, ◌<◌, max}
 use mathlib.Core.Path.{◌≡◌, sym, ap, subst, ◌∙◌}
 use mathlib.Core.Bool.{Bool, true, false, ◌&&◌, not}
-use mathlib.Core.List.{List, [], ◌∷◌}
+use mathlib.Core.List.{List, []}
 use native.Mathlib.Omega.{arith}
-use lib.Dec.{leb}
 use Rattle.numbers.specs.Choice.{pick}
 use Rattle.numbers.specs.Rows.{lookup}
 use Rattle.waveform.specs.Setting.{waveform_of}
@@ -24,12 +23,12 @@ use Rattle.stages.specs.Run.{control_of, Step, noted}
 use Rattle.activation.specs.Display.{Displayed, display_of, displayBegun, displayShown, unchanged}
 use Rattle.activation.specs.Activation.{WithLuts, with_luts, run_settled, before, during, staged, staged_in, activated}
 use Rattle.begin.specs.Begin as begin
-use Rattle.history.specs.Reckon.{Core, core_of, device_of, bare, all, Worked, number_over}
+use Rattle.history.specs.Reckon.{Core, core_of, device_of, bare, Worked, number_over}
 use Rattle.history.proofs.Blind.{seen_buffers}
 use Rattle.history.proofs.Stages.{unbused}
 use Rattle.history.proofs.Display.{during_plain}
 use Rattle.history.proofs.Begun.{told, still_told}
-use Rattle.history.proofs.Shows.{Marks, Short, Shows, over, refresh, ends_in, advance_shows}
+use Rattle.history.proofs.Shows.{Marks, Short, Shows, over, ends_by, ends_in, advance_shows}
 
 -- ---- the stages and the end of the display
 -- a display that starts is short, by the span law of a cut; else it is the one before
@@ -59,7 +58,7 @@ staged_short k s ticks h =
 
 -- what ends at once, by what starts
 abbrev by_start : ℕ → Displayed → List Worked
-by_start now t = pick (t.display.running && leb t.display.ends now) (refresh t.luts t.display all ∷ []) []
+by_start now t = ends_by t.luts now t.display
 
 -- the same, of a device with nothing but what counts
 abbrev pub once_in : Lent → Ssd1677 → List ℕ → List Worked
@@ -78,7 +77,7 @@ staged_once k s =
 abbrev pub at_once : List ℕ → Core → List Worked
 at_once otp c =
     let s = staged (lent_of otp (bare c)) (with_luts (device_of c) c.luts []) in
-    pick (s.device.display.running && leb s.device.display.ends c.now) (refresh s.luts s.device.display all ∷ []) []
+    ends_by s.luts c.now s.device.display
 
 pub at_once_is : (otp : List ℕ) (w : World) → at_once otp (core_of w) ≡ once_in (lent_of otp w) w.device w.luts
 unfolding staged run_settled

@@ -1,17 +1,17 @@
 -- What the clock's move, the reset line and 0x20 make of the refresh that the display shows: none goes on past its end or a fall of RES#, and
 -- an end that was reached is not reached again. Assumes nothing.
 use Rattle.std.specs.Prelude.{Option, Some, None}
-use Prim.Native.Nat.{ℕ, max, ◌-◌}
+use Prim.Native.Nat.{ℕ, max}
 use mathlib.Core.Path.{◌≡◌, refl, ap, ◌∙◌}
 use mathlib.Core.Bool.{Bool, true, false, ◌&&◌, ◌||◌, not}
-use mathlib.Core.List.{List, [], ◌∷◌}
+use mathlib.Core.List.{List, []}
 use native.Mathlib.Omega.{arith}
-use lib.Dec.{eqb, leb, ltb}
+use lib.Dec.{eqb, leb}
 use Rattle.numbers.specs.Choice.{pick}
 use Rattle.numbers.specs.Rows.{lookup}
 use Rattle.panel.specs.declared.Display.{Display}
 use Rattle.panel.specs.Finish.{finished}
-use Rattle.diagnostic.specs.declared.DiagnosticKind.TheVariants.{ResetDuringDisplay, WhileBusy, WithoutClock, WithoutAnalog}
+use Rattle.diagnostic.specs.declared.DiagnosticKind.TheVariants.{WhileBusy, WithoutClock, WithoutAnalog}
 use Rattle.diagnostic.specs.declared.Stage.TheVariants as stage
 use Rattle.device.specs.declared.Kind.TheVariants.{Write, Read, Unsupported, Reserved}
 use Rattle.device.specs.declared.Params.TheVariants.{Exactly}
@@ -19,81 +19,59 @@ use Rattle.device.specs.declared.Power.{Power}
 use Rattle.device.specs.declared.Power.TheVariants.{Running, Asleep, InReset}
 use Rattle.device.specs.declared.Ssd1677.{Ssd1677}
 use Rattle.device.specs.Parts.{with_display}
-use Rattle.world.specs.World.{World, WithGlass, with_glass, WithGlassLog, WithBuffers, Lent, lent_of, on, device_in_glass_log, log_in_glass_log, glass_in_glass_log, device_in_buffers, log_in_buffers}
+use Rattle.world.specs.World.{World, WithGlass, with_glass, WithGlassLog, WithBuffers, Lent, lent_of, on, log_in_glass_log, device_in_buffers, log_in_buffers}
 use Rattle.command.specs.Table.{rows, kind_of}
 use Rattle.busy.specs.Busy.{pending}
-use Rattle.clock.specs.Advance.{stopped, is_over, clocked, quieted, glass_published, ending_of, glass_of, ended, advanced}
+use Rattle.clock.specs.Advance.{clocked, quieted, glass_published, ending_of, glass_of, ended_by, ended, advanced}
 use Rattle.chip.specs.Close.{closed}
 use Rattle.chip.specs.Report.{logged}
 use Rattle.reset.specs.Reset as reset
+use Rattle.reset.proofs.Kept.{cut_holds}
 use Rattle.start.specs.Start.{soft_reset, vcom_sensed, pointed}
 use Rattle.stages.specs.Run.{control_of, Step, noted}
 use Rattle.activation.specs.Display.{Displayed, display_of, displayBegun, displayShown, unchanged}
 use Rattle.activation.specs.Activation.{WithLuts, with_luts, run_settled, before, during, staged, staged_in, activated}
 use Rattle.begin.specs.Begin as begin
-use Rattle.power_on.specs.Start.{no_display}
-use Rattle.history.specs.Reckon.{Core, core_of, device_of, bare, Refresh, Refreshing, none, one, shown_by, falls, begins, unreached, instead, all, up_to, reached, lasted, cut_at}
+use Rattle.history.specs.Reckon.{Core, core_of, device_of, bare, Refreshing, none, one, shown_by, falls, begins, unreached, instead, reached, cut_at}
 use Rattle.history.proofs.Stages.{unbused}
 use Rattle.history.proofs.Display.{during_plain}
 use Rattle.history.proofs.Begun.{told}
-use Rattle.history.proofs.Shows.{refresh}
+use Rattle.history.proofs.Shows.{ends_by}
+use Rattle.history.proofs.Moved.{cuts_at}
 use Rattle.history.proofs.Once.{reaches}
 use Rattle.device.specs.declared.Kind.{Kind}
 
 -- ---- what the end and the cut make of the display's refresh
-module _ (luts : List ℕ) (t : ℕ) (d : Display) where
-  abbrev its : Refresh
-  its = record { started = d.started; ends = d.ends; setting = d.setting; luts = luts }
-
-  pub reached_is : reached t (shown_by d luts) ≡ pick (d.running && leb d.ends t) (refresh luts d all ∷ []) []
+module _ (luts : List ℕ) (t : ℕ) where
+  pub reached_is : (o : Option Display) → reached t (shown_by o luts) ≡ ends_by luts t o
   unfolding reached
-  reached_is = by d.running
-    where
-      by : (b : Bool) → reached t (pick b (one its) none) ≡ pick (b && leb d.ends t) (refresh luts d all ∷ []) []
-      by true = refl
-      by false = refl
+  reached_is None = refl
+  reached_is (Some display) = refl
 
-  pub cut_is : (frequency : ℕ) → cut_at frequency t (shown_by d luts)
-      ≡ pick (d.running && (leb d.started t && ltb t d.ends)) (refresh luts d (up_to (lasted frequency (t - d.started))) ∷ []) []
+  pub cut_is : (o : Option Display) (frequency : ℕ) → cut_at frequency t (shown_by o luts) ≡ cuts_at luts frequency t o
   unfolding cut_at
-  cut_is frequency = by d.running
-    where
-      by : (b : Bool) → cut_at frequency t (pick b (one its) none)
-          ≡ pick (b && (leb d.started t && ltb t d.ends)) (refresh luts d (up_to (lasted frequency (t - d.started))) ∷ []) []
-      by true = refl
-      by false = refl
-
-  -- the display, stopped once its end is reached
-  unreached_is : shown_by (pick (d.running && leb d.ends t) (stopped d) d) luts ≡ unreached t (shown_by d luts)
-  unfolding unreached
-  unreached_is = by d.running
-    where
-      put : Bool → Display
-      put b = record { running = b; started = d.started; ends = d.ends; kind = d.kind; setting = d.setting; border = d.border }
-
-      ends : (b : Bool) → shown_by (pick b (stopped (put true)) (put true)) luts ≡ pick b none (one its)
-      ends true = refl
-      ends false = refl
-
-      by : (b : Bool) → shown_by (pick (b && leb d.ends t) (stopped (put b)) (put b)) luts ≡ unreached t (pick b (one its) none)
-      by true = ends (leb d.ends t)
-      by false = refl
+  cut_is None frequency = refl
+  cut_is (Some display) frequency = refl
 
 -- the clock's move
 pub moved_is : (by luts : List ℕ) (time : ℕ) (g : WithGlass)
     → shown_by (advanced by time g).device.display luts ≡ unreached (max g.device.now time) (shown_by g.device.display luts)
-unfolding advanced ended
-moved_is by luts time g =
-    ap (λ (d : Display). shown_by d luts) (goes (is_over (clocked time g).device)) ∙ unreached_is luts (max g.device.now time) g.device.display
+unfolding advanced ended unreached
+moved_is by luts time g = goes g.device.display refl
   where
     x : WithGlass
     x = clocked time g
 
-    goes : (b : Bool)
-        → (quieted (pick b (glass_published x (finished (ending_of x.device x.device.display.ends None) by (glass_of x))) x)).device.display
-        ≡ pick b (stopped g.device.display) g.device.display
-    goes true = refl
-    goes false = refl
+    at : (display : Display) (b : Bool) → g.device.display ≡ Some display
+        → shown_by (quieted (pick b (glass_published x (finished (ending_of x.device display display.ends None) by (glass_of x))) x)).device.display luts
+        ≡ pick b none (shown_by (Some display) luts)
+    at display true is = refl
+    at display false is = ap (λ (o : Option Display). shown_by o luts) is
+
+    goes : (o : Option Display) → g.device.display ≡ o
+        → shown_by (quieted (ended_by by x o)).device.display luts ≡ unreached (max g.device.now time) (shown_by o luts)
+    goes None is = ap (λ (o : Option Display). shown_by o luts) is
+    goes (Some display) is = at display (leb display.ends (max g.device.now time)) is
 
 -- ---- an end that was reached is not reached again
 end_once : (t : ℕ) (o : Refreshing) → unreached t (unreached t o) ≡ unreached t o
@@ -125,21 +103,10 @@ instead_ends t (one r) o = refl
 
 -- ---- the reset line
 asserted_is : (luts : List ℕ) (w : WithGlassLog) → shown_by (reset.asserted luts w).device.display luts ≡ none
-unfolding reset.asserted reset.in_reset reset.restored reset.cut reset.display_cut closed logged
-asserted_is luts w = by (reset.is_driving w.device)
-  where
-    v : WithGlassLog
-    v = on log_in_glass_log closed w
-
-    by : (b : Bool)
-        → shown_by
-        (on device_in_glass_log reset.in_reset
-        (on device_in_glass_log reset.restored
-        (pick b (on glass_in_glass_log (reset.display_cut luts) (on log_in_glass_log (logged ResetDuringDisplay) v)) (on device_in_glass_log reset.display_dropped v)))).device.display
-        luts
-        ≡ none
-    by true = refl
-    by false = refl
+unfolding reset.asserted reset.in_reset reset.restored reset.display_cut
+asserted_is luts w =
+    cut_holds (λ (v : WithGlassLog). shown_by v.device.display luts ≡ none) luts (on log_in_glass_log closed w) (λ display is. refl) refl
+    (λ is. ap (λ (o : Option Display). shown_by o luts) is)
 
 pub line_is : (luts : List ℕ) (low : Bool) (w : WithGlassLog) (power : Power)
     → shown_by (reset.by_line luts low w power).device.display luts ≡ pick (falls low power) none (shown_by w.device.display luts)
@@ -156,8 +123,8 @@ line_is luts false w Asleep = refl
 shown_is : (black_white red gates : List ℕ) (d : Ssd1677) (wanted two : Bool) (s : Step) (luts : List ℕ)
     → shown_by (displayShown black_white red gates d wanted two s luts).display (displayShown black_white red gates d wanted two s luts).luts
     ≡ instead
-    (shown_by (displayShown black_white red gates (with_display d no_display) wanted two s luts).display
-    (displayShown black_white red gates (with_display d no_display) wanted two s luts).luts)
+    (shown_by (displayShown black_white red gates (with_display d None) wanted two s luts).display
+    (displayShown black_white red gates (with_display d None) wanted two s luts).luts)
     (shown_by d.display luts)
 unfolding displayShown displayBegun display_of
 shown_is black_white red gates d wanted two s luts = by (wanted && s.run.waveform_found) s.run.clock s.run.analog
@@ -171,7 +138,7 @@ shown_is black_white red gates d wanted two s luts = by (wanted && s.run.wavefor
         (unchanged x.display luts s)
 
     blank : Ssd1677
-    blank = with_display d no_display
+    blank = with_display d None
 
     by : (a b c : Bool)
         → shown_by (at d a b c).display (at d a b c).luts ≡ instead (shown_by (at blank a b c).display (at blank a b c).luts) (shown_by d.display luts)
@@ -185,7 +152,7 @@ abbrev starts_in : Lent → Ssd1677 → List ℕ → Displayed
 starts_in k d luts = during k (with_luts (unbused d) luts []) (control_of d.regs.update_control_2)
 
 abbrev pub begins_in : Lent → Ssd1677 → List ℕ → Refreshing
-begins_in k d luts = let t = starts_in k (with_display d no_display) luts in shown_by t.display t.luts
+begins_in k d luts = let t = starts_in k (with_display d None) luts in shown_by t.display t.luts
 
 abbrev showing : Displayed → Refreshing
 showing t = shown_by t.display t.luts
@@ -212,7 +179,7 @@ pub begins_core : (otp : List ℕ) (w : World) → begins otp (core_of w) ≡ be
 unfolding staged run_settled
 begins_core otp w =
     ap showing
-    (during_plain (lent_of otp w) (with_luts (with_display (device_of (core_of w)) no_display) w.luts []) (control_of w.device.regs.update_control_2))
+    (during_plain (lent_of otp w) (with_luts (with_display (device_of (core_of w)) None) w.luts []) (control_of w.device.regs.update_control_2))
 
 same_max : (n : ℕ) → max n n ≡ n
 same_max n = omega arith

@@ -3,7 +3,7 @@
 use Rattle.std.specs.Prelude.{Option, Some, None}
 use Prim.Native.Nat.{ℕ, ◌≤◌, ◌<◌, ◌+◌, ◌-◌, max, min}
 use mathlib.Core.Path.{◌≡◌, refl, ap, ◌∙◌}
-use mathlib.Core.Bool.{Bool, true, false, ◌&&◌}
+use mathlib.Core.Bool.{Bool, true, false}
 use mathlib.Core.List.{List, [], ◌∷◌, ◌++◌}
 use native.Mathlib.Omega.{arith}
 use lib.Dec.{leb, ltb}
@@ -24,7 +24,7 @@ use Rattle.panel_laws.proofs.Exactly.{by_lut, CutBelowLargest, exact_after, exac
 use Rattle.device.specs.declared.Ssd1677.{Ssd1677}
 use Rattle.world.specs.World.{WithGlass}
 use Rattle.guard_lengths.specs.Lengths.{pixels_of}
-use Rattle.clock.specs.Advance.{is_over, clocked, quieted, glass_published, ending_of, glass_of, ended, advanced}
+use Rattle.clock.specs.Advance.{clocked, quieted, glass_published, ending_of, glass_of, ended_by, ended, advanced}
 use Rattle.history.specs.Reckon.{Part, all, up_to, lasted, Worked, swing_s, drives_by, number_after, number_over}
 use Rattle.history.proofs.Blind.{Seen, seen_glass}
 
@@ -33,9 +33,10 @@ pub record Marks : Type 0 where
   pub of : ℕ → ℕ
   pub count : ℕ
 
--- cycles from the start of driving to before the end last at most 2^64 − 2 nanoseconds
-abbrev pub Short : ℕ → Display → Type 0
-Short frequency d = (cycles : ℕ) → cycles < d.ends - d.started → lasted frequency cycles < largest 64
+-- cycles from the start of driving of the display in progress to before its end last at most 2^64 − 2 nanoseconds
+abbrev pub Short : ℕ → Option Display → Type 0
+Short frequency None = Unit {0}
+Short frequency (Some d) = (cycles : ℕ) → cycles < d.ends - d.started → lasted frequency cycles < largest 64
 
 -- each lent state is its pixel's whole number, from 0 to S, each pixel shows it and is counted, and the image's generation is the count of refreshes,
 -- stopping at 2^64 − 1
@@ -79,22 +80,22 @@ abbrev until_of : Part → Option ℕ
 until_of all = None
 until_of (up_to cut) = Some cut
 
-module _ (luts : List ℕ) (g : WithGlass) (at : ℕ) (part : Part) (number : Marks) (below : CutBelowLargest (until_of part)) (h : Shows (seen_glass g) number) where
+module _ (luts : List ℕ) (display : Display) (g : WithGlass) (at : ℕ) (part : Part) (number : Marks) (below : CutBelowLargest (until_of part)) (h : Shows (seen_glass g) number) where
   abbrev S : ℕ
   S = swing_s g.device.config
 
   abbrev e : finish.Ending
-  e = ending_of g.device at (until_of part)
+  e = ending_of g.device display at (until_of part)
 
   abbrev w : Worked
-  w = refresh luts g.device.display part
+  w = refresh luts display part
 
   room : S ≤ 9223372036854775807
   room = omega arith
 
   -- the exact reckoning of the panel is that of the whole numbers
-  after_is : (p : Part) (lut x : ℕ) → exact_after (ending_of g.device at (until_of p)) S lut x
-      ≡ pick (ltb lut 4) (drives S (drives_by g.device.config.optics.positive_drives_black p (setting_phases g.device.display.setting g.device.config.timing.frame_period (Lut lut))) x) x
+  after_is : (p : Part) (lut x : ℕ) → exact_after (ending_of g.device display at (until_of p)) S lut x
+      ≡ pick (ltb lut 4) (drives S (drives_by g.device.config.optics.positive_drives_black p (setting_phases display.setting g.device.config.timing.frame_period (Lut lut))) x) x
   unfolding exact_after
   after_is all lut x = refl
   after_is (up_to cut) lut x = refl
@@ -123,7 +124,7 @@ module _ (luts : List ℕ) (g : WithGlass) (at : ℕ) (part : Part) (number : Ma
         swing = h.swing;
         some = h.some;
         ticks = h.ticks;
-        short = h.short;
+        short = tt;
         states = λ i l. state_is i (long i l);
         within = λ i l. number_le i (long i l);
         pixels = λ i l.
@@ -137,21 +138,30 @@ module _ (luts : List ℕ) (g : WithGlass) (at : ℕ) (part : Part) (number : Ma
       }
 
 -- ---- the clock's move
+-- what ends of a display at a moment
+abbrev pub ends_by : List ℕ → ℕ → Option Display → List Worked
+ends_by luts t None = []
+ends_by luts t (Some display) = pick (leb display.ends t) (refresh luts display all ∷ []) []
+
 -- what ends when the clock moves
 abbrev pub ends_in : List ℕ → ℕ → Ssd1677 → List Worked
-ends_in luts time d = pick (d.display.running && leb d.display.ends (max d.now time)) (refresh luts d.display all ∷ []) []
+ends_in luts time d = ends_by luts (max d.now time) d.display
 
 pub advance_shows : (luts : List ℕ) (time : ℕ) (g : WithGlass) (number : Marks) → Shows (seen_glass g) number
     → Shows (seen_glass (advanced luts time g)) (over g.device.config (ends_in luts time g.device) number)
 unfolding advanced ended number_over
-advance_shows luts time g number h = by (is_over (clocked time g).device)
+advance_shows luts time g number h = by g.device.display
   where
     x : WithGlass
     x = clocked time g
 
-    by : (b : Bool)
-        → Shows (seen_glass (quieted (pick b (glass_published x (finish.finished (ending_of x.device x.device.display.ends None) luts (glass_of x))) x)))
-        (over g.device.config (pick b (refresh luts g.device.display all ∷ []) []) number)
-    by true = let r = finish_shows luts x x.device.display.ends all number tt h in
+    at : (display : Display) (b : Bool)
+        → Shows (seen_glass (quieted (pick b (glass_published x (finish.finished (ending_of x.device display display.ends None) luts (glass_of x))) x)))
+        (over g.device.config (pick b (refresh luts display all ∷ []) []) number)
+    at display true = let r = finish_shows luts display x display.ends all number tt h in
         r
-    by false = h
+    at display false = h
+
+    by : (o : Option Display) → Shows (seen_glass (quieted (ended_by luts x o))) (over g.device.config (ends_by luts (max g.device.now time) o) number)
+    by None = h
+    by (Some display) = at display (leb display.ends (max g.device.now time))

@@ -51,7 +51,7 @@ module _ (c : Ssd1677Config) (otp : List ℕ) (b : Buffers) (ok : is_accepted (s
           swing = swing_is c.optics.full_swing;
           some = omega (arith, some);
           ticks = some_cycles c otp (lengths_in b) (passed c otp b ok);
-          short = λ cycles l. absurd (omega arith);
+          short = tt;
           states = λ i l. get_d_tab (length b.states) (λ _. panel.first_state c.optics) i (pos 0) (in_states i l) ∙ first_is c;
           within = λ i l. level_le (swing_s c) c.optics.initial_gray byte;
           pixels = λ i l.

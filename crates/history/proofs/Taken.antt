@@ -26,8 +26,9 @@ use Rattle.history.proofs.Written.{quiet_data}
 use Rattle.history.proofs.Read.{quiet_read}
 use Rattle.history.proofs.Begun.{quiet_log, still_begun}
 use Rattle.history.proofs.Core.{core_taken}
+use Rattle.clock.proofs.Arrived.{config_advanced}
 use Rattle.history.proofs.Shows.{Marks, Shows, over, over_join, count_join, ends_in, advance_shows}
-use Rattle.history.proofs.Line.{cut_in, not_over, config_moved, power_moved, line_shows}
+use Rattle.history.proofs.Line.{cut_in, not_over, power_moved, line_shows}
 use Rattle.history.proofs.Moved.{cut_at, cut_moved, pending_moved}
 use Rattle.history.proofs.Once.{once_in, at_once, at_once_is, reaches, activation_shows}
 
@@ -107,7 +108,7 @@ module _ (otp : List ℕ) (w : World) (number : Marks) (h : Shows (seen w) numbe
       let a : WithGlassLog = on glass_in_glass_log (advanced w.luts time) (glass_log_in_world.get w) in
       let t = max w.device.now time in
       joins (seen (taken otp w (set_reset time low))) c (g time).device.config (first time) (pick (falls low w.device.bus.power) (cut_at w.luts t w.device) []) number
-      (config_moved w.luts time (glass_in_world.get w))
+      (config_advanced w.luts time (glass_in_world.get w))
       (subst (λ (ws : List Worked). Shows (seen (taken otp w (set_reset time low))) (over (g time).device.config ws (over c (first time) number)))
       (ap (λ (p : Power). pick (falls low p) (cut_in w.luts (g time).device) []) (power_moved w.luts time (glass_in_world.get w))
       ∙ ap (λ (ws : List Worked). pick (falls low w.device.bus.power) ws []) (cut_moved w.luts time (glass_in_world.get w)))
@@ -143,7 +144,7 @@ module _ (otp : List ℕ) (w : World) (number : Marks) (h : Shows (seen w) numbe
 
     config_is : a.device.config ≡ c
     unfolding closed
-    config_is = config_moved w.luts time (glass_in_world.get w)
+    config_is = config_advanced w.luts time (glass_in_world.get w)
 
     abbrev left : ℕ → World
     left command = taken otp w (write_command time command)

@@ -5,9 +5,9 @@ use mathlib.Core.Path.{◌≡◌, refl, ap, ◌∙◌}
 use mathlib.Core.Bool.{Bool, true, false, ◌||◌}
 use mathlib.Core.List.{List, []}
 use native.Mathlib.Omega.{arith}
-use lib.Dec.{eqb}
+use lib.Dec.{eqb, leb}
 use Rattle.numbers.specs.Choice.{pick}
-use Rattle.panel.specs.Finish.{finished}
+use Rattle.panel.specs.declared.Display.{Display}
 use Rattle.diagnostic.specs.declared.DiagnosticKind.{DiagnosticKind}
 use Rattle.diagnostic.specs.declared.DiagnosticKind.TheVariants.{UnknownCommand, ReservedCommand, UnsupportedCommand, WhileBusy, WhileAsleep, WhileInReset, ResetDuringDisplay}
 use Rattle.device.specs.declared.Current.{Current}
@@ -17,10 +17,11 @@ use Rattle.device.specs.declared.Power.{Power}
 use Rattle.device.specs.declared.Power.TheVariants.{Running, Asleep, InReset}
 use Rattle.world.specs.World.{WithLog, with_log, WithGlass, with_glass, WithGlassLog, with_glass_log, WithRam, with_ram, WithBuffers, with_buffers, Lent, WithPlanes, with_planes, on, device_in_glass_log, log_in_glass_log, glass_in_glass_log, device_in_buffers, log_in_buffers}
 use Rattle.command.specs.Table.{kind_of}
-use Rattle.clock.specs.Advance.{is_over, clocked, quieted, glass_published, ending_of, glass_of, ended, advanced}
+use Rattle.clock.specs.Advance.{advanced}
+use Rattle.clock.proofs.Arrived.{journal_advanced}
 use Rattle.chip.specs.Close.{closed}
 use Rattle.chip.specs.Report.{logged}
-use Rattle.reset.specs.Reset.{restored, is_driving, display_cut, display_dropped, cut, in_reset, asserted, released, by_line}
+use Rattle.reset.specs.Reset.{restored, display_cut, display_dropped, cut_by, cut, in_reset, asserted, released, by_line}
 use Rattle.start.specs.Start.{soft_reset, vcom_sensed, pointed}
 use Rattle.activation.specs.Activation.{with_luts, staged_in, activated}
 use Rattle.data.specs.Data.{data_taken}
@@ -51,19 +52,8 @@ abbrev pub in_planes : Bundle WithPlanes
 in_planes = record { plain = plain_planes; journal = λ (w : WithPlanes). w.device.journal }
 
 -- ---- the clock's move reports nothing
-advanced_same : (luts : List ℕ) (time : ℕ) (g : WithGlass) → (advanced luts time g).device.journal ≡ g.device.journal
-unfolding advanced ended
-advanced_same luts time g = by (is_over (clocked time g).device)
-  where
-    over : WithGlass → WithGlass
-    over x = glass_published x (finished (ending_of x.device x.device.display.ends None) luts (glass_of x))
-
-    by : (b : Bool) → (quieted (pick b (over (clocked time g)) (clocked time g))).device.journal ≡ g.device.journal
-    by true = refl
-    by false = refl
-
 pub tells_advanced : (luts : List ℕ) (time : ℕ) → Tells in_glass in_glass 0 (advanced luts time)
-tells_advanced luts time = tells_none in_glass in_glass (advanced luts time) (blind_advanced luts time) (advanced_same luts time)
+tells_advanced luts time = tells_none in_glass in_glass (advanced luts time) (blind_advanced luts time) (journal_advanced luts time)
 
 -- ---- the reset line
 abbrev TellsLine : ℕ → (WithGlassLog → WithGlassLog) → Type 0
@@ -84,12 +74,16 @@ line_log n f t =
 -- 39, or nothing
 tells_cut : (luts : List ℕ) → TellsLine 1 (cut luts)
 unfolding cut display_cut
-tells_cut luts =
-    tells_pick in_glass_log in_glass_log 1 0 (λ (w : WithGlassLog). is_driving w.device)
-    (λ w. on glass_in_glass_log (display_cut luts) (on log_in_glass_log (logged ResetDuringDisplay) w)) (on device_in_glass_log display_dropped) (λ w. refl)
-    (then_line 1 0 (on log_in_glass_log (logged ResetDuringDisplay)) (on glass_in_glass_log (display_cut luts)) (line_log 1 (logged ResetDuringDisplay) (tells_logged ResetDuringDisplay))
-    (tells_none in_glass_log in_glass_log (on glass_in_glass_log (display_cut luts)) (λ w. refl) (λ w. refl)))
-    (tells_none in_glass_log in_glass_log (on device_in_glass_log display_dropped) (λ w. refl) (λ w. refl))
+tells_cut luts = tells_by in_glass_log in_glass_log 1 (λ (w : WithGlassLog). w.device.display) (λ o w. cut_by luts w o) (λ w. refl) by
+  where
+    by : (o : Option Display) → TellsLine 1 (λ w. cut_by luts w o)
+    by None = tells_more in_glass_log in_glass_log 0 1 (λ w. w) (omega arith) (tells_none in_glass_log in_glass_log (λ w. w) (λ w. refl) (λ w. refl))
+    by (Some display) =
+        tells_pick in_glass_log in_glass_log 1 0 (λ (w : WithGlassLog). leb display.started w.device.now)
+        (λ w. on glass_in_glass_log (display_cut luts display) (on log_in_glass_log (logged ResetDuringDisplay) w)) (on device_in_glass_log display_dropped) (λ w. refl)
+        (then_line 1 0 (on log_in_glass_log (logged ResetDuringDisplay)) (on glass_in_glass_log (display_cut luts display)) (line_log 1 (logged ResetDuringDisplay) (tells_logged ResetDuringDisplay))
+        (tells_none in_glass_log in_glass_log (on glass_in_glass_log (display_cut luts display)) (λ w. refl) (λ w. refl)))
+        (tells_none in_glass_log in_glass_log (on device_in_glass_log display_dropped) (λ w. refl) (λ w. refl))
 
 tells_asserted : (luts : List ℕ) → TellsLine 2 (asserted luts)
 unfolding asserted in_reset restored
@@ -118,7 +112,7 @@ line_clock luts time =
     tells_none in_glass_log in_glass_log (on glass_in_glass_log (advanced luts time))
     (λ (w : WithGlassLog).
     ap (λ (g : WithGlass). with_glass_log g.device g.states g.picture []) (blind_advanced luts time (with_glass w.device w.states w.picture)))
-    (λ (w : WithGlassLog). advanced_same luts time (with_glass w.device w.states w.picture))
+    (λ (w : WithGlassLog). journal_advanced luts time (with_glass w.device w.states w.picture))
 
 pub tells_reset : (luts : List ℕ) (time : ℕ) (low : Bool) → TellsLine 2 (line_taken luts time low)
 unfolding line_taken
@@ -166,7 +160,7 @@ tells_data_in luts time byte =
     (tells_none in_planes in_planes (on_clock luts time)
     (λ (w : WithPlanes).
     ap (λ (g : WithGlass). with_planes g.device [] unseen w.black_white w.red []) (blind_advanced luts time (with_glass w.device w.states w.picture)))
-    (λ (w : WithPlanes). advanced_same luts time (with_glass w.device w.states w.picture)))
+    (λ (w : WithPlanes). journal_advanced luts time (with_glass w.device w.states w.picture)))
     (tells_by in_planes in_planes 4 (λ (w : WithPlanes). w.device.bus.current) (λ (c : Current) (w : WithPlanes). on_ram (λ (m : WithRam). data_taken byte m c) w)
     (λ w. refl) (planes_data byte))
 
@@ -194,7 +188,7 @@ tells_activated k =
       blind = blind_activated k;
       makes = λ (w : WithBuffers). t.makes (with_luts w.device w.luts []);
       is = λ (w : WithBuffers).
-          advanced_same (staged_in k w).luts (staged_in k w).device.now (with_glass (staged_in k w).device w.states w.picture)
+          journal_advanced (staged_in k w).luts (staged_in k w).device.now (with_glass (staged_in k w).device w.states w.picture)
           ∙ t.is (with_luts w.device w.luts w.log);
       adds = λ (w : WithBuffers). t.adds (with_luts w.device w.luts []);
     }
@@ -251,7 +245,7 @@ module _ (k : Lent) (command : ℕ) where
       (tells_none in_buffers in_buffers (moved_to time)
       (λ (w : WithBuffers).
       ap (λ (g : WithGlass). with_buffers g.device g.states w.luts g.picture []) (blind_advanced w.luts time (with_glass w.device w.states w.picture)))
-      (λ (w : WithBuffers). advanced_same w.luts time (with_glass w.device w.states w.picture)))
+      (λ (w : WithBuffers). journal_advanced w.luts time (with_glass w.device w.states w.picture)))
       (then_buffers 1 16 (on log_in_buffers closed) (λ (w : WithBuffers). begun k command w w.device.bus.power) (buffers_log 1 closed tells_closed)
       (tells_by in_buffers in_buffers 16 (λ (w : WithBuffers). w.device.bus.power) (λ (power : Power) (w : WithBuffers). begun k command w power) (λ w. refl)
       tells_begun))

@@ -25,7 +25,8 @@ use Rattle.device.specs.Parts.{with_regs}
 use Rattle.world.specs.World.{WithLog, with_log}
 use Rattle.registers.specs.Store.{stored}
 use Rattle.listed.specs.Listed.{listed}
-use Rattle.chip.specs.Close.{expected_of, missing, entries_of, reserved_unreported, ignoring, closed}
+use Rattle.device.specs.Kinds.{expected_of}
+use Rattle.chip.specs.Close.{missing, entries_of, reserved_unreported, ignoring, closed}
 use Rattle.chip.specs.Report.{logged}
 use Rattle.start.specs.Start.{with_busy_for, is_powered, unpowered, sensing_time, vcom_sensed, pointed}
 use Rattle.acts.specs.Reserved.{reserved, checked}

@@ -1,6 +1,6 @@
 -- The plain reckoning beside the calls (SCOPE, History): no log, no journal, no picture, no lent state. It is fed start's arguments
 -- and, of each accepted call, those that are neither state nor buffer.
-use Rattle.std.specs.Prelude.{ℕ, ◌-◌, ◌*◌, ◌/◌, max, min, Bool, true, false, ◌&&◌, not, List, [], ◌∷◌, ◌++◌, eqb, leb, ltb, ℤ, pos, get_or}
+use Rattle.std.specs.Prelude.{ℕ, ◌-◌, ◌*◌, ◌/◌, max, min, Bool, true, false, ◌&&◌, not, List, [], ◌∷◌, ◌++◌, eqb, leb, ltb, ℤ, pos, get_or, Option, Some, None}
 use Rattle.numbers.specs.Choice.{pick}
 use Rattle.glass.specs.declared.RefreshKind.TheVariants.{PowerOn}
 use Rattle.glass.specs.Exact.{drives}
@@ -20,7 +20,6 @@ use Rattle.device.specs.Parts.{with_display}
 use Rattle.world.specs.World.{World, lent_of}
 use Rattle.busy.specs.Busy.{pending}
 use Rattle.activation.specs.Activation.{with_luts, staged}
-use Rattle.power_on.specs.Start.{no_display}
 use Rattle.calls.specs.World.{Call, advance, set_reset, write_command, write_data, read_data, set_ambient, take_diagnostics, taken}
 
 -- ---- what it keeps, but for the whole numbers
@@ -33,7 +32,7 @@ pub record Core : Type 0 where
   pub clock : Bool
   pub analog : Bool
   pub status : Status
-  pub display : Display
+  pub display : Option Display
   pub luts : List ℕ
   pub black_white : List ℕ
   pub red : List ℕ
@@ -114,8 +113,9 @@ pub data Refreshing : Type 0 where
   one : Refresh → Refreshing
 
 -- what a display and the chosen LUTs say of it
-abbrev pub shown_by : Display → List ℕ → Refreshing
-shown_by d luts = pick d.running (one (record { started = d.started; ends = d.ends; setting = d.setting; luts = luts })) none
+abbrev pub shown_by : Option Display → List ℕ → Refreshing
+shown_by None luts = none
+shown_by (Some d) luts = one (record { started = d.started; ends = d.ends; setting = d.setting; luts = luts })
 
 -- the reckoning: the core, the refresh under way, which it follows in words of its own, and a whole number for each pixel
 pub record Reckoning : Type 0 where
@@ -145,7 +145,7 @@ activates t command c = eqb command 0x20 && (is_running c.bus.power && not (pend
 -- the refresh that 0x20 begins, if it displays: what its stages start where none was
 abbrev pub begins : List ℕ → Core → Refreshing
 begins otp c =
-    let s = staged (lent_of otp (bare c)) (with_luts (with_display (device_of c) no_display) c.luts []) in
+    let s = staged (lent_of otp (bare c)) (with_luts (with_display (device_of c) None) c.luts []) in
     shown_by s.device.display s.luts
 
 -- once the clock, at t, has reached its end, it is under way no more

@@ -6,6 +6,7 @@ use crate::question::Question;
 use crate::waves;
 use crate::wiring::Refresh;
 use config::{GateScan, PanelGeometry};
+use counts::Counts;
 use glass::{Optics, Provenance, RefreshKind};
 use panel::{Display, Panel};
 use scan::{PlaneOption, Scan};
@@ -47,7 +48,6 @@ fn border(n: u8) -> u8 {
 
 fn display(question: &Question) -> Display {
     Display {
-        running: true,
         started: 0,
         ends: 0,
         kind: RefreshKind::Full,
@@ -76,12 +76,11 @@ fn refreshed(
     states: &mut [i64],
     luts: &mut [u8],
     pixels: &mut [u8],
-    counts: &mut [u32],
+    counts: &mut Counts,
 ) -> Panel
     requires states_len_bound { length states.old < 2 ^ 32 }
     requires luts_len { length luts.old ≡ length states.old }
     requires pixels_len { length pixels.old ≡ length states.old }
-    requires counts_len { length counts.old ≡ 256 }
 {
     let mut panel = panel_start::new(
         geometry(question),
@@ -89,7 +88,7 @@ fn refreshed(
         &mut states[..],
         &mut luts[..],
         &mut pixels[..],
-        &mut counts[..],
+        counts,
     );
     first(question).fill(&mut luts[..]);
     let periods = question.periods(10);
@@ -105,7 +104,7 @@ fn refreshed(
                 &mut states[..],
                 luts,
                 &mut pixels[..],
-                &mut counts[..],
+                counts,
             );
         }
     }

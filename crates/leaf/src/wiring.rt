@@ -155,14 +155,6 @@ fn panel_start(answers: &mut Answers, question: &Question) {
     });
 }
 
-fn option_number(option: PlaneOption) -> u64 {
-    match option {
-        PlaneOption::Normal => 0,
-        PlaneOption::Zero => 1,
-        PlaneOption::Inverse => 2,
-    }
-}
-
 // What an option makes of a bit: the LUT of a pixel whose red bit reads as 0.
 fn applied(option: PlaneOption, bit: bool) -> u8 {
     let refresh = Refresh {
@@ -187,7 +179,7 @@ fn applied(option: PlaneOption, bit: bool) -> u8 {
 
 fn plane_option(answers: &mut Answers, question: &Question) {
     let option = PlaneOption::from_nibble(question.byte(0));
-    answers.number(option_number(option));
+    answers.number(option as u64);
     answers.number(u64::from(applied(option, question.truth(1))));
 }
 

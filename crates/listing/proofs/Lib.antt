@@ -1,2 +1,3 @@
 -- The root of listing's proofs.
 pub mod Joined
+pub mod Lengths

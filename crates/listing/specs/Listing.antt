@@ -1,5 +1,5 @@
 -- The listing of a setting (SCOPE, Listing).
-use Rattle.std.specs.Prelude.{List, [], ◌∷◌, ◌++◌, ℕ, ℤ, eqb, ltb, length, drop, get_or, replicate}
+use Rattle.std.specs.Prelude.{List, [], ◌∷◌, ◌++◌, ℕ, ℤ, eqb, length, get_or, replicate}
 use Rattle.numbers.specs.Choice.{pick}
 use Rattle.waveform.specs.declared.Drive.TheVariants.{Lut}
 use Rattle.waveform.specs.declared.Group.{Group}
@@ -8,7 +8,7 @@ use Rattle.waveform.specs.declared.Waveform.{Waveform}
 use Rattle.waveform.specs.Setting.{waveform_of}
 use Rattle.waveform.specs.Phases.{joined, no_group, phase_of}
 use Rattle.waveform.specs.Duration.{duration_of}
-use Rattle.column.specs.Columns.{natural, whole, line_end, Buffer, buffer}
+use Rattle.column.specs.Columns.{natural, whole, line_end, Buffer, in_front}
 
 -- the period of every frame-rate code, in nanoseconds: the listing's own, which is not the default (SCOPE, Listing; #105)
 abbrev pub period : ℕ
@@ -61,4 +61,4 @@ room = 2101
 
 -- the text at the front of the bytes lent, and its length; where they lack the room, nothing
 unfoldable pub listed : List ℕ → List ℕ → Buffer
-listed s out = pick (ltb (length out) room) (buffer 0 out) (buffer (length (text_of s)) (text_of s ++ drop (length (text_of s)) out))
+listed s out = in_front room (text_of s) out

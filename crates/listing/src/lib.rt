@@ -3,12 +3,12 @@
 
 mod line;
 
-ghost use Rattle.std.specs.Prelude.{◌≡◌, ◌≤◌, length, replicate};
-ghost use Rattle.waveform.specs.Setting.{waveform_of};
+ghost use Rattle.std.specs.Prelude.{◌≡◌, ◌≤◌, length};
 ghost use Rattle.waveform.specs.Voltages.{AllListable};
-ghost use Rattle.column.specs.Columns.{buffer, appended};
-ghost use Rattle.listing.specs.Listing.{period, lines_of, listing_of, not_a_setting, listed};
+ghost use Rattle.column.specs.Columns.{buffer, gathered};
+ghost use Rattle.listing.specs.Listing.{lines_of, listing_of, text_of, listed, room};
 
+use column::Columns;
 use waveform::Waveform;
 
 // The bytes of the longest listing: 40 lines of 52, and the last of 21.
@@ -16,53 +16,40 @@ pub const ROOM: usize = 2101;
 
 pub const SETTING_BYTES: usize = 112;
 
+type Text = Columns<ROOM>;
+
 // The lines of ten groups.
-fn lines(out: &mut [u8], waveform: Waveform) -> usize
-    requires room { 2080 ≤ length out.old }
-    requires listable { AllListable waveform.levels }
-    ensures text { buffer result out.new ≡ appended (buffer 0 out.old) (lines_of waveform) }
-    ensures end { result ≤ 2080 }
+fn put_lines(text: &mut Text, waveform: Waveform)
+    requires { AllListable waveform.levels }
+    ensures { text.new ≡ gathered room text.old (lines_of waveform) }
 {
-    let levels = waveform.levels;
-    let mut at: usize = 0;
     for number in 0..10 {
-        let group = waveform.groups[number];
-        at = line::put_group(out, at, levels, group, number);
+        line::put_group(text, waveform.levels, waveform.groups[number], number);
     }
-    at
 }
 
 // The lines, then the duration.
-fn put_listing(out: &mut [u8], waveform: Waveform) -> usize
-    requires room { 2101 ≤ length out.old }
-    requires listable { AllListable waveform.levels }
-    ensures text { buffer result out.new ≡ appended (buffer 0 out.old) (listing_of waveform) }
-    ensures end { result ≤ 2101 }
+fn put_listing(text: &mut Text, waveform: Waveform)
+    requires { AllListable waveform.levels }
+    ensures { text.new ≡ gathered room text.old (listing_of waveform) }
 {
-    let duration = duration::duration_ns(waveform);
-    let lines_end = lines(out, waveform);
-    let end = column::put(out, lines_end, 20, false, duration);
-    column::put_line_end(out, end)
+    put_lines(text, waveform);
+    text.put_number(20, duration::duration_ns(waveform));
+    text.put(b'\n');
 }
 
-// With the listing's period for every frame-rate code.
-fn waveform_of(setting: &[u8]) -> Waveform
-    requires { length setting.now ≡ 112 }
-    ensures { result ≡ waveform_of setting.now (replicate 16 period) }
+// The listing with its own period for every frame-rate code, or 41 (SCOPE, Listing): the input is not 112 bytes.
+fn text_of(setting: &[u8]) -> Text
+    ensures { result ≡ text_of setting.now }
 {
-    let mut copied = [0u8; 112];
-    byte_copy::copy(setting, &mut copied);
-    let periods = [line::PERIOD; 16];
-    setting::from_setting(&copied, &periods)
-}
-
-// 41 (SCOPE, Listing): the input is not 112 bytes.
-fn put_not_a_setting(out: &mut [u8]) -> usize
-    requires room { 4 ≤ length out.old }
-    ensures text { buffer result out.new ≡ appended (buffer 0 out.old) not_a_setting }
-    ensures end { result ≡ 4 }
-{
-    byte_copy::copy(b" 41\n", out)
+    let mut text = Text::new();
+    let Ok(setting) = <&[u8; SETTING_BYTES]>::try_from(setting) else {
+        text.put_text(b" 41\n");
+        return text;
+    };
+    let waveform = setting::from_setting(setting, &[line::PERIOD; 16]);
+    put_listing(&mut text, waveform);
+    text
 }
 
 // Writes the listing of `setting` to the front of `out` and answers its length; ` 41` where `setting` is not 112 bytes long.
@@ -71,12 +58,5 @@ pub fn list(setting: &[u8], out: &mut [u8]) -> usize
     ensures text { buffer result out.new ≡ listed setting.now out.old }
     ensures within { result ≤ length out.new }
 {
-    if out.len() < ROOM {
-        return 0;
-    }
-    if setting.len() == SETTING_BYTES {
-        let waveform = waveform_of(setting);
-        return put_listing(out, waveform);
-    }
-    put_not_a_setting(out)
+    text_of(setting).write_to(out)
 }

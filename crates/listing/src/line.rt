@@ -1,9 +1,10 @@
 // The lines of a listing (SCOPE, Listing).
-ghost use Rattle.std.specs.Prelude.{◌≡◌, ◌+◌, ◌<◌, ◌≤◌, length};
+ghost use Rattle.std.specs.Prelude.{◌≡◌, ◌<◌};
 ghost use Rattle.waveform.specs.Voltages.{AllListable};
-ghost use Rattle.column.specs.Columns.{buffer, appended};
-ghost use Rattle.listing.specs.Listing.{drive_of, drives_of, head_of, line_of, phase_text, group_text};
+ghost use Rattle.column.specs.Columns.{gathered};
+ghost use Rattle.listing.specs.Listing.{drive_of, drives_of, head_of, line_of, phase_text, group_text, room};
 
+use crate::Text;
 use waveform::{Drive, Driving, Group, Levels};
 
 // The period of every frame-rate code, in nanoseconds: the listing's own, which is not the default (#105).
@@ -26,93 +27,55 @@ fn drive_of(levels: Levels, group: Group, phase: usize, lut: usize) -> i64
 }
 
 // The drives of LUT 0 to 3.
-fn put_drives(out: &mut [u8], at: usize, levels: Levels, group: Group, phase: usize) -> usize
-    requires room { at + 28 ≤ length out.old }
+fn put_drives(text: &mut Text, levels: Levels, group: Group, phase: usize)
     requires phase { phase < 4 }
     requires listable { AllListable levels }
-    ensures text { buffer result out.new ≡ appended (buffer at out.old) (drives_of levels group phase) }
-    ensures end { result ≡ at + 28 }
+    ensures { text.new ≡ gathered room text.old (drives_of levels group phase) }
 {
-    let mut next = at;
     for lut in 0..4 {
-        let millivolts = drive_of(levels, group, phase, lut);
-        next = column::put_millivolts(out, next, millivolts);
+        text.put_whole(7, drive_of(levels, group, phase, lut));
     }
-    next
 }
 
 // The first five columns.
-fn put_head(out: &mut [u8], at: usize, group: Group, number: usize, phase: usize) -> usize
-    requires room { at + 23 ≤ length out.old }
-    requires phase { phase < 4 }
-    ensures text { buffer result out.new ≡ appended (buffer at out.old) (head_of group number phase) }
-    ensures end { result ≡ at + 23 }
+fn put_head(text: &mut Text, group: Group, number: usize, phase: usize)
+    requires { phase < 4 }
+    ensures { text.new ≡ gathered room text.old (head_of group number phase) }
 {
-    let frames = numbers::wide(group.frames[phase]);
-    let first = column::put(out, at, 3, false, number as u64);
-    let second = column::put(out, first, 3, false, phase as u64);
-    let third = column::put(out, second, 4, false, frames);
-    let fourth = column::put(out, third, 4, false, group.repeats as u64);
-    column::put(out, fourth, 9, false, PERIOD)
+    text.put_number(3, number as u64);
+    text.put_number(3, phase as u64);
+    text.put_number(4, u64::from(group.frames[phase]));
+    text.put_number(4, u64::from(group.repeats));
+    text.put_number(9, PERIOD);
 }
 
-fn put_line(
-    out: &mut [u8],
-    at: usize,
-    levels: Levels,
-    group: Group,
-    number: usize,
-    phase: usize,
-) -> usize
-    requires room { at + 52 ≤ length out.old }
+fn put_line(text: &mut Text, levels: Levels, group: Group, number: usize, phase: usize)
     requires phase { phase < 4 }
     requires listable { AllListable levels }
-    ensures text { buffer result out.new ≡ appended (buffer at out.old) (line_of levels group number phase) }
-    ensures end { result ≡ at + 52 }
+    ensures { text.new ≡ gathered room text.old (line_of levels group number phase) }
 {
-    let head_end = put_head(out, at, group, number, phase);
-    let drives_end = put_drives(out, head_end, levels, group, phase);
-    column::put_line_end(out, drives_end)
+    put_head(text, group, number, phase);
+    put_drives(text, levels, group, phase);
+    text.put(b'\n');
 }
 
 // A line, if the phase has frames.
-fn put_phase(
-    out: &mut [u8],
-    at: usize,
-    levels: Levels,
-    group: Group,
-    number: usize,
-    phase: usize,
-) -> usize
-    requires room { at + 52 ≤ length out.old }
+fn put_phase(text: &mut Text, levels: Levels, group: Group, number: usize, phase: usize)
     requires phase { phase < 4 }
     requires listable { AllListable levels }
-    ensures text { buffer result out.new ≡ appended (buffer at out.old) (phase_text levels group number phase) }
-    ensures end { result ≤ at + 52 }
+    ensures { text.new ≡ gathered room text.old (phase_text levels group number phase) }
 {
-    let frames = group.frames[phase];
-    if frames == 0 {
-        return at;
+    if group.frames[phase] != 0 {
+        put_line(text, levels, group, number, phase);
     }
-    put_line(out, at, levels, group, number, phase)
 }
 
 // The lines of a group.
-pub(crate) fn put_group(
-    out: &mut [u8],
-    at: usize,
-    levels: Levels,
-    group: Group,
-    number: usize,
-) -> usize
-    requires room { at + 208 ≤ length out.old }
-    requires listable { AllListable levels }
-    ensures text { buffer result out.new ≡ appended (buffer at out.old) (group_text levels group number) }
-    ensures end { result ≤ at + 208 }
+pub(crate) fn put_group(text: &mut Text, levels: Levels, group: Group, number: usize)
+    requires { AllListable levels }
+    ensures { text.new ≡ gathered room text.old (group_text levels group number) }
 {
-    let mut next = at;
     for phase in 0..4 {
-        next = put_phase(out, next, levels, group, number, phase);
+        put_phase(text, levels, group, number, phase);
     }
-    next
 }

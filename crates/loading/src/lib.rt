@@ -7,7 +7,7 @@ ghost use Rattle.stages.specs.Run.{step};
 ghost use Rattle.stages.specs.Stages.{clock_on, analog_on, sensed, temperature_loaded, setting_in, lut_found, lut_loaded, loaded};
 
 use config::{DisplayMode, Ssd1677Config};
-use diagnostic::{DiagnosticKind, Stage};
+use diagnostic::{DiagnosticKind, Log, Stage};
 use otp::ENTRY_BYTES;
 use stages::{Control, Run, mode_of, note, wait};
 
@@ -25,8 +25,7 @@ fn clock_on(run: Run, wanted: bool, ns: u64) -> Run
     run
 }
 
-fn analog_on(run: Run, log: &mut [u8], time: u64, wanted: bool, ns: u64) -> Run
-    requires { length log.old ≡ 16384 }
+fn analog_on(run: Run, log: &mut Log, time: u64, wanted: bool, ns: u64) -> Run
     ensures { step result log.new ≡ analog_on time wanted ns (step run log.old) }
 {
     if wanted & !run.analog {
@@ -48,8 +47,7 @@ fn analog_on(run: Run, log: &mut [u8], time: u64, wanted: bool, ns: u64) -> Run
 }
 
 // The temperature load: the internal sensor, or the external one.
-fn load_temperature(run: Run, log: &mut [u8], time: u64, sensor: u8, config: Ssd1677Config) -> Run
-    requires { length log.old ≡ 16384 }
+fn load_temperature(run: Run, log: &mut Log, time: u64, sensor: u8, config: Ssd1677Config) -> Run
     ensures { step result log.new ≡ sensed time sensor config config.external_sensor (step run log.old) }
 {
     let timing = config.timing;
@@ -74,13 +72,12 @@ fn load_temperature(run: Run, log: &mut [u8], time: u64, sensor: u8, config: Ssd
 
 fn temperature_stage(
     run: Run,
-    log: &mut [u8],
+    log: &mut Log,
     time: u64,
     wanted: bool,
     sensor: u8,
     config: Ssd1677Config,
 ) -> Run
-    requires { length log.old ≡ 16384 }
     ensures { step result log.new ≡ temperature_loaded time wanted sensor config (step run log.old) }
 {
     if wanted {
@@ -110,8 +107,7 @@ fn setting_of(entry: &[u8]) -> [u8; 112]
 }
 
 // The waveform of the mode and the temperature register, with its place in the table, or 35.
-fn load_lut(run: Run, log: &mut [u8], time: u64, mode: DisplayMode, otp: &[u8]) -> Run
-    requires { length log.old ≡ 16384 }
+fn load_lut(run: Run, log: &mut Log, time: u64, mode: DisplayMode, otp: &[u8]) -> Run
     ensures { step result log.new ≡ lut_found time mode otp.now (step run log.old) }
 {
     let temperature = run.temperature;
@@ -135,14 +131,13 @@ fn load_lut(run: Run, log: &mut [u8], time: u64, mode: DisplayMode, otp: &[u8]) 
 
 fn lut_stage(
     run: Run,
-    log: &mut [u8],
+    log: &mut Log,
     time: u64,
     wanted: bool,
     mode: DisplayMode,
     otp: &[u8],
     ns: u64,
 ) -> Run
-    requires { length log.old ≡ 16384 }
     ensures { step result log.new ≡ lut_loaded time wanted mode otp.now ns (step run log.old) }
 {
     if wanted {
@@ -165,14 +160,13 @@ fn lut_stage(
 // The four stages that come before the display.
 pub fn load(
     run: Run,
-    log: &mut [u8],
+    log: &mut Log,
     time: u64,
     control: Control,
     sensor: u8,
     config: Ssd1677Config,
     otp: &[u8],
 ) -> Run
-    requires { length log.old ≡ 16384 }
     ensures { step result log.new ≡ loaded time control sensor config otp.now (step run log.old) }
 {
     let timing = config.timing;

@@ -50,9 +50,9 @@ module _ (d : Ssd1677) (states : List ℤ) (luts : List ℕ) (p : Picture) (blac
       ∙ ap (λ (g : WithGlass). g.device.config.panel) moved ∙ ap (λ x. x.panel) (config_advanced luts time (with_glass d states p))
 
   -- what the clock's move and the end of the last command keep of what an activation asks
-  pub still_activatable : length c.log ≡ length log → Activatable d states luts p.pixels p.counts black_white red gates log
-      → Activatable c.device a.states luts a.picture.pixels a.picture.counts black_white red gates c.log
-  still_activatable same_log h =
+  pub still_activatable : Activatable d states luts p.pixels p.counts black_white red gates
+      → Activatable c.device a.states luts a.picture.pixels a.picture.counts black_white red gates
+  still_activatable h =
       let s = h.startable in
       record {
         startable =
@@ -63,7 +63,6 @@ module _ (d : Ssd1677) (states : List ℤ) (luts : List ℕ) (p : Picture) (blac
               gates_long = subst (λ (g : PanelGeometry). length gates ≡ g.height) (sym panel_kept) s.gates_long;
               black_white_long = s.black_white_long;
               red_long = s.red_long;
-              log_long = same_log ∙ s.log_long;
             };
         ready =
             ready_closed a.states luts a.picture.pixels a.picture.counts (with_log a.device log) c is-closed
@@ -89,7 +88,7 @@ module _ (k : Lent) (time command : ℕ) (w : WithBuffers) (l : Lengths)
   same_table r is = is ∙ ap (λ (x : Lengths). guarded_with_table w.device x k.otp) Lent-is
 
   module _ (passes : Ok tt ≡ guarded_with_table w.device l k.otp) where
-    pub command_activatable : Activatable w.device w.states w.luts w.picture.pixels w.picture.counts k.black_white k.red k.gates w.log
+    pub command_activatable : Activatable w.device w.states w.luts w.picture.pixels w.picture.counts k.black_white k.red k.gates
     command_activatable =
         let fine = table_state_passed w.device lengths k.otp (same_table _ passes) in
         let fit = table_lengths_passed w.device lengths k.otp (same_table _ passes) in
@@ -104,12 +103,14 @@ module _ (k : Lent) (time command : ℕ) (w : WithBuffers) (l : Lengths)
                 gates_long = g.gates (length k.gates) refl;
                 black_white_long = g.black_white (length k.black_white) refl;
                 red_long = g.red (length k.red) refl;
-                log_long = g.log (length w.log) refl;
               };
           ready =
               ready_fine w.device w.states w.luts w.picture.pixels w.picture.counts (Some (length w.log)) (Some (length k.black_white)) (Some (length k.red))
               (Some (length k.gates)) fine fit (table_counts_passed w.device lengths k.otp (same_table _ passes));
         }
+
+    pub command_log : length w.log ≡ 16384
+    command_log = (fine_lengths w.device.config.panel lengths (table_lengths_passed w.device lengths k.otp (same_table _ passes))).log (length w.log) refl
 
     pub command_moves : (v : WithBuffers) → v ≡ command_taken k time command w → outcome 0 v ≡ command_written k time command w
     unfolding command_written

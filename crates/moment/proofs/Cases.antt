@@ -2,12 +2,12 @@
 use Rattle.std.specs.Prelude.{Option, Some, None}
 use Prim.Native.Nat.{ℕ, ◌≤◌, ◌<◌}
 use mathlib.Core.Path.{◌≡◌}
-use mathlib.Core.Bool.{Bool, true, false, ◌&&◌, not}
+use mathlib.Core.Bool.{Bool, true, false}
 use lib.Dec.{leb}
 use borrow.Author.Tests.{lt-ltb, le-ltb}
 use Rattle.device.specs.declared.Bus.{Bus}
 use Rattle.device.specs.Parts.{with_until}
-use Rattle.moment.specs.Moments.{after_ns, has_come, lowered, quiet_at, busy_for}
+use Rattle.moment.specs.Moments.{after_ns, has_come, lowered, busy_for}
 
 module _ (bus : Bus) (until : Option ℕ) (moment : ℕ) (come : Bool) (tells : come ≡ has_come until moment) where
   pub falls : (r : Bus) → come ≡ true → r ≡ with_until bus None → r ≡ lowered until bus moment
@@ -15,10 +15,6 @@ module _ (bus : Bus) (until : Option ℕ) (moment : ℕ) (come : Bool) (tells : 
 
   pub stays : come ≡ false → bus ≡ lowered until bus moment
   stays h = rw (← tells, h)
-
-pub quiet_or_not : (running : Bool) (ends : ℕ) (until : Option ℕ) (moment : ℕ) (come : Bool) → come ≡ has_come until moment
-    → (not (running && leb ends moment) && not come) ≡ quiet_at running ends until moment
-quiet_or_not running ends until moment come tells = rw tells
 
 module _ (bus : Bus) (frequency moment ns : ℕ) where
   pub rises : (r : Bus) (until : ℕ) → 0 < ns → until ≡ after_ns frequency moment ns → r ≡ with_until bus (Some until) → r ≡ busy_for bus frequency moment ns

@@ -14,7 +14,7 @@ after_ns frequency moment ns = min (moment + cycles_of frequency ns) (largest 64
 unfoldable pub ns_between : ℕ → ℕ → ℕ → ℕ
 ns_between frequency from to = nanos_of frequency (to - from)
 
--- the end of BUSY has come
+-- the end of BUSY or of a display has come
 abbrev pub has_come : Option ℕ → ℕ → Bool
 has_come None moment = false
 has_come (Some until) moment = leb until moment
@@ -23,9 +23,9 @@ has_come (Some until) moment = leb until moment
 abbrev pub lowered : Option ℕ → Bus → ℕ → Bus
 lowered until bus moment = pick (has_come until moment) (with_until bus None) bus
 
--- at a moment a display, if one runs, does not end, and BUSY does not fall
-abbrev pub quiet_at : Bool → ℕ → Option ℕ → ℕ → Bool
-quiet_at running ends until moment = not (running && leb ends moment) && not (has_come until moment)
+-- at a moment no display ends and BUSY does not fall
+abbrev pub quiet_at : Option ℕ → Option ℕ → ℕ → Bool
+quiet_at ends until moment = not (has_come ends moment) && not (has_come until moment)
 
 -- BUSY is high for a span from a moment on; a span of 0 leaves it as it is (mod.rs, `busy_for`)
 unfoldable pub busy_for : Bus → ℕ → ℕ → ℕ → Bus

@@ -21,11 +21,11 @@ pub fn ns_between(frequency: u32, from: u64, to: u64) -> u64
     frequency::cycles_to_nanos(frequency, to.saturating_sub(from))
 }
 
-// Whether the end of BUSY has come; there may be none.
-fn has_come(busy_until: Option<u64>, moment: u64) -> bool
-    ensures { result ≡ has_come busy_until moment }
+// Whether the end of BUSY or of a display has come; there may be none.
+fn has_come(until: Option<u64>, moment: u64) -> bool
+    ensures { result ≡ has_come until moment }
 {
-    match busy_until {
+    match until {
         None => false,
         Some(until) => until <= moment,
     }
@@ -42,13 +42,11 @@ pub fn lower_busy(bus: Bus, moment: u64) -> Bus
     bus
 }
 
-// Whether at a moment a display, if one runs, does not end, and BUSY does not fall.
-pub fn is_quiet(running: bool, ends: u64, busy_until: Option<u64>, moment: u64) -> bool
-    ensures { result ≡ quiet_at running ends busy_until moment }
+// Whether at a moment no display ends and BUSY does not fall.
+pub fn is_quiet(ends: Option<u64>, busy_until: Option<u64>, moment: u64) -> bool
+    ensures { result ≡ quiet_at ends busy_until moment }
 {
-    let over = running & (ends <= moment);
-    let falls = has_come(busy_until, moment);
-    !over & !falls
+    !has_come(ends, moment) & !has_come(busy_until, moment)
 }
 
 // BUSY high for `ns` nanoseconds from a moment on; nothing for 0.

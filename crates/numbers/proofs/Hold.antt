@@ -6,7 +6,8 @@ use Prim.Native.Nat.{ℕ, ◌^◌, ◌≤◌, ◌<◌, min}
 use native.Mathlib.Omega.{arith}
 use lib.Dec.{leb}
 use borrow.Author.Tests.{leb-true, leb-false}
-use lib.IntN.{ℤ, pos, neg_ℤ, ◌+ℤ◌}
+use lib.IntN.{ℤ, pos, negsuc, neg_ℤ, ◌+ℤ◌}
+use Rattle.std.specs.Int.{saturate_signed}
 use lib.Signed.{mag, lt_z, ◌≤ℤ◌}
 use mir.Syntax.{w64}
 use mir.Val.{SFits}
@@ -158,3 +159,24 @@ clamp_shift x lo hi k =
 pub clamp_wide : (z a b c d : ℤ) → Le a c → Le c d → Le d b → clamp_z (clamp_z z a b) c d ≡ clamp_z z c d
 clamp_wide z a b c d h k l =
     clamp_clamp z a b c d (omega whole) k ∙ (λ i. clamp_z z (clamp_low' a c d h k i) (clamp_high' b c d l k i))
+
+-- the library's saturation
+pub saturated_is : (z : ℤ) → saturate_signed w64 z ≡ sat_z z
+saturated_is (pos n) = by (leb n (largest 63)) refl
+  where
+    by : (t : Bool) → leb n (largest 63) ≡ t → saturate_signed w64 (pos n) ≡ sat_z (pos n)
+    by true e =
+        let l = leb-true n (largest 63) e in
+        ap pos (omega arith) ∙ sym (clamp_mid (pos n) least most (omega whole) (omega whole))
+    by false e =
+        let l = leb-false n (largest 63) e in
+        ap pos (omega arith) ∙ sym (clamp_high (pos n) least most (omega whole) (omega whole))
+saturated_is (negsuc n) = by (leb n (largest 63)) refl
+  where
+    by : (t : Bool) → leb n (largest 63) ≡ t → saturate_signed w64 (negsuc n) ≡ sat_z (negsuc n)
+    by true e =
+        let l = leb-true n (largest 63) e in
+        ap negsuc (omega arith) ∙ sym (clamp_mid (negsuc n) least most (omega whole) (omega whole))
+    by false e =
+        let l = leb-false n (largest 63) e in
+        ap negsuc (omega arith) ∙ sym (clamp_low (negsuc n) least most (omega whole))

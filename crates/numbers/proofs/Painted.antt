@@ -8,7 +8,7 @@ use Prim.Native.Nat.{ℕ, zero, suc, ◌+◌, ◌<◌, ◌≤◌, zero-le, suc-l
 use native.Mathlib.Nat.{not-suc-le-zero, le_of_suc-le-suc}
 use native.Mathlib.Numerals.{add-one}
 use native.Mathlib.Omega.{arith}
-use lib.ListN.{length, set, drop, get_or, length-set}
+use lib.ListN.{length, set, drop, get_or, length-set, replicate}
 use lib.Seq.{drop-nil}
 use Rattle.numbers.specs.Lists.{tab}
 
@@ -130,3 +130,9 @@ module _ {A : Type 0} where
   -- the same count, written otherwise
   pub painted_at : {n k : ℕ} {f : ℕ → A} {d s : List A} → Painted n f d s → n ≡ k → Painted k f d s
   painted_at {n} {k} {f} {d} {s} p e = subst (λ (j : ℕ). Painted j f d s) e p
+
+-- the same at each place
+pub tab_same : {A : Type 0} (n : ℕ) (a : A) → replicate n a ≡ tab n (λ _. a)
+unfolding tab
+tab_same zero a = refl
+tab_same {A} (suc n) a = ap (λ (l : List A). a ∷ l) (tab_same n a)

@@ -1,23 +1,9 @@
 -- Products of natural numbers against a bound, and quotients taken without the product that they are of.
 -- Assumes nothing.
-use mathlib.Core.Path.{◌≡◌, refl, sym, ap, subst⁻¹, ◌∙◌}
-use Prim.Native.Nat.{ℕ, zero, suc, ◌+◌, ◌*◌, ◌-◌, ◌/◌, ◌%◌, ◌^◌, ◌≤◌, ◌<◌}
+use mathlib.Core.Path.{◌≡◌, refl, sym, ap, ◌∙◌}
+use Prim.Native.Nat.{ℕ, zero, suc, ◌+◌, ◌*◌, ◌-◌, ◌/◌, ◌%◌, ◌≤◌, ◌<◌}
 use native.Mathlib.Omega.{arith}
-use lib.Pow.{pow_pos, pow-add}
-use native.Mathlib.Nat.{lt_of_le_of_lt, le_of_lt, mul-lt-mul_of_pos_right, le-div_iff_mul-le, div-add-mod, add-mul, mul-add, mul_assoc, mul_comm, mul_left_comm, one-mul, zero-mul, mul-le-mul, mul-le-mul_left, mod-lt, div-lt_iff_lt-mul, div-eq_of_lt-le, div-div-eq-div-mul, add-div_right}
-
--- two factors of k bits make a product of k + k
-pub mul_below : (k : ℕ) {a b : ℕ} → a < 2 ^ k → b < 2 ^ k → a * b < 2 ^ (k + k)
-mul_below k {a} {b} ha hb =
-    subst⁻¹ (λ (n : ℕ). a * b < n) (pow-add 2 k k)
-    (lt_of_le_of_lt (mul-le-mul_left a (le_of_lt hb)) (mul-lt-mul_of_pos_right ha (pow_pos k)))
-
--- the quotient of a bound tells whether a product passes it
-pub mul_within : (a b bound : ℕ) → 0 < b → a ≤ bound / b → a * b ≤ bound
-mul_within a b bound h l = (le-div_iff_mul-le {k = b} h).0 l
-
-pub mul_past : (a b bound : ℕ) → 0 < b → bound / b < a → bound < a * b
-mul_past a b bound h l = (div-lt_iff_lt-mul {k = b} h).0 l
+use native.Mathlib.Nat.{div-add-mod, add-mul, mul-add, mul_assoc, mul_comm, mul_left_comm, one-mul, zero-mul, mul-le-mul, mul-le-mul_left, mod-lt, div-lt_iff_lt-mul, div-eq_of_lt-le, div-div-eq-div-mul, add-div_right}
 
 -- s × g, with s split by k
 pub split_mul : (s g k : ℕ) → s * g ≡ k * (s / k * g) + s % k * g

@@ -1,20 +1,10 @@
 // Whole numbers of fixed width that stop at their ends, as the reference's saturating_add, saturating_mul, saturating_neg, clamp, min and max do.
 #![tactic(auto)]
 
-ghost use Rattle.std.specs.Prelude.{◌≡◌, ◌+◌, ◌-◌, ◌*◌, ◌%◌, min, max, pos, ◌+ℤ◌, ◌*ℤ◌, neg_ℤ, nat_abs};
-ghost use Rattle.std.specs.Int.Signed.{lt_z};
-ghost use Rattle.numbers.specs.Saturation.{largest, clamp_z, sat_z};
-
-const LARGEST: u64 = 18446744073709551615;
+ghost use Rattle.std.specs.Prelude.{◌≡◌, ◌%◌, pos, ◌+ℤ◌, ◌*ℤ◌, neg_ℤ};
+ghost use Rattle.numbers.specs.Saturation.{clamp_z, sat_z};
 
 const LARGEST_I64: u64 = 9223372036854775807;
-
-// A byte, wider.
-pub fn wide(byte: u8) -> u64
-    ensures { result ≡ byte }
-{
-    byte as u64
-}
 
 // The low four bits of a byte.
 pub fn low_nibble(byte: u8) -> u8
@@ -23,59 +13,8 @@ pub fn low_nibble(byte: u8) -> u8
     byte & 0x0F
 }
 
-// Whether a number lies below 0.
-pub fn is_negative(z: i64) -> bool
-    ensures { result ≡ lt_z z (pos 0) }
-{
-    z < 0
-}
-
-pub fn min_u64(a: u64, b: u64) -> u64
-    ensures { result ≡ min a b }
-{
-    if a < b { a } else { b }
-}
-
-pub fn max_u64(a: u64, b: u64) -> u64
-    ensures { result ≡ max a b }
-{
-    if a < b { b } else { a }
-}
-
-pub fn saturating_add_u16(a: u16, b: u16) -> u16
-    ensures { result ≡ min (a + b) (largest 16) }
-{
-    if b <= 65535 - a { a + b } else { 65535 }
-}
-
-pub fn saturating_add_u64(a: u64, b: u64) -> u64
-    ensures { result ≡ min (a + b) (largest 64) }
-{
-    if b <= LARGEST - a { a + b } else { LARGEST }
-}
-
-// ℕ's difference stops at 0 too.
-pub fn saturating_sub_u64(a: u64, b: u64) -> u64
-    ensures { result ≡ a - b }
-{
-    if a < b { 0 } else { a - b }
-}
-
-// Two factors of 32 bits, the usual case, take no division.
-pub fn saturating_mul_u64(a: u64, b: u64) -> u64
-    ensures { result ≡ min (a * b) (largest 64) }
-{
-    if a < 4294967296 {
-        if b < 4294967296 {
-            return a * b;
-        }
-    }
-    if b == 0 {
-        return 0;
-    }
-    if LARGEST / b < a { LARGEST } else { a * b }
-}
-
+// This function and those below stand where the library has its own: the definitions of the glass speak of `clamp_z`, and each caller would
+// need the bridge that stands here once.
 pub fn clamp_i64(x: i64, lo: i64, hi: i64) -> i64
     ensures { result ≡ clamp_z x lo hi }
 {
@@ -103,17 +42,6 @@ pub fn negative_i64(n: u64) -> i64
     }
 }
 
-// How far a number is from 0.
-pub fn magnitude_i64(a: i64) -> u64
-    ensures { result ≡ nat_abs a }
-{
-    if a < 0 {
-        (-(a + 1)) as u64 + 1
-    } else {
-        a as u64
-    }
-}
-
 pub fn saturating_add_i64(a: i64, b: i64) -> i64
     ensures { result ≡ sat_z (a +ℤ b) }
 {
@@ -135,7 +63,9 @@ pub fn saturating_neg_i64(a: i64) -> i64
 pub fn saturating_mul_i64(a: i64, b: i64) -> i64
     ensures { result ≡ sat_z (a *ℤ b) }
 {
-    let product = saturating_mul_u64(magnitude_i64(a), magnitude_i64(b));
+    let first = a.unsigned_abs();
+    let second = b.unsigned_abs();
+    let product = first.saturating_mul(second);
     if a < 0 {
         if b < 0 {
             to_i64(product)

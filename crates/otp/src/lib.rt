@@ -2,7 +2,7 @@
 // entry: mode, provenance, lower and upper bound as registers, high byte first, and the 112 bytes of the setting (config.rs).
 #![tactic(auto)]
 
-ghost use Rattle.std.specs.Prelude.{◌≡◌, [], ◌∷◌, ◌+◌, ◌*◌, ◌<◌, length, get_or};
+ghost use Rattle.std.specs.Prelude.{◌≡◌, [], ◌∷◌, ◌+◌, ◌*◌};
 ghost use Rattle.config.specs.Answer.{first_of, answer_of};
 ghost use Rattle.config.specs.Temperature.{sixteenths_of};
 ghost use Rattle.otp.specs.Table.{entry_count, bad_entry, bad_table, table_test};
@@ -16,32 +16,28 @@ pub const ENTRY_BYTES: usize = 118;
 // By SCOPE, OTP table (#106).
 pub const MOST_ENTRIES: usize = 64;
 
-// Two bytes of the table, high first.
-fn pair(otp: &[u8], at: usize) -> u16
-    requires { at + 1 < length otp.now }
-    ensures { result ≡ get_or otp.now at 0 * 256 + get_or otp.now (at + 1) 0 }
+// Two bytes, high first.
+fn pair(high: u8, low: u8) -> u16
+    ensures { result ≡ high * 256 + low }
 {
-    otp[at] as u16 * 256 + otp[at + 1] as u16
+    u16::from(high) * 256 + u16::from(low)
 }
 
-fn bad_entry(otp: &[u8], entry: usize) -> bool
-    requires { entry < entry_count otp.now }
-    ensures { result ≡ bad_entry otp.now entry }
+fn bad_entry(entry: &[u8; ENTRY_BYTES]) -> bool
+    ensures { result ≡ bad_entry entry.now 0 }
 {
-    let at = ENTRY_BYTES * entry;
-    let lower = pair(otp, at + 2);
-    let upper = pair(otp, at + 4);
-    (1 < otp[at]) | (1 < otp[at + 1]) | (4095 < lower) | (4095 < upper)
+    let lower = pair(entry[2], entry[3]);
+    let upper = pair(entry[4], entry[5]);
+    (1 < entry[0]) | (1 < entry[1]) | (4095 < lower) | (4095 < upper)
 }
 
 fn any_bad_entry(otp: &[u8]) -> bool
     ensures { result ≡ any_of (bad_entry otp.now) (entry_count otp.now) }
 {
-    let entries = otp.len() / ENTRY_BYTES;
+    let (entries, _) = otp.as_chunks::<ENTRY_BYTES>();
     let mut bad = false;
-    for entry in 0..entries {
-        let one = bad_entry(otp, entry);
-        bad = bad | one;
+    for entry in entries {
+        bad |= bad_entry(entry);
     }
     bad
 }
@@ -90,23 +86,23 @@ fn reaches_down(lower: u16, register: u16) -> bool
 }
 
 // Whether the entry is of the mode and its range holds the register's temperature.
-fn covers_register(otp: &[u8], mode: DisplayMode, register: u16, entry: usize) -> bool
-    requires { entry < entry_count otp.now }
-    ensures { result ≡ covers otp.now mode register entry }
+fn covers_register(entry: &[u8; ENTRY_BYTES], mode: DisplayMode, register: u16) -> bool
+    ensures { result ≡ covers entry.now mode register 0 }
 {
-    let at = ENTRY_BYTES * entry;
     let byte = mode as u8;
-    let reached = reaches_down(pair(otp, at + 2), register);
-    let upper = sixteenths_of(pair(otp, at + 4));
+    let reached = reaches_down(pair(entry[2], entry[3]), register);
+    let upper = sixteenths_of(pair(entry[4], entry[5]));
     let temperature = sixteenths_of(register);
-    (otp[at] == byte) & reached & (temperature <= upper)
+    (entry[0] == byte) & reached & (temperature <= upper)
 }
 
+// By their numbers, since that of the last one is what is asked for.
 fn last_covering(otp: &[u8], mode: DisplayMode, register: u16) -> Option<usize>
     ensures { result ≡ last_of (covers otp.now mode register) (entry_count otp.now) }
 {
-    for entry in (0..otp.len() / ENTRY_BYTES).rev() {
-        if covers_register(otp, mode, register, entry) {
+    let (entries, _) = otp.as_chunks::<ENTRY_BYTES>();
+    for entry in (0..entries.len()).rev() {
+        if covers_register(&entries[entry], mode, register) {
             return Some(entry);
         }
     }

@@ -49,7 +49,7 @@ pub record Finishable (periods : List ℕ) (swing : ℤ) (states : List ℤ) (lu
 abbrev pub setting_transfer : List ℕ → List ℕ → Drive → ℤ → Bool → Option ℕ → Transfer
 setting_transfer s p = transfer_of (waveform_of s p)
 
--- that of the 112 bytes which the running refresh kept
+-- that of the 112 bytes which the refresh kept
 unfoldable pub transfer_by : Ending → ℤ → Drive → Transfer
 transfer_by e swing drive = setting_transfer e.display.setting e.periods drive swing e.black e.until
 

@@ -3,6 +3,7 @@
 
 ghost use Rattle.std.specs.Prelude.{◌≡◌};
 ghost use Rattle.panel.specs.Border.{border_drive};
+ghost use Rattle.panel.specs.End.{display_end};
 
 use glass::{PanelImage, RefreshKind};
 use waveform::Drive;
@@ -13,8 +14,6 @@ pub const UNDRIVEN: u8 = 255;
 // A display in progress. Its chosen LUTs are a lent buffer; the setting is the one that it began with.
 #[derive(Clone, Copy)]
 pub struct Display {
-    // After an end, a cut or a drop this falls and the rest stays.
-    pub running: bool,
     // When driving starts, and when it ends, in cycles of the time base.
     pub started: u64,
     pub ends: u64,
@@ -22,6 +21,13 @@ pub struct Display {
     pub setting: [u8; 112],
     // The border register (0x3C) that it began with.
     pub border: u8,
+}
+
+// When the display in progress ends, if there is one.
+pub fn end_of(display: Option<Display>) -> Option<u64>
+    ensures { result ≡ display_end display }
+{
+    display.map(|display| display.ends)
 }
 
 // The glass but for its lent buffers.

@@ -7,6 +7,7 @@ ghost use Rattle.counts.specs.Counts.{picture};
 ghost use Rattle.panel.specs.Start.{fresh, panel_at_power_on, power_on};
 
 use config::PanelGeometry;
+use counts::Counts;
 use glass::{Optics, PanelImage, RefreshKind};
 use panel::{Panel, UNDRIVEN};
 
@@ -48,10 +49,9 @@ pub fn new(
     states: &mut [i64],
     luts: &mut [u8],
     pixels: &mut [u8],
-    counts: &mut [u32],
+    counts: &mut Counts,
 ) -> Panel
     requires bound { 1 ≤ optics.full_swing }
-    requires counts_len { length counts.old ≡ 256 }
     requires pixels_len_bound { length pixels.old < 2 ^ 32 }
     ensures { fresh result states.new luts.new (picture pixels.new counts.new) ≡ power_on geometry optics (length states.old) (length luts.old) (length pixels.old) }
 {
@@ -59,7 +59,7 @@ pub fn new(
     let gray = glass::gray(panel.border, panel.swing);
     fill_states(&mut states[..], panel.border);
     ram::fill(&mut luts[..], UNDRIVEN);
-    counts::fill(&mut counts[..], gray, pixels.len() as u32);
+    counts::fill(counts, gray, pixels.len() as u32);
     ram::fill(&mut pixels[..], gray);
     panel
 }

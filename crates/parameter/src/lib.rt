@@ -10,10 +10,10 @@ ghost use Rattle.acts.specs.Reserved.{checked};
 ghost use Rattle.parameter.specs.Parameter.{register_taken, writing, auto_taken, parameter_taken};
 
 use device::{Ssd1677, part};
+use diagnostic::Log;
 
 // 30 unless the byte is listed, by the registers as they are.
-fn check_listed(state: Ssd1677, log: &mut [u8], command: u8, index: u16, byte: u8) -> Ssd1677
-    requires { length log.old ≡ 16384 }
+fn check_listed(state: Ssd1677, log: &mut Log, command: u8, index: u16, byte: u8) -> Ssd1677
     ensures { with_log result log.new ≡ checked (listed state.regs command index byte) command byte (with_log state log.old) }
 {
     let is_listed = listed::is_listed(state.regs, command, index, byte);
@@ -21,8 +21,7 @@ fn check_listed(state: Ssd1677, log: &mut [u8], command: u8, index: u16, byte: u
 }
 
 // A register's byte is stored whether or not it is listed.
-fn register_byte(state: Ssd1677, log: &mut [u8], command: u8, index: u16, byte: u8) -> Ssd1677
-    requires { length log.old ≡ 16384 }
+fn register_byte(state: Ssd1677, log: &mut Log, command: u8, index: u16, byte: u8) -> Ssd1677
     ensures { with_log result log.new ≡ register_taken command index byte (with_log state log.old) }
 {
     let regs = store::store(state.regs, command, index, byte);
@@ -44,11 +43,10 @@ fn auto_write(
     state: Ssd1677,
     black_white: &mut [u8],
     red: &mut [u8],
-    log: &mut [u8],
+    log: &mut Log,
     command: u8,
     byte: u8,
 ) -> Ssd1677
-    requires { length log.old ≡ 16384 }
     ensures { with_ram result black_white.new red.new log.new ≡ auto_taken command byte (with_ram state black_white.old red.old log.old) }
 {
     if command == 0x46 {
@@ -66,12 +64,11 @@ pub fn parameter(
     state: Ssd1677,
     black_white: &mut [u8],
     red: &mut [u8],
-    log: &mut [u8],
+    log: &mut Log,
     command: u8,
     index: u16,
     byte: u8,
 ) -> Ssd1677
-    requires { length log.old ≡ 16384 }
     ensures { with_ram result black_white.new red.new log.new ≡ parameter_taken command index byte (with_ram state black_white.old red.old log.old) }
 {
     match command {

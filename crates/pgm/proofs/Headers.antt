@@ -1,6 +1,7 @@
 -- The size's range as bounds, and the length of a header. Assumes nothing.
-use mathlib.Core.Path.{◌≡◌, ap, ◌∙◌}
+use mathlib.Core.Path.{◌≡◌, ◌∙◌}
 use mathlib.Core.Bool.{Bool, true, false, ◌&&◌}
+use mathlib.Core.List.{List}
 use Prim.Native.Nat.{ℕ, ◌+◌, ◌*◌, ◌≤◌}
 use native.Mathlib.Nat.{mul-le-mul}
 use native.Mathlib.Omega.{arith}
@@ -9,9 +10,9 @@ use lib.ListN.{length, length-append}
 use borrow.Author.Tests.{leb-true}
 use Rattle.numbers.specs.Choice.{pick}
 use Rattle.numbers.proofs.Cases.{left, right}
-use Rattle.column.specs.Columns.{Buffer, appended, natural}
-use Rattle.column.proofs.Columns.{column_length}
-use Rattle.pgm.specs.Form.{in_range, digit_count, decimal, pgm_header}
+use Rattle.column.specs.Columns.{gathered, natural}
+use Rattle.column.proofs.Symbols.{column_length}
+use Rattle.pgm.specs.Form.{in_range, digit_count, decimal, pgm_header, header_bytes}
 
 -- what a size in range is
 pub record Ranged (w h : ℕ) : Type 0 where
@@ -46,9 +47,9 @@ digits_few n = go (leb 100 n) (leb 10 n)
     go false false = (omega arith, omega arith)
 
 -- a column just as wide as its number has digits
-pub in_decimal : (before : Buffer) {after : Buffer} {width : ℕ} (n : ℕ) → after ≡ appended before (natural width n) → width ≡ digit_count n
-    → after ≡ appended before (decimal n)
-in_decimal before n e w = e ∙ ap (λ (k : ℕ). appended before (natural k n)) w
+pub in_decimal : (before : List ℕ) {after : List ℕ} {width m : ℕ} (n : ℕ) → after ≡ gathered header_bytes before (natural width m) → width ≡ digit_count n → m ≡ n
+    → after ≡ gathered header_bytes before (decimal n)
+in_decimal before n e w f = e ∙ (λ i. gathered header_bytes before (natural (w i) (f i)))
 
 module _ (w h : ℕ) where
   pub header_length : length (pgm_header w h) ≡ 9 + digit_count w + digit_count h

@@ -33,6 +33,10 @@ maxval = 10 ∷ 50 ∷ 53 ∷ 53 ∷ 10 ∷ []
 unfoldable pub pgm_header : ℕ → ℕ → List ℕ
 pgm_header w h = magic ++ size_text w h ++ maxval
 
+-- bytes of the longest
+abbrev pub header_bytes : ℕ
+header_bytes = 15
+
 -- the file of a picture: its header, and its pixels row by row from the top, a grey byte each
 abbrev pub pgm_file : ℕ → ℕ → List ℕ → List ℕ
 pgm_file w h pixels = pgm_header w h ++ pixels

@@ -39,7 +39,7 @@ fn with_digit(file: &[u8], number: Number) -> Number
     let at = number.end;
     let byte = byte_at(file, at);
     if (b'0' <= byte) & (byte <= b'9') {
-        let digit = (byte - b'0') as u16;
+        let digit = u16::from(byte - b'0');
         return Number {
             value: 10 * number.value + digit,
             end: at + 1,
@@ -85,8 +85,5 @@ pub(crate) fn is_header(file: &[u8], width: u16, height: u16) -> bool
     if !fine {
         return false;
     }
-    let mut bytes = [0u8; crate::HEADER_BYTES];
-    header::put(&mut bytes, width, height);
-    let length = header::byte_count(width, height);
-    starts_with(file, &bytes[..length])
+    starts_with(file, header::text_of(width, height).text())
 }

@@ -24,13 +24,15 @@ pub enum PgmError {
 }
 
 // The request's number.
-pub fn number(error: PgmError) -> u8
-    ensures { result ≡ pgm_number error }
-{
-    match error {
-        PgmError::Form => 71,
-        PgmError::Count => 72,
-        PgmError::Room => 73,
+impl From<PgmError> for u8 {
+    ghost from_gives = { λ error made. made ≡ pgm_number error };
+
+    fn from(error: PgmError) -> u8 {
+        match error {
+            PgmError::Form => 71,
+            PgmError::Count => 72,
+            PgmError::Room => 73,
+        }
     }
 }
 

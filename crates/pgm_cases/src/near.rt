@@ -63,9 +63,15 @@ fn put_read(rt: &impl Print, file: &[u8], buffer: &mut [u8], room: usize) -> io:
 {
     let (number, width, height) = match pgm::read(file, &mut buffer[..room]) {
         Ok(size) => (0, size.width, size.height),
-        Err(error) => (pgm::number(error), 0, 0),
+        Err(error) => (u8::from(error), 0, 0),
     };
-    put_line(rt, number as u64, width as u64, height as u64, buffer)
+    put_line(
+        rt,
+        u64::from(number),
+        u64::from(width),
+        u64::from(height),
+        buffer,
+    )
 }
 
 // Buffers of 0 to 7 bytes for a picture of six.
@@ -81,7 +87,7 @@ pub fn put_rooms(rt: &impl Print, file: &[u8]) -> io::Result<()> {
 fn told(written: Result<usize, PgmError>) -> (u64, u64) {
     match written {
         Ok(length) => (0, length as u64),
-        Err(error) => (pgm::number(error) as u64, 0),
+        Err(error) => (u64::from(u8::from(error)), 0),
     }
 }
 

@@ -1,97 +1,73 @@
 // For each width a line: in how many heights a header is written, in how many a header of these numbers is read, and the hash of those written.
-ghost use Rattle.std.specs.Prelude.{◌+◌, ◌≤◌, length};
+ghost use Rattle.std.specs.Prelude.{◌≤◌};
 
+use column::Columns;
 use pgm::PgmError;
 use std::io;
 
 // Width and height go from 0 to this.
 const MOST: u16 = 1000;
 
-// How far the headers of a width reach, and whether those of one more height were written and read.
-#[derive(Clone, Copy)]
-struct Tried {
-    end: usize,
-    written: u64,
-    read: u64,
-}
+// The bytes of a header of numbers up to `MOST`.
+const HEADER_ROOM: usize = 17;
 
-// A number of up to four digits; answers the place past it.
-fn put_number(out: &mut [u8], at: usize, n: u16) -> usize
-    requires room { at + 4 ≤ length out.old }
-    ensures near { result ≤ at + 4 }
-{
-    if n < 10 {
-        return column::put(out, at, 1, false, n as u64);
+// The bytes of the headers of a width: of those that are written none is longer than `pgm::HEADER_BYTES`.
+const HEADERS_ROOM: usize = 15015;
+
+fn digits(n: u16) -> usize {
+    match n {
+        0..=9 => 1,
+        10..=99 => 2,
+        100..=999 => 3,
+        _ => 4,
     }
-    if n < 100 {
-        return column::put(out, at, 2, false, n as u64);
-    }
-    if n < 1000 {
-        return column::put(out, at, 3, false, n as u64);
-    }
-    column::put(out, at, 4, false, n as u64)
 }
 
 // The header of any two numbers in the form, whether or not they are a size in range.
-fn put_header(out: &mut [u8], width: u16, height: u16) -> usize
-    requires room { 17 ≤ length out.old }
-    ensures near { result ≤ 17 }
-{
-    byte_copy::copy(b"P5\n", out);
-    let width_end = put_number(out, 3, width);
-    let space_end = width_end + byte_copy::copy(b" ", &mut out[width_end..]);
-    let height_end = put_number(out, space_end, height);
-    height_end + byte_copy::copy(b"\n255\n", &mut out[height_end..])
+fn header(width: u16, height: u16) -> Columns<HEADER_ROOM> {
+    let mut header = Columns::new();
+    header.put_text(b"P5\n");
+    header.put_number(digits(width), u64::from(width));
+    header.put(b' ');
+    header.put_number(digits(height), u64::from(height));
+    header.put_text(b"\n255\n");
+    header
 }
 
 // A header alone has no pixels, so that 72 says that it is read.
 fn is_read(width: u16, height: u16) -> u64
     ensures few { result ≤ 1 }
 {
-    let mut text = [0u8; 17];
-    let end = put_header(&mut text, width, height);
     let mut pixels = [0u8; 1];
-    match pgm::read(&text[..end], &mut pixels) {
+    match pgm::read(header(width, height).text(), &mut pixels) {
         Err(PgmError::Count) => 1,
         _ => 0,
     }
 }
 
-// A height more: its header behind those before it.
-fn try_height(headers: &mut [u8], at: usize, width: u16, height: u16) -> Tried
-    requires room { at + 15 ≤ length headers.old }
-    ensures near { result.end ≤ at + 15 }
-    ensures few { (result.written ≤ 1) × (result.read ≤ 1) }
+// The header that is written behind those before it, if one is.
+fn put_header(headers: &mut Columns<HEADERS_ROOM>, width: u16, height: u16) -> u64
+    ensures few { result ≤ 1 }
 {
-    let read = is_read(width, height);
     let mut header = [0u8; pgm::HEADER_BYTES];
-    let Ok(length) = pgm::write_header(width, height, &mut header) else {
-        return Tried {
-            end: at,
-            written: 0,
-            read,
-        };
-    };
-    let end = at + byte_copy::copy(&header[..length], &mut headers[at..]);
-    Tried {
-        end,
-        written: 1,
-        read,
+    match pgm::write_header(width, height, &mut header) {
+        Ok(length) => {
+            headers.put_text(&header[..length]);
+            1
+        }
+        Err(_) => 0,
     }
 }
 
 fn put_width(rt: &impl Print, width: u16) -> io::Result<()> {
-    let mut headers = [0u8; 15015];
-    let mut end: usize = 0;
+    let mut headers = Columns::<HEADERS_ROOM>::new();
     let mut written: u64 = 0;
     let mut read: u64 = 0;
     for height in 0..=MOST {
-        let tried = try_height(&mut headers, end, width, height);
-        end = tried.end;
-        written += tried.written;
-        read += tried.read;
+        written += put_header(&mut headers, width, height);
+        read += is_read(width, height);
     }
-    let hash = hash::of_bytes(&headers[..end]);
+    let hash = hash::of_bytes(headers.text());
     println!(rt; "{written} {read} {hash}")
 }
 

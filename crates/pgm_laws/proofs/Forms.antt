@@ -6,7 +6,7 @@ use Prim.Native.Nat.{ℕ, ◌+◌}
 use native.Mathlib.Omega.{arith}
 use lib.ListN.{length, drop, length-append}
 use lib.Seq.{drop-append_seam}
-use Rattle.column.proofs.Columns.{column_length}
+use Rattle.column.proofs.Symbols.{column_length}
 use Rattle.pgm.specs.declared.form.Number.{Number}
 use Rattle.pgm.specs.declared.form.Size.{Size}
 use Rattle.pgm.specs.Form.{in_range, digit_count, decimal, magic, maxval, pgm_header, pgm_file, number_at, size_in, width_in, height_in, is_header_of, is_header, pixels_in}

@@ -7,11 +7,11 @@ use mathlib.Core.Bool.{Bool, true, false}
 use mathlib.Core.List.{List}
 use lib.IntN.{ℤ}
 use lib.ListN.{length}
-use Rattle.numbers.specs.Choice.{pick}
 use Rattle.glass.specs.declared.PanelImage.{PanelImage}
 use Rattle.config.specs.declared.PanelGeometry.{PanelGeometry}
 use Rattle.config.specs.declared.Ssd1677Config.{Ssd1677Config}
 use Rattle.config.specs.Answer.{is_accepted}
+use Rattle.panel.specs.declared.Display.{Display}
 use Rattle.panel.specs.Start.{panel_at_power_on}
 use Rattle.panel.specs.Finish.{finished, published}
 use Rattle.panel_laws.proofs.Exactly.{states_length, pixels_length}
@@ -21,10 +21,12 @@ use Rattle.device.specs.declared.Power.TheVariants.{Running, Asleep, InReset}
 use Rattle.device.specs.declared.Ssd1677.{Ssd1677}
 use Rattle.world.specs.World.{World, with_log, WithGlass, with_glass, WithGlassLog, with_ram, WithBuffers, Lent, lent_of, on, device_in_glass_log, log_in_glass_log, glass_in_glass_log, log_in_buffers, glass_in_world, glass_log_in_world, buffers_in_world}
 use Rattle.guard_lengths.specs.Lengths.{pixels_of}
-use Rattle.clock.specs.Advance.{is_over, clocked, quieted, glass_published, ending_of, glass_of, ended, advanced}
+use Rattle.clock.specs.Advance.{clocked, quieted, glass_published, ending_of, glass_of, advanced}
+use Rattle.clock.proofs.Arrived.{ended_holds}
 use Rattle.chip.specs.Close.{closed}
 use Rattle.chip.specs.Report.{logged}
-use Rattle.reset.specs.Reset.{restored, is_driving, display_cut, display_dropped, cut, in_reset, asserted, released, by_line}
+use Rattle.reset.specs.Reset.{restored, display_cut, in_reset, asserted, released, by_line}
+use Rattle.reset.proofs.Kept.{cut_holds}
 use Rattle.activation.specs.Activation.{run_settled, staged, staged_in, activated}
 use Rattle.begin.specs.Begin.{command_made, begun}
 use Rattle.begin_laws.proofs.Kept.{begun_keeps}
@@ -68,41 +70,27 @@ module _ (p : PanelGeometry) where
   SizedWorld w = SizedBy w.device w.states w.picture.pixels
 
   -- ---- the end of a display
-  finish_sized : (luts : List ℕ) (at : ℕ) (until : Option ℕ) (g : WithGlass) → SizedGlass g
-      → SizedGlass (glass_published g (finished (ending_of g.device at until) luts (glass_of g)))
+  finish_sized : (luts : List ℕ) (display : Display) (at : ℕ) (until : Option ℕ) (g : WithGlass) → SizedGlass g
+      → SizedGlass (glass_published g (finished (ending_of g.device display at until) luts (glass_of g)))
   unfolding finished published
-  finish_sized luts at until g h =
+  finish_sized luts display at until g h =
       let states = states_length _ luts g.states ∙ h.states_long in
       record { panel = h.panel; wide = h.wide; high = h.high; states_long = states; pixels_long = pixels_length _ _ ∙ states }
 
   advance_sized : (luts : List ℕ) (time : ℕ) (g : WithGlass) → SizedGlass g → SizedGlass (advanced luts time g)
-  unfolding advanced ended
-  advance_sized luts time g h = by (is_over (clocked time g).device)
-    where
-      x : WithGlass
-      x = clocked time g
-
-      by : (b : Bool) → SizedGlass (quieted (pick b (glass_published x (finished (ending_of x.device x.device.display.ends None) luts (glass_of x))) x))
-      by true = finish_sized luts x.device.display.ends None x h
-      by false = h
+  unfolding advanced
+  advance_sized luts time g h =
+      let x = clocked time g in
+      ended_holds (λ (y : WithGlass). SizedGlass (quieted y)) luts x (λ display. finish_sized luts display display.ends None x h) h
 
   -- ---- the reset line
   asserted_sized : (luts : List ℕ) (w : WithGlassLog) → SizedLog w → SizedLog (asserted luts w)
-  unfolding asserted in_reset restored cut display_cut closed logged
-  asserted_sized luts w h = by (is_driving w.device)
-    where
-      c : WithGlassLog
-      c = on log_in_glass_log closed w
-
-      fallen : Bool → WithGlassLog
-      fallen b =
-          on device_in_glass_log in_reset
-          (on device_in_glass_log restored
-          (pick b (on glass_in_glass_log (display_cut luts) (on log_in_glass_log (logged ResetDuringDisplay) c)) (on device_in_glass_log display_dropped c)))
-
-      by : (b : Bool) → SizedLog (fallen b)
-      by true = finish_sized luts _ _ (glass_in_glass_log.get (on log_in_glass_log (logged ResetDuringDisplay) c)) h
-      by false = h
+  unfolding asserted in_reset restored display_cut closed logged
+  asserted_sized luts w h =
+      let c = on log_in_glass_log closed w in
+      cut_holds (λ (v : WithGlassLog). SizedLog (on device_in_glass_log in_reset (on device_in_glass_log restored v))) luts c
+      (λ display is. finish_sized luts display _ _ (glass_in_glass_log.get (on log_in_glass_log (logged ResetDuringDisplay) c)) h)
+      h (λ is. h)
 
   line_sized : (luts : List ℕ) (low : Bool) (w : WithGlassLog) (power : Power) → SizedLog w → SizedLog (by_line luts low w power)
   unfolding by_line released

@@ -54,15 +54,22 @@ module _ (c : Ssd1677Config) (otp : List ℕ) (l : Lengths) (passes : is_accepte
 
 -- what the chip is set up with
 pub ready : (c : Ssd1677Config) (otp : List ℕ) (b : Buffers) (l : Lengths) (x : Answer) → l ≡ lengths_in b → x ≡ first_of (all_tests c otp l) → is_accepted x ≡ true
-    → (1 ≤ c.optics.full_swing) × Scanned c.panel.native_scan c.panel.height × (length b.gates ≡ c.panel.height)
-    × (length b.picture.counts ≡ 256) × (length b.picture.pixels < 2 ^ 32)
+    → (1 ≤ c.optics.full_swing) × Scanned c.panel.native_scan c.panel.height × (length b.gates ≡ c.panel.height) × (length b.picture.pixels < 2 ^ 32)
 ready c otp b l x is told ok =
     let passes = ap is_accepted (sym told) ∙ ok in (
       full_swing c otp l passes,
       scanned c otp l passes,
       (lengths c otp l passes).gates (length b.gates) (ap (λ (z : Lengths). z.gates) is),
-      ap (λ (z : Lengths). z.counts) (sym is) ∙ counted c otp l passes,
       subst (λ (z : Lengths). z.pixels < 2 ^ 32) is (few c otp l passes),
+    )
+
+-- the table of counts and the log of an accepted start
+pub ready_arrays : (c : Ssd1677Config) (otp : List ℕ) (b : Buffers) (l : Lengths) (x : Answer) → l ≡ lengths_in b → x ≡ first_of (all_tests c otp l) → is_accepted x ≡ true
+    → (length b.picture.counts ≡ 256) × (length b.log ≡ 16384)
+ready_arrays c otp b l x is told ok =
+    let passes = ap is_accepted (sym told) ∙ ok in (
+      ap (λ (z : Lengths). z.counts) (sym is) ∙ counted c otp l passes,
+      (lengths c otp l passes).log (length b.log) (ap (λ (z : Lengths). z.log) is),
     )
 
 -- ---- the chip and its buffers at power-on are left

@@ -15,7 +15,6 @@ use Rattle.otp.specs.Table.{start_tests}
 use Rattle.gates.specs.Gates.{gates_stored}
 use Rattle.gates_laws.specs.OneToOne.{Scanned}
 use Rattle.gates_laws.proofs.OneToOne.{gates_table}
-use Rattle.panel.specs.declared.Display.{Display}
 use Rattle.panel.specs.declared.Panel.{Panel}
 use Rattle.panel.specs.Start.{Fresh, power_on}
 use Rattle.device.specs.declared.Registers.{Registers}
@@ -27,7 +26,7 @@ use Rattle.guard_lengths.specs.declared.Lengths.{Lengths}
 use Rattle.guard_lengths.specs.Lengths.{lengths_fit, counts_fit}
 use Rattle.power_on.specs.declared.StartError.{StartError}
 use Rattle.power_on.specs.declared.StartError.TheVariants.{Parameters, Buffer, Counts}
-use Rattle.power_on.specs.Start.{buffer_test, counts_test, all_tests, start_refused_by, start_answer_of, no_display, chip_with, powered_on, chip_in, Buffers, buffers, lengths_in, Clean, clean, cleared, filled, powered, powered_up, start, started}
+use Rattle.power_on.specs.Start.{buffer_test, counts_test, all_tests, start_refused_by, start_answer_of, chip_with, powered_on, chip_in, Buffers, buffers, lengths_in, Clean, clean, cleared, filled, powered, powered_up, start, started}
 
 -- ---- the tests
 module _ (p : PanelGeometry) (l : Lengths) (fit : Bool) (is : fit ≡ lengths_fit p l) where
@@ -75,7 +74,7 @@ refused_all Buffer = refl
 refused_all Counts = refl
 
 -- ---- what is set up
-pub chips : (c : Ssd1677Config) (p : Panel) (r : Registers) (d : Display) → r ≡ reset_of c.user_id → d ≡ no_display
+pub chips : (c : Ssd1677Config) (p : Panel) (r : Registers) → r ≡ reset_of c.user_id
     → record {
       config = c;
       now = 0;
@@ -85,11 +84,11 @@ pub chips : (c : Ssd1677Config) (p : Panel) (r : Registers) (d : Display) → r 
       analog = false;
       status = record { hv_not_ready = false; vci_low = false };
       panel = p;
-      display = d;
+      display = None;
       journal = record { count = 0; dropped = 0; reserved_reported = false };
     }
     ≡ chip_with c p
-chips c p r d e f = rw (e, f)
+chips c p r e = rw e
 
 pub clears : (n m k : ℕ) (b r l : List ℕ) → b ≡ tab n (λ _. 0) → r ≡ tab m (λ _. 0) → l ≡ tab k (λ _. 0) → clean b r l ≡ cleared n m k
 unfolding cleared

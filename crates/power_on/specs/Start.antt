@@ -9,7 +9,6 @@ use Rattle.config.specs.Answer.{Answer, accepted, refused, is_accepted, Test, fi
 use Rattle.otp.specs.Table.{start_tests}
 use Rattle.gates_laws.specs.OneToOne.{gate_of_row}
 use Rattle.counts.specs.Counts.{Picture}
-use Rattle.panel.specs.declared.Display.{Display}
 use Rattle.panel.specs.declared.Panel.{Panel}
 use Rattle.panel.specs.Start.{panel_at_power_on, power_on}
 use Rattle.device.specs.declared.Power.TheVariants.{Running}
@@ -70,10 +69,6 @@ abbrev pub refusal_of : Answer → StartRefusal
 refusal_of accepted = record { number = 0; value = 0 }
 refusal_of (refused number value) = record { number = number; value = value }
 
--- no display has been started
-abbrev pub no_display : Display
-no_display = record { running = false; started = 0; ends = 0; kind = PowerOn; setting = replicate 112 0; border = 0 }
-
 -- the chip with its supplies off, no command and nothing reported, behind a glass
 abbrev pub chip_with : Ssd1677Config → Panel → Ssd1677
 chip_with c panel =
@@ -86,7 +81,7 @@ chip_with c panel =
       analog = false;
       status = record { hv_not_ready = false; vci_low = false };
       panel = panel;
-      display = no_display;
+      display = None;
       journal = record { count = 0; dropped = 0; reserved_reported = false };
     }
 

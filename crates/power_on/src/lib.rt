@@ -6,14 +6,15 @@ ghost use Rattle.config.specs.Answer.{first_of, refused_by};
 ghost use Rattle.gates_laws.specs.OneToOne.{Scanned};
 ghost use Rattle.counts.specs.Counts.{picture};
 ghost use Rattle.power_on.specs.declared.StartError.TheVariants.{Parameters};
-ghost use Rattle.power_on.specs.Start.{all_tests, start_refused_by, start_answer_of, no_display, chip_with, unstarted, chip_in, clean, cleared, buffers, powered, powered_up, start, started, refusal_of};
+ghost use Rattle.power_on.specs.Start.{all_tests, start_refused_by, start_answer_of, chip_with, unstarted, chip_in, clean, cleared, buffers, powered, powered_up, start, started, refusal_of};
 
 use config::{ConfigError, Ssd1677Config};
+use counts::Counts;
 use device::{Bus, Current, Power, Ssd1677, Status};
-use diagnostic::Journal;
+use diagnostic::{Journal, Log};
 use glass::{PanelImage, RefreshKind};
 use guard_lengths::Lengths;
-use panel::{Display, Panel};
+use panel::Panel;
 
 // Why a start was refused.
 #[derive(Clone, Copy)]
@@ -114,20 +115,6 @@ fn check(config: Ssd1677Config, otp: &[u8], lengths: Lengths) -> Result<(), Star
     Ok(())
 }
 
-// No display has been started.
-fn no_display() -> Display
-    ensures { result ≡ no_display }
-{
-    Display {
-        running: false,
-        started: 0,
-        ends: 0,
-        kind: RefreshKind::PowerOn,
-        setting: [0u8; 112],
-        border: 0,
-    }
-}
-
 // Supplies off, no command, nothing reported.
 fn chip_with(config: Ssd1677Config, panel: Panel) -> Ssd1677
     ensures { result ≡ chip_with config panel }
@@ -148,7 +135,6 @@ fn chip_with(config: Ssd1677Config, panel: Panel) -> Ssd1677
         dropped: 0,
         reserved_reported: false,
     };
-    let display = no_display();
     Ssd1677 {
         config,
         now: 0,
@@ -158,7 +144,7 @@ fn chip_with(config: Ssd1677Config, panel: Panel) -> Ssd1677
         analog: false,
         status,
         panel,
-        display,
+        display: None,
         journal,
     }
 }
@@ -186,7 +172,7 @@ pub fn unstarted(config: Ssd1677Config) -> Ssd1677
 }
 
 // ASSUMPTION: the RAM reads 0 at power-on; the datasheet leaves it undefined (mod.rs).
-fn clear(black_white: &mut [u8], red: &mut [u8], log: &mut [u8])
+fn clear(black_white: &mut [u8], red: &mut [u8], log: &mut Log)
     ensures { clean black_white.new red.new log.new ≡ cleared (length black_white.old) (length red.old) (length log.old) }
 {
     ram::fill(&mut black_white[..], 0x00);
@@ -200,13 +186,13 @@ fn power_up(
     states: &mut [i64],
     luts: &mut [u8],
     pixels: &mut [u8],
-    counts: &mut [u32],
+    counts: &mut Counts,
     black_white: &mut [u8],
     red: &mut [u8],
     gates: &mut [u16],
-    log: &mut [u8],
+    log: &mut Log,
 ) -> Ssd1677
-    requires { (1 ≤ config.optics.full_swing) × Scanned config.panel.native_scan config.panel.height × (length gates.old ≡ config.panel.height) × (length counts.old ≡ 256) × (length pixels.old < 2 ^ 32) }
+    requires { (1 ≤ config.optics.full_swing) × Scanned config.panel.native_scan config.panel.height × (length gates.old ≡ config.panel.height) × (length pixels.old < 2 ^ 32) }
     ensures { powered result (buffers states.new luts.new (picture pixels.new counts.new) black_white.new red.new gates.new log.new) ≡ powered_up config (buffers states.old luts.old (picture pixels.old counts.old) black_white.old red.old gates.old log.old) }
 {
     let panel = panel_start::new(config.panel, config.optics, states, luts, pixels, counts);
@@ -242,6 +228,13 @@ pub fn new(
         gates.len(),
     );
     check(config, otp, lengths)?;
+    // The test has seen both lengths.
+    let Some(counts) = counts.as_mut_array() else {
+        return Err(StartError::Counts);
+    };
+    let Some(log) = log.as_mut_array() else {
+        return Err(StartError::Buffer);
+    };
     Ok(power_up(
         config,
         states,

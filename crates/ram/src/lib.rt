@@ -87,7 +87,5 @@ pub fn bit(plane: &[u8], x: u16, row: u16) -> Option<bool>
 pub fn fill(plane: &mut [u8], byte: u8)
     ensures { plane.new ≡ tab (length plane.old) (λ _. byte) }
 {
-    for i in 0..plane.len() {
-        plane[i] = byte;
-    }
+    plane.fill(byte);
 }

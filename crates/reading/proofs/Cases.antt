@@ -5,8 +5,6 @@ use mathlib.Core.Path.{◌≡◌, sym, subst}
 use mathlib.Core.Bool.{Bool, true, false}
 use mathlib.Core.List.{List}
 use borrow.Author.Tests.{eq-eqb, ne_eqb}
-use Rattle.counter.specs.declared.Counter.{Counter}
-use Rattle.counter.specs.Counter.{advanced_of}
 use Rattle.ram.specs.Plane.{plane_of, read_at}
 use Rattle.diagnostic.specs.declared.DiagnosticKind.TheVariants.{NothingToRead}
 use Rattle.device.specs.declared.Active.{Active}
@@ -17,9 +15,7 @@ use Rattle.device.specs.declared.Kind.TheVariants.{Write, Read, Unsupported, Res
 use Rattle.device.specs.declared.Params.{Params}
 use Rattle.device.specs.declared.Power.{Power}
 use Rattle.device.specs.declared.Power.TheVariants.{Running, Asleep, InReset}
-use Rattle.device.specs.declared.Registers.{Registers}
 use Rattle.device.specs.declared.Ssd1677.{Ssd1677}
-use Rattle.device.specs.Parts.{with_counter, with_regs}
 use Rattle.world.specs.World.{WithLog, with_log}
 use Rattle.registers.specs.Read.{read_register}
 use Rattle.busy.specs.Busy.{busy_at}
@@ -30,10 +26,6 @@ use Rattle.reading.specs.Reading.{WithByte, with_byte, one_read_more, nothing_re
 -- the command goes on with a read more
 abbrev on : Active → Bool → Bool → Ssd1677 → Ssd1677
 on a range nothing d = current_set (current.Active (one_read_more a range nothing)) d
-
-pub steps : (d r : Ssd1677) (c : Counter) (g : Registers) → c ≡ advanced_of d.regs.counter d.regs.window d.regs.entry
-    → g ≡ with_counter d.regs c → r ≡ with_regs d g → r ≡ counter_stepped d
-steps d r c g e f h = rw (h, f, e)
 
 module _ (a : Active) (k : WithLog) where
   pub silent : (r : Ssd1677) → a.nothing_reported ≡ true → r ≡ on a a.range_reported true k.device

@@ -1,15 +1,13 @@
 // A byte that the MCU reads, once the clock has moved (mod.rs, `read_data` and `read_byte`).
 #![tactic(auto)]
 
-ghost use Rattle.std.specs.Prelude.{◌≡◌, length, List, ℕ};
+ghost use Rattle.std.specs.Prelude.{◌≡◌, List, ℕ};
 ghost use Rattle.ram.specs.Plane.{plane_of, read_at};
-ghost use Rattle.device.specs.declared.Current.TheVariants as current;
 ghost use Rattle.world.specs.World.{with_log};
-ghost use Rattle.data.specs.Data.{current_set, counter_stepped};
 ghost use Rattle.reading.specs.Reading.{with_byte, one_read_more, nothing_read, register_read, chosen, ram_found, ram_read, byte_read, by_current, read_taken};
 
-use device::{Active, Current, Kind, Power, Ssd1677, part};
-use diagnostic::DiagnosticKind;
+use device::{Active, Current, Kind, Power, Ssd1677};
+use diagnostic::{DiagnosticKind, Log};
 
 // The state that a read leaves, and the byte: none when the chip drives nothing.
 #[derive(Clone, Copy)]
@@ -22,37 +20,27 @@ pub struct Reading {
 fn count(active: Active, range: bool, nothing: bool) -> Active
     ensures { result ≡ one_read_more active range nothing }
 {
-    let read = active.read.saturating_add(1);
-    let mut next = active;
-    next.read = read;
-    next.range_reported = range;
-    next.nothing_reported = nothing;
-    next
-}
-
-// The command stays the current one, with a read more.
-fn go_on(state: Ssd1677, active: Active, range: bool, nothing: bool) -> Ssd1677
-    ensures { result ≡ current_set (current.Active (one_read_more active range nothing)) state }
-{
-    let next = count(active, range, nothing);
-    let bus = part::set_current(state.bus, Current::Active(next));
-    part::set_bus(state, bus)
+    Active {
+        read: active.read.saturating_add(1),
+        range_reported: range,
+        nothing_reported: nothing,
+        ..active
+    }
 }
 
 // 38, unless the command has reported it; nothing is driven.
-fn read_nothing(state: Ssd1677, log: &mut [u8], active: Active) -> Reading
-    requires { length log.old ≡ 16384 }
+fn read_nothing(state: Ssd1677, log: &mut Log, active: Active) -> Reading
     ensures { with_byte (with_log result.state log.new) result.byte ≡ nothing_read active (with_log state log.old) }
 {
-    let range = active.range_reported;
+    let next = count(active, active.range_reported, true);
     let byte = None;
     if active.nothing_reported {
-        let state = go_on(state, active, range, true);
+        let state = data::go_on(state, next);
         return Reading { state, byte };
     }
     let command = active.command;
     let noted = chip::report(state, log, DiagnosticKind::NothingToRead { command });
-    let state = go_on(noted, active, range, true);
+    let state = data::go_on(noted, next);
     Reading { state, byte }
 }
 
@@ -64,42 +52,29 @@ fn read_register(state: Ssd1677, active: Active) -> Reading
     let command = active.command;
     let index = active.read;
     let byte = read_register::read_register(state.regs, state.status, busy, command, index);
-    let range = active.range_reported;
-    let nothing = active.nothing_reported;
-    let state = go_on(state, active, range, nothing);
+    let next = count(active, active.range_reported, active.nothing_reported);
+    let state = data::go_on(state, next);
     Reading { state, byte }
 }
 
-// The counter steps.
-fn step(state: Ssd1677) -> Ssd1677
-    ensures { result ≡ counter_stepped state }
-{
-    let at = state.regs.counter;
-    let window = state.regs.window;
-    let entry = state.regs.entry;
-    let counter = at.advanced(window, entry);
-    let regs = part::set_counter(state.regs, counter);
-    part::set_regs(state, regs)
-}
-
 // What the RAM has at the counter, which steps in either case.
-fn found(state: Ssd1677, log: &mut [u8], active: Active, byte: Option<u8>) -> Reading
-    requires { length log.old ≡ 16384 }
+fn found(state: Ssd1677, log: &mut Log, active: Active, byte: Option<u8>) -> Reading
     ensures { with_byte (with_log result.state log.new) result.byte ≡ ram_found active (with_log state log.old) byte }
 {
     let nothing = active.nothing_reported;
     match byte {
         Some(value) => {
-            let moved = step(state);
-            let range = active.range_reported;
-            let state = go_on(moved, active, range, nothing);
+            let moved = data::step(state);
+            let next = count(active, active.range_reported, nothing);
+            let state = data::go_on(moved, next);
             let byte = Some(value);
             Reading { state, byte }
         }
         None => {
             let noted = data::report_range(state, log, active);
-            let moved = step(noted);
-            let state = go_on(moved, active, true, nothing);
+            let moved = data::step(noted);
+            let next = count(active, true, nothing);
+            let state = data::go_on(moved, next);
             let byte = None;
             Reading { state, byte }
         }
@@ -122,16 +97,14 @@ fn read_ram(
     state: Ssd1677,
     black_white: &[u8],
     red: &[u8],
-    log: &mut [u8],
+    log: &mut Log,
     active: Active,
 ) -> Reading
-    requires { length log.old ≡ 16384 }
     ensures { with_byte (with_log result.state log.new) result.byte ≡ ram_read black_white.now red.now active (with_log state log.old) }
 {
     if active.read == 0 {
-        let range = active.range_reported;
-        let nothing = active.nothing_reported;
-        let state = go_on(state, active, range, nothing);
+        let next = count(active, active.range_reported, active.nothing_reported);
+        let state = data::go_on(state, next);
         let byte = Some(0x00);
         return Reading { state, byte };
     }
@@ -144,10 +117,9 @@ fn read_byte(
     state: Ssd1677,
     black_white: &[u8],
     red: &[u8],
-    log: &mut [u8],
+    log: &mut Log,
     active: Active,
 ) -> Reading
-    requires { length log.old ≡ 16384 }
     ensures { with_byte (with_log result.state log.new) result.byte ≡ byte_read black_white.now red.now active (with_log state log.old) }
 {
     if active.command == 0x27 {
@@ -157,37 +129,28 @@ fn read_byte(
 }
 
 // By the command that the byte belongs to.
-fn of_current(state: Ssd1677, black_white: &[u8], red: &[u8], log: &mut [u8]) -> Reading
-    requires { length log.old ≡ 16384 }
+fn of_current(state: Ssd1677, black_white: &[u8], red: &[u8], log: &mut Log) -> Reading
     ensures { with_byte (with_log result.state log.new) result.byte ≡ by_current black_white.now red.now (with_log state log.old) state.bus.current }
 {
-    let bus = state.bus;
-    let current = bus.current;
     let byte = None;
-    match current {
-        Current::Active(active) => {
-            let kind = active.kind;
-            match kind {
-                Kind::Read => read_byte(state, black_white, red, log, active),
-                Kind::Write(_) => read_nothing(state, log, active),
-                Kind::Unsupported => read_nothing(state, log, active),
-                Kind::Reserved => read_nothing(state, log, active),
-            }
-        }
+    match state.bus.current {
+        Current::Active(active) => match active.kind {
+            Kind::Read => read_byte(state, black_white, red, log, active),
+            Kind::Write(_) => read_nothing(state, log, active),
+            Kind::Unsupported => read_nothing(state, log, active),
+            Kind::Reserved => read_nothing(state, log, active),
+        },
         Current::Idle => Reading { state, byte },
         Current::Ignoring => Reading { state, byte },
     }
 }
 
 // A byte with D/C# high, read by the MCU; none asleep, in reset, or with no active command.
-pub fn read(state: Ssd1677, black_white: &[u8], red: &[u8], log: &mut [u8]) -> Reading
-    requires { length log.old ≡ 16384 }
+pub fn read(state: Ssd1677, black_white: &[u8], red: &[u8], log: &mut Log) -> Reading
     ensures { with_byte (with_log result.state log.new) result.byte ≡ read_taken black_white.now red.now (with_log state log.old) state.bus.power }
 {
-    let bus = state.bus;
-    let power = bus.power;
     let byte = None;
-    match power {
+    match state.bus.power {
         Power::Running => of_current(state, black_white, red, log),
         Power::Asleep => Reading { state, byte },
         Power::InReset => Reading { state, byte },

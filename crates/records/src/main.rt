@@ -4,7 +4,7 @@
 ghost use Rattle.std.specs.Prelude.{◌<◌, ◌≡◌, length};
 
 use config::DisplayMode;
-use diagnostic::{DiagnosticKind, Journal, Stage};
+use diagnostic::{DiagnosticKind, Journal, Log, Stage};
 use std::io;
 
 fn stage_of(turn: u64) -> Stage {
@@ -71,9 +71,7 @@ fn kind_of(turn: u64) -> DiagnosticKind
     }
 }
 
-fn report_all(log: &mut [u8]) -> Journal
-    requires { length log.old ≡ 16384 }
-{
+fn report_all(log: &mut Log) -> Journal {
     let mut journal = Journal {
         count: 0,
         dropped: 0,
@@ -81,7 +79,7 @@ fn report_all(log: &mut [u8]) -> Journal
     };
     for turn in 0..1100 {
         let time = 18446744073709551615 / (turn + 1);
-        journal = diagnostic_log::report(journal, &mut log[..], time, kind_of(turn));
+        journal = diagnostic_log::report(journal, log, time, kind_of(turn));
     }
     journal
 }

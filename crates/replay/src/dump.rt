@@ -36,11 +36,11 @@ fn kind(answers: &mut Answers, kind: RefreshKind) {
     }
 }
 
-fn display(answers: &mut Answers, display: &Display) {
-    if !display.running {
+fn display(answers: &mut Answers, display: Option<Display>) {
+    let Some(display) = display else {
         answers.word(b"display -\n");
         return;
-    }
+    };
     answers.word(b"display");
     answers.field(display.started);
     answers.field(display.ends);
@@ -95,7 +95,7 @@ pub fn put(answers: &mut Answers, device: &Ssd1677, hashes: &Hashes) {
     register_lines::put(answers, &device.regs);
     register_lines::status(answers, device.status, device.journal.reserved_reported);
     current::put(answers, device.bus.current);
-    display(answers, &device.display);
+    display(answers, device.display);
     log(answers, device.journal, hashes.log);
     image(answers, device.panel.image);
     glass(answers, &device.panel);

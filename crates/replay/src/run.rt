@@ -21,7 +21,7 @@ pub struct Run<'a> {
     lines: u64,
     // How often the next data or read line is made, where a line has said so.
     repeat: Option<u64>,
-    // After a bad line nothing is taken any more.
+    // After a bad line nothing is taken any more. No Option about the rest: the text gathered until then is still written.
     ended: bool,
 }
 

@@ -9,7 +9,7 @@ ghost use Rattle.world.specs.World.{with_glass_log};
 ghost use Rattle.res.specs.Line.{line_moved};
 
 use device::Ssd1677;
-use guard::Refused;
+use guard::{Refusal, Refused};
 
 // Drives RES#: `asserted` is the line low. Asserting it stops whatever runs (a display keeps what it drove so far) and restores the
 // registers; releasing it wakes a sleeping chip, which stays busy for the hardware-reset time.
@@ -32,11 +32,22 @@ pub fn set_reset(
         counts.len(),
         log.len(),
     );
-    match guard::check(state, lengths) {
-        Ok(()) => {
-            let present = clock::advance(state, states, luts, pixels, counts, time);
-            Ok(reset::set_line(present, states, luts, pixels, counts, log, asserted))
-        }
-        Err(refusal) => Err(Refused { refusal, state }),
+    if let Err(refusal) = guard::check(state, lengths) {
+        return Err(Refused { refusal, state });
     }
+    // The guard has seen both lengths.
+    let Some(counts) = counts.as_mut_array() else {
+        return Err(Refused {
+            refusal: Refusal::Counts,
+            state,
+        });
+    };
+    let Some(log) = log.as_mut_array() else {
+        return Err(Refused {
+            refusal: Refusal::Buffer,
+            state,
+        });
+    };
+    let present = clock::advance(state, states, luts, pixels, counts, time);
+    Ok(reset::set_line(present, states, luts, pixels, counts, log, asserted))
 }

@@ -1,9 +1,10 @@
 -- What each return of the code hands over, over plain variables. Assumes nothing.
-use Rattle.std.specs.Prelude.{Some}
-use Prim.Native.Nat.{ℕ}
-use mathlib.Core.Path.{◌≡◌}
+use Rattle.std.specs.Prelude.{Some, None}
+use Prim.Native.Nat.{ℕ, ◌≤◌, ◌<◌}
+use mathlib.Core.Path.{◌≡◌, sym, ap, ◌∙◌}
 use mathlib.Core.Bool.{Bool, true, false}
 use mathlib.Core.List.{List}
+use borrow.Author.Tests.{le-leb, lt-leb}
 use Rattle.diagnostic.specs.declared.DiagnosticKind.TheVariants.{ResetDuringDisplay}
 use Rattle.panel.specs.declared.Display.{Display}
 use Rattle.panel.specs.Finish.{Glass, finished}
@@ -18,34 +19,42 @@ use Rattle.device.specs.Parts as part
 use Rattle.world.specs.World.{WithLog, with_log, WithGlass, with_glass, WithGlassLog, with_glass_log}
 use Rattle.registers.specs.Reset.{reset_of}
 use Rattle.moment.specs.Moments.{ns_between, busy_for}
-use Rattle.clock.specs.Advance.{stopped, ending_of, glass_of}
+use Rattle.clock.specs.Advance.{ending_of, glass_of}
 use Rattle.chip.specs.Close.{closed}
 use Rattle.chip.specs.Report.{logged}
-use Rattle.reset.specs.Reset.{restored, is_driving, display_cut, cut, in_reset, asserted, released, by_line}
+use Rattle.reset.specs.Reset.{restored, display_cut, cut_by, cut, in_reset, asserted, released, by_line}
 
 pub restores : (d r : Ssd1677) (g : Registers) → g ≡ reset_of d.config.user_id
     → r ≡ with_powers d g false false (record { hv_not_ready = false; vci_low = false }) → r ≡ restored d
 unfolding restored
 restores d r g e f = rw (f, e)
 
-pub shortens : (luts : List ℕ) (g : WithGlass) (into : ℕ) (after : Glass) (off : Display) (r : Ssd1677)
-    → into ≡ ns_between g.device.config.frequency g.device.display.started g.device.now
-    → after ≡ finished (ending_of g.device g.device.now (Some into)) luts (glass_of g)
-    → off ≡ stopped g.device.display → r ≡ part.with_panel_and_display g.device after.panel off
-    → with_glass r after.states after.picture ≡ display_cut luts g
+pub shortens : (luts : List ℕ) (display : Display) (g : WithGlass) (into : ℕ) (after : Glass) (r : Ssd1677)
+    → into ≡ ns_between g.device.config.frequency display.started g.device.now
+    → after ≡ finished (ending_of g.device display g.device.now (Some into)) luts (glass_of g)
+    → r ≡ part.with_panel_and_display g.device after.panel None
+    → with_glass r after.states after.picture ≡ display_cut luts display g
 unfolding display_cut
-shortens luts g into after off r e₁ e₂ e₃ e₄ = rw (← e₁, ← e₂, e₄, e₃)
+shortens luts display g into after r e₁ e₂ e₃ = rw (← e₁, ← e₂, e₃)
 
 module _ (luts : List ℕ) (w : WithGlassLog) where
-  pub cuts : (k : WithLog) (g : WithGlass) → is_driving w.device ≡ true → k ≡ logged ResetDuringDisplay (with_log w.device w.log)
-      → g ≡ display_cut luts (with_glass k.device w.states w.picture) → with_glass_log g.device g.states g.picture k.log ≡ cut luts w
+  pub cuts_none : w.device.display ≡ None → w ≡ cut luts w
   unfolding cut
-  cuts k g h e₁ e₂ = rw (h, e₂, e₁)
+  cuts_none is = rw is
 
-  pub drops : (off : Display) (r : Ssd1677) → is_driving w.device ≡ false → off ≡ stopped w.device.display
-      → r ≡ with_display w.device off → with_glass_log r w.states w.picture w.log ≡ cut luts w
-  unfolding cut
-  drops off r h e₁ e₂ = rw (h, e₂, e₁)
+  module _ (display : Display) (is : w.device.display ≡ Some display) where
+    pub cuts : (k : WithLog) (g : WithGlass) → display.started ≤ w.device.now → k ≡ logged ResetDuringDisplay (with_log w.device w.log)
+        → g ≡ display_cut luts display (with_glass k.device w.states w.picture) → with_glass_log g.device g.states g.picture k.log ≡ cut luts w
+    unfolding cut
+    cuts k g h e₁ e₂ = it ∙ ap (cut_by luts w) (sym is)
+      where
+        it : with_glass_log g.device g.states g.picture k.log ≡ cut_by luts w (Some display)
+        it = rw (le-leb display.started w.device.now h, e₂, e₁)
+
+    pub drops : (r : Ssd1677) → w.device.now < display.started → r ≡ with_display w.device None
+        → with_glass_log r w.states w.picture w.log ≡ cut luts w
+    unfolding cut
+    drops r h e = rw (is, lt-leb display.started w.device.now h, e)
 
   pub asserts : (k : WithLog) (b : WithGlassLog) (d r : Ssd1677) → k ≡ closed (with_log w.device w.log)
       → b ≡ cut luts (with_glass_log k.device w.states w.picture k.log) → d ≡ restored b.device → r ≡ in_reset d

@@ -1,7 +1,8 @@
 -- What a reset does (mod.rs, `set_reset`, `restore_registers`; SCOPE, Commands: a reset before driving drops the refresh).
-use Rattle.std.specs.Prelude.{ℕ, Bool, true, false, ◌&&◌, List, leb, Some, None}
+use Rattle.std.specs.Prelude.{ℕ, Bool, true, false, List, leb, Option, Some, None}
 use Rattle.numbers.specs.Choice.{pick}
 use Rattle.diagnostic.specs.declared.DiagnosticKind.TheVariants.{ResetDuringDisplay}
+use Rattle.panel.specs.declared.Display.{Display}
 use Rattle.panel.specs.Finish.{finished}
 use Rattle.device.specs.declared.Ssd1677.{Ssd1677}
 use Rattle.device.specs.declared.Power.{Power}
@@ -11,7 +12,7 @@ use Rattle.device.specs.Parts.{with_bus, with_display, with_powers}
 use Rattle.world.specs.World.{WithGlass, WithGlassLog, on, device_in_glass_log, log_in_glass_log, glass_in_glass_log}
 use Rattle.registers.specs.Reset.{reset_of}
 use Rattle.moment.specs.Moments.{ns_between, busy_for}
-use Rattle.clock.specs.Advance.{stopped, ending_of, glass_of, glass_published}
+use Rattle.clock.specs.Advance.{ending_of, glass_of, glass_published}
 use Rattle.chip.specs.Close.{closed}
 use Rattle.chip.specs.Report.{logged}
 
@@ -19,23 +20,27 @@ use Rattle.chip.specs.Report.{logged}
 unfoldable pub restored : Ssd1677 → Ssd1677
 restored d = with_powers d (reset_of d.config.user_id) false false (record { hv_not_ready = false; vci_low = false })
 
--- a display runs and its driving has begun
-abbrev pub is_driving : Ssd1677 → Bool
-is_driving d = d.display.running && leb d.display.started d.now
-
--- the display is finished up to the cut, the nanoseconds from the start of driving to the clock, and dated the clock
-unfoldable pub display_cut : List ℕ → WithGlass → WithGlass
-display_cut luts g =
+-- a display is finished up to the cut, the nanoseconds from the start of driving to the clock, and dated the clock
+unfoldable pub display_cut : List ℕ → Display → WithGlass → WithGlass
+display_cut luts display g =
     let d = g.device in
-    glass_published g (finished (ending_of d d.now (Some (ns_between d.config.frequency d.display.started d.now))) luts (glass_of g))
+    glass_published g (finished (ending_of d display d.now (Some (ns_between d.config.frequency display.started d.now))) luts (glass_of g))
 
--- the display is stopped, and the glass stays as it is
+-- no display is in progress any more, and the glass stays as it is
 abbrev pub display_dropped : Ssd1677 → Ssd1677
-display_dropped d = with_display d (stopped d.display)
+display_dropped d = with_display d None
 
 -- a display whose driving has begun is cut, with 39; an earlier one is dropped, no new picture and no 39 (SCOPE, Commands)
+abbrev pub cut_by : List ℕ → WithGlassLog → Option Display → WithGlassLog
+cut_by luts w None = w
+cut_by luts w (Some display) =
+    pick (leb display.started w.device.now)
+    (on glass_in_glass_log (display_cut luts display) (on log_in_glass_log (logged ResetDuringDisplay) w))
+    (on device_in_glass_log display_dropped w)
+
+-- the display in progress is cut or dropped
 unfoldable pub cut : List ℕ → WithGlassLog → WithGlassLog
-cut luts w = pick (is_driving w.device) (on glass_in_glass_log (display_cut luts) (on log_in_glass_log (logged ResetDuringDisplay) w)) (on device_in_glass_log display_dropped w)
+cut luts w = cut_by luts w w.device.display
 
 -- RES# is low: no command is current and BUSY has no end
 unfoldable pub in_reset : Ssd1677 → Ssd1677

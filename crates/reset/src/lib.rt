@@ -7,8 +7,10 @@ ghost use Rattle.world.specs.World.{with_glass, with_glass_log};
 ghost use Rattle.clock.specs.Advance.{Ready};
 ghost use Rattle.reset.specs.Reset.{restored, display_cut, cut, in_reset, asserted, released, by_line};
 
+use counts::Counts;
 use device::{Bus, Current, Power, Ssd1677, Status, part};
-use diagnostic::DiagnosticKind;
+use diagnostic::{DiagnosticKind, Log};
+use panel::Display;
 
 // The registers at their reset values, the supplies off and the status bits cleared; the RAM stays.
 pub fn restore_registers(state: Ssd1677) -> Ssd1677
@@ -27,15 +29,15 @@ pub fn restore_registers(state: Ssd1677) -> Ssd1677
 // The display is applied up to now and its image published.
 fn finish_cut(
     state: Ssd1677,
+    display: Display,
     states: &mut [i64],
     luts: &[u8],
     pixels: &mut [u8],
-    counts: &mut [u32],
+    counts: &mut Counts,
 ) -> Ssd1677
     requires { Ready state states.old luts.now pixels.old counts.old }
-    ensures { with_glass result states.new (picture pixels.new counts.new) ≡ display_cut luts.now (with_glass state states.old (picture pixels.old counts.old)) }
+    ensures { with_glass result states.new (picture pixels.new counts.new) ≡ display_cut luts.now display (with_glass state states.old (picture pixels.old counts.old)) }
 {
-    let display = state.display;
     let config = state.config;
     let optics = config.optics;
     let timing = config.timing;
@@ -52,10 +54,9 @@ fn finish_cut(
         &mut states[..],
         luts,
         &mut pixels[..],
-        &mut counts[..],
+        counts,
     );
-    let off = clock::stop(display);
-    part::set_glass(state, finished, off)
+    part::set_glass(state, finished, None)
 }
 
 // A display cut once its driving has begun publishes what the glass reached; one whose stages before it had not ended is abandoned:
@@ -65,19 +66,20 @@ fn cut_display(
     states: &mut [i64],
     luts: &[u8],
     pixels: &mut [u8],
-    counts: &mut [u32],
-    log: &mut [u8],
+    counts: &mut Counts,
+    log: &mut Log,
 ) -> Ssd1677
-    requires { Ready state states.old luts.now pixels.old counts.old × (length log.old ≡ 16384) }
+    requires { Ready state states.old luts.now pixels.old counts.old }
     ensures { with_glass_log result states.new (picture pixels.new counts.new) log.new ≡ cut luts.now (with_glass_log state states.old (picture pixels.old counts.old) log.old) }
 {
-    let display = state.display;
-    if display.running & (display.started <= state.now) {
+    let Some(display) = state.display else {
+        return state;
+    };
+    if display.started <= state.now {
         let noted = chip::report(state, log, DiagnosticKind::ResetDuringDisplay);
-        return finish_cut(noted, states, luts, pixels, counts);
+        return finish_cut(noted, display, states, luts, pixels, counts);
     }
-    let off = clock::stop(display);
-    part::set_display(state, off)
+    part::set_display(state, None)
 }
 
 // RES# is low: nothing is current and nothing runs.
@@ -98,10 +100,10 @@ fn assert_reset(
     states: &mut [i64],
     luts: &[u8],
     pixels: &mut [u8],
-    counts: &mut [u32],
-    log: &mut [u8],
+    counts: &mut Counts,
+    log: &mut Log,
 ) -> Ssd1677
-    requires { Ready state states.old luts.now pixels.old counts.old × (length log.old ≡ 16384) }
+    requires { Ready state states.old luts.now pixels.old counts.old }
     ensures { with_glass_log result states.new (picture pixels.new counts.new) log.new ≡ asserted luts.now (with_glass_log state states.old (picture pixels.old counts.old) log.old) }
 {
     let ended = chip::close::close_command(state, log);
@@ -133,11 +135,11 @@ pub fn set_line(
     states: &mut [i64],
     luts: &[u8],
     pixels: &mut [u8],
-    counts: &mut [u32],
-    log: &mut [u8],
+    counts: &mut Counts,
+    log: &mut Log,
     low: bool,
 ) -> Ssd1677
-    requires { Ready state states.old luts.now pixels.old counts.old × (length log.old ≡ 16384) }
+    requires { Ready state states.old luts.now pixels.old counts.old }
     ensures { with_glass_log result states.new (picture pixels.new counts.new) log.new ≡ by_line luts.now low (with_glass_log state states.old (picture pixels.old counts.old) log.old) state.bus.power }
 {
     let bus = state.bus;

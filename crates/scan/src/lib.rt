@@ -123,6 +123,7 @@ pub fn start(
     let width = geometry.width as usize;
     let height = geometry.height as usize;
     let order = scan.order;
+    // By their counters: the column has its source, and pixels in a row of `width` bytes would need that the glass is not empty.
     for y in 0..height {
         let row = ram_row_of_gate(gates[y], order, scan.lines);
         for x in 0..width {

@@ -68,6 +68,7 @@ fn same_period(rt: &impl Env) -> Result<[u64; 16], usize> {
 // One for each code.
 fn own_periods(rt: &impl Env) -> Result<[u64; 16], usize> {
     let mut frame_period = [0u64; 16];
+    // By its counter, from which the argument's place is reckoned.
     for code in 0..16 {
         frame_period[code] = number(rt, 5 + code).ok_or(5 + code)?;
     }

@@ -5,7 +5,7 @@
 mod arguments;
 mod say;
 
-use full_read::read_full;
+use full_read::{is_at_end, read_full};
 use glass::Optics;
 use std::io;
 use std::io::{Input, Read};
@@ -14,13 +14,11 @@ use voltage_shift::DrivingVoltage;
 // One byte more than a setting has, so that longer input is seen to be longer.
 const INPUT_BYTES: usize = voltage_shift::SETTING_BYTES + 1;
 
-// Reading stops at the first read that gives nothing. One read more tells whether that is the input's end: there it gives no byte. Says
-// why if not.
-fn is_at_end(rt: &impl Eprint, input: &mut impl Read) -> io::Result<bool> {
-    let mut more = [0u8; 1];
-    match input.read(&mut more) {
-        Ok(0) => Ok(true),
-        Ok(_) => {
+// Says why if not.
+fn is_whole(rt: &impl Eprint, input: &mut impl Read) -> io::Result<bool> {
+    match is_at_end(input) {
+        Ok(true) => Ok(true),
+        Ok(false) => {
             say::not_whole(rt)?;
             Ok(false)
         }
@@ -46,7 +44,7 @@ fn report(
         Err(error) => return say::failed(rt, "standard input", error),
     };
     if read < INPUT_BYTES {
-        if !is_at_end(rt, &mut input)? {
+        if !is_whole(rt, &mut input)? {
             return Ok(());
         }
     }

@@ -1,4 +1,5 @@
-// The 112 bytes of a setting (datasheet Figure 6-6) read into codes, and the codes into a waveform.
+// The 112 bytes of a setting (datasheet Figure 6-6) read into codes, and the codes into a waveform. A group goes by its number, below 10,
+// from which the places of its bytes are reckoned.
 #![tactic(auto)]
 
 ghost use Rattle.std.specs.Prelude.{◌≡◌, ◌+◌, ◌/◌, ◌%◌, ◌<◌};
@@ -12,7 +13,7 @@ use waveform::{Group, GroupCodes, Levels, Waveform};
 fn spread(byte: u8) -> u64
     ensures { result ≡ codes_in_word byte }
 {
-    ((numbers::wide(byte) * 0x4010_0401) >> 6) & 0x0303_0303
+    ((u64::from(byte) * 0x4010_0401) >> 6) & 0x0303_0303
 }
 
 // The five LUTs' codes of a group. Literals and no loops, here and of the ten groups, and the codes as the bytes of a word: the
@@ -83,17 +84,26 @@ pub fn repeats(setting: &[u8; 112], group: usize) -> u16
     one_more(setting[54 + 5 * group])
 }
 
-fn group_codes(setting: &[u8; 112], group: usize) -> GroupCodes
+// The frames of a group's four phases.
+pub fn frames(setting: &[u8; 112], group: usize) -> [u8; 4]
     requires { group < 10 }
-    ensures { result ≡ group_codes_of setting.now group }
+    ensures { result ≡ (group_codes_of setting.now group).frames }
 {
     let at = 5 * group;
-    let frames = [
+    [
         setting[50 + at],
         setting[51 + at],
         setting[52 + at],
         setting[53 + at],
-    ];
+    ]
+}
+
+// A group as its setting has it.
+pub fn group_codes(setting: &[u8; 112], group: usize) -> GroupCodes
+    requires { group < 10 }
+    ensures { result ≡ group_codes_of setting.now group }
+{
+    let frames = frames(setting, group);
     let repeats = repeats(setting, group);
     let frame_rate = frame_rate_code(setting, group);
     let codes = codes_of(setting, group);

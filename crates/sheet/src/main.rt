@@ -1,9 +1,8 @@
 // The setting of the drive sheet on standard input (docs/drive-sheet.md).
 #![tactic(auto)]
 
-use full_read::read_full;
+use full_read::{is_at_end, read_full};
 use std::io;
-use std::io::Read;
 
 // One byte more than a sheet has, so that longer input is seen to be longer.
 const INPUT_BYTES: usize = sheet_text::TEXT_BYTES + 1;
@@ -21,13 +20,6 @@ fn say_why(rt: &impl Eprint, length: usize) -> io::Result<()> {
         )?;
     }
     Ok(())
-}
-
-// Reading stops at the first read that gets nothing. Past the end another read gets nothing either and does not fail: one that fails or
-// gets a byte tells that what was read is not the whole.
-fn is_cut_short(input: &mut impl Read) -> bool {
-    let mut byte = [0u8; 1];
-    !matches!(input.read(&mut byte), Ok(0))
 }
 
 fn write_answer(rt: &(impl Print + Eprint), answer: &[u8]) -> io::Result<()> {
@@ -48,7 +40,7 @@ fn main(rt: HostRuntime) -> io::Result<()> {
     let mut text = [0u8; INPUT_BYTES];
     let mut input = rt.stdin();
     match read_full(&mut input, &mut text) {
-        Ok(read) if read == INPUT_BYTES || !is_cut_short(&mut input) => {
+        Ok(read) if read == INPUT_BYTES || is_at_end(&mut input).unwrap_or(false) => {
             answer_text(&rt, &text[..read])
         }
         _ => say(

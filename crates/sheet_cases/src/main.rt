@@ -18,7 +18,7 @@ fn answer_text(rt: &impl Print, text: &[u8]) -> io::Result<()> {
 
 fn text_case(rt: &impl Print, body: &[u8], length: usize) -> io::Result<()> {
     if length <= body.len() {
-        answer_text(rt, &body[0..length])?;
+        answer_text(rt, &body[..length])?;
     }
     Ok(())
 }
@@ -35,13 +35,13 @@ fn answer_setting(rt: &impl Print, setting: &[u8; 112]) -> io::Result<()> {
 fn setting_case(rt: &impl Print, body: &[u8]) -> io::Result<()> {
     let mut setting = [0u8; 112];
     if 112 <= body.len() {
-        byte_copy::copy(&body[0..112], &mut setting);
+        setting.copy_from_slice(&body[..112]);
     }
     answer_setting(rt, &setting)
 }
 
 fn count(low: u8, high: u8) -> usize {
-    numbers::wide(low) as usize + 256 * (numbers::wide(high) as usize)
+    usize::from(low) + 256 * usize::from(high)
 }
 
 // Answers whether to go on.

@@ -1,63 +1,57 @@
 -- Two texts compared byte by byte. Assumes nothing.
-use Rattle.std.specs.Prelude.{Option, Some, None}
-use mathlib.Core.Path.{◌≡◌, refl, sym, ap, ◌∙◌}
+use Rattle.std.specs.Prelude.{Some, None}
+use Rattle.std.proofs.Common.{Iter}
+use mathlib.Core.Path.{◌≡◌, refl, sym}
 use mathlib.Core.Bool.{Bool, true, false}
-use mathlib.Core.List.{List, ◌∷◌}
-use Prim.Native.Nat.{ℕ, suc, ◌+◌, ◌<◌, ◌≤◌}
-use native.Mathlib.Numerals.{add-one}
+use mathlib.Core.List.{List, [], ◌∷◌}
+use mathlib.Core.Logic.{◌⊎◌, inl, inr}
+use Prim.Native.Nat.{ℕ, ◌+◌, ◌≤◌}
 use native.Mathlib.Omega.{arith}
-use lib.Dec.{ltb}
-use lib.ListN.{length, drop, get_or, drop_of_length-le}
-use lib.Seq.{drop-cons}
-use borrow.Author.Tests.{eq-eqb, ne_eqb, ltb-true, ltb-false}
+use lib.Dec.{eqb}
+use lib.ListN.{length}
+use borrow.Author.Tests.{eq-eqb, ne_eqb}
+use Rattle.numbers.specs.Choice.{pick}
 use Rattle.numbers.proofs.Cases.{took, passed}
 use Rattle.sheet_text.specs.Reading.{line_after, differs_in}
 
-not_below : (i n : ℕ) → (i < n → ⊥) → n ≤ i
-not_below i n h = omega arith
+-- the bytes that come next are one
+pub goes_on : (n x y : ℕ) (xs ys : List ℕ) → x ≡ y → differs_in n (x ∷ xs) (y ∷ ys) ≡ differs_in (line_after n x) xs ys
+unfolding differs_in
+goes_on n x y xs ys e = sym (took _ _ _ _ (eq-eqb x y e) refl)
 
-module _ (text other : List ℕ) where
-  -- what is left to compare from place i on, in line n
-  abbrev pub from : ℕ → ℕ → Option ℕ
-  from n i = differs_in n (drop i text) (drop i other)
+-- or two
+pub stops : (n x y : ℕ) (xs ys : List ℕ) → (x ≡ y → ⊥) → Some n ≡ differs_in n (x ∷ xs) (y ∷ ys)
+unfolding differs_in
+stops n x y xs ys e = passed _ _ _ _ (ne_eqb x y e) refl
 
-  module _ (n i : ℕ) (l : i < length text) (m : i < length other) where
-    split : from n i ≡ differs_in n (get_or text i 0 ∷ drop (suc i) text) (get_or other i 0 ∷ drop (suc i) other)
-    split = λ j. differs_in n (drop-cons text i 0 l j) (drop-cons other i 0 m j)
+-- one of two iterators is at its end, as `zip` tells it
+pub one : (a b : Iter ℕ) → ((x : Iter ℕ) × ((length a.rest.now ≡ 0) × (x ≡ a))) ⊎ ((x : Iter ℕ) × ((length b.rest.now ≡ 0) × (x ≡ b)))
+    → (length a.rest.now ≡ 0) ⊎ (length b.rest.now ≡ 0)
+one a b (inl h) = inl h.1.0
+one a b (inr h) = inr h.1.0
 
-    -- the bytes are one
-    pub goes_on : get_or text i 0 ≡ get_or other i 0 → from n i ≡ from (line_after n (get_or text i 0)) (i + 1)
-    unfolding differs_in
-    goes_on e =
-        split ∙ sym (took _ _ _ _ (eq-eqb (get_or text i 0) (get_or other i 0) e) refl)
-        ∙ ap (from (line_after n (get_or text i 0))) (sym (add-one i))
+-- where one text ends, the other ends too
+pub ends : (n : ℕ) (xs ys : List ℕ) → (length xs ≡ 0) ⊎ (length ys ≡ 0) → length xs ≡ length ys → None ≡ differs_in n xs ys
+unfolding differs_in
+ends n [] [] e l = refl
+ends n [] (y ∷ ys) e l = absurd (omega arith)
+ends n (x ∷ xs) [] e l = absurd (omega arith)
+ends n (x ∷ xs) (y ∷ ys) (inl e) l = absurd (omega arith)
+ends n (x ∷ xs) (y ∷ ys) (inr e) l = absurd (omega arith)
 
-    -- or two
-    pub stops : (get_or text i 0 ≡ get_or other i 0 → ⊥) → Some n ≡ from n i
-    unfolding differs_in
-    stops e = passed _ _ _ _ (ne_eqb (get_or text i 0) (get_or other i 0) e) refl ∙ sym split
+-- or goes on
+pub one_ends : (n : ℕ) (xs ys : List ℕ) → (length xs ≡ 0) ⊎ (length ys ≡ 0) → (length xs ≡ length ys → ⊥) → Some n ≡ differs_in n xs ys
+unfolding differs_in
+one_ends n [] [] e l = absurd (l refl)
+one_ends n [] (y ∷ ys) e l = refl
+one_ends n (x ∷ xs) [] e l = refl
+one_ends n (x ∷ xs) (y ∷ ys) (inl e) l = absurd (omega arith)
+one_ends n (x ∷ xs) (y ∷ ys) (inr e) l = absurd (omega arith)
 
-  -- both end
-  pub ends : (n i : ℕ) → length text ≤ i → length other ≤ i → None ≡ from n i
-  unfolding differs_in
-  ends n i l m = sym (λ j. differs_in n (drop_of_length-le text l j) (drop_of_length-le other m j))
-
-  -- one of them ends, and the other does not
-  text_ends : (n i : ℕ) → length text ≤ i → i < length other → Some n ≡ from n i
-  unfolding differs_in
-  text_ends n i l m = sym (λ j. differs_in n (drop_of_length-le text l j) (drop-cons other i 0 m j))
-
-  other_ends : (n i : ℕ) → i < length text → length other ≤ i → Some n ≡ from n i
-  unfolding differs_in
-  other_ends n i l m = sym (λ j. differs_in n (drop-cons text i 0 l j) (drop_of_length-le other m j))
-
-  pub one_ends : (n i : ℕ) → i ≤ length text → i ≤ length other → (i < length text → i < length other → ⊥) → (length text ≡ length other → ⊥) → Some n ≡ from n i
-  one_ends n i l m h d = by (ltb i (length text)) refl
-    where
-      by : (t : Bool) → ltb i (length text) ≡ t → Some n ≡ from n i
-      by true e =
-          let a = ltb-true i (length text) e in
-          other_ends n i a (not_below i (length other) (h a))
-      by false e =
-          let a = ltb-false i (length text) e in
-          text_ends n i a (omega arith)
+-- a line more at most
+pub after_most : (n byte : ℕ) → line_after n byte ≤ n + 1
+after_most n byte = by (eqb byte 10)
+  where
+    by : (b : Bool) → pick b (n + 1) n ≤ n + 1
+    by true = omega arith
+    by false = omega arith

@@ -1,4 +1,4 @@
 -- Laws that several proofs cite.
 mod Values
 mod Differ
-mod Fronts
+mod Lengths

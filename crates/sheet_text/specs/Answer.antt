@@ -1,8 +1,8 @@
 -- What `sheet` writes of a text (docs/drive-sheet.md; #104): the setting, the number of a refusal, or the line that is bad.
-use Rattle.std.specs.Prelude.{List, [], ◌∷◌, ◌++◌, ℕ, ltb, length, drop, replicate, Option, Some, None}
+use Rattle.std.specs.Prelude.{List, [], ◌∷◌, ◌++◌, ℕ, ltb, replicate, Option, Some, None}
 use Rattle.numbers.specs.Choice.{pick}
 use Rattle.config.specs.Answer.{Answer, accepted, refused}
-use Rattle.column.specs.Columns.{natural, line_end, Buffer, buffer}
+use Rattle.column.specs.Columns.{natural, line_end, Buffer, in_front}
 use Rattle.drive_sheet.specs.declared.Sheet.{Sheet}
 use Rattle.drive_sheet.specs.Bytes.{setting_of}
 use Rattle.drive_sheet.specs.Tests.{setting_length, written_of}
@@ -40,5 +40,4 @@ answer_text text = drawing_text (bad_line_of text) (sheet_in text)
 
 -- at the front of the bytes lent, and its length; where they are fewer than a setting's, nothing
 unfoldable pub answered_in : List ℕ → List ℕ → Buffer
-answered_in text out =
-    pick (ltb (length out) setting_length) (buffer 0 out) (buffer (length (answer_text text)) (answer_text text ++ drop (length (answer_text text)) out))
+answered_in text out = in_front setting_length (answer_text text) out

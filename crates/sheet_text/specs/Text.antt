@@ -1,9 +1,8 @@
 -- A drive sheet as text (docs/drive-sheet.md; #104): a line for each group, then the gate and the voltages.
-use Rattle.std.specs.Prelude.{List, [], ◌∷◌, ◌++◌, ℕ, ℤ, ltb, length, drop, get_or}
-use Rattle.numbers.specs.Choice.{pick}
+use Rattle.std.specs.Prelude.{List, [], ◌∷◌, ◌++◌, ℕ, ℤ, get_or}
 use Rattle.waveform.specs.declared.GroupCodes.{GroupCodes}
 use Rattle.waveform.specs.Phases.{joined}
-use Rattle.column.specs.Columns.{natural, whole, line_end, Buffer, buffer}
+use Rattle.column.specs.Columns.{natural, whole, line_end, Buffer, in_front}
 use Rattle.drive_sheet.specs.declared.Sheet.{Sheet}
 use Rattle.drive_sheet.specs.Bytes.{group_at, code_at}
 
@@ -65,6 +64,10 @@ group_lines h = joined 10 (λ number. group_line (group_at h number) number)
 unfoldable pub sheet_text : Sheet → List ℕ
 sheet_text h = group_lines h ++ gate_line h.gate ++ voltage_lines h
 
+-- ten lines of 52 bytes, and five of 12
+abbrev pub text_bytes : ℕ
+text_bytes = 580
+
 -- at the front of the bytes lent, and its length; where they are fewer, nothing
 unfoldable pub put_in : Sheet → List ℕ → Buffer
-put_in h out = pick (ltb (length out) 580) (buffer 0 out) (buffer (length (sheet_text h)) (sheet_text h ++ drop (length (sheet_text h)) out))
+put_in h out = in_front text_bytes (sheet_text h) out

@@ -4,18 +4,24 @@
 mod lines;
 mod places;
 
-ghost use Rattle.std.specs.Prelude.{◌≡◌, ◌≤◌, length};
-ghost use Rattle.column.specs.Columns.{buffer, appended};
+ghost use Rattle.std.specs.Prelude.{◌≡◌, ◌^◌, ◌<◌, ◌≤◌, length};
+ghost use Rattle.column.specs.Columns.{buffer, gathered};
+ghost use Rattle.drive_sheet.specs.Tests.{setting_length};
 ghost use Rattle.sheet_text.specs.Text.{put_in};
 ghost use Rattle.sheet_text.specs.Reading.{line_after, differs_in, drawing_of};
-ghost use Rattle.sheet_text.specs.Answer.{number_text, setting_text, digits_of, bad_line_text, answered_in};
+ghost use Rattle.sheet_text.specs.Answer.{number_text, setting_text, digits_of, bad_line_text, answer_text, answered_in};
 
+use column::Columns;
 use drive_sheet::Sheet;
 
 // Ten lines of 52 bytes, and five of 12.
 pub const TEXT_BYTES: usize = 580;
 
 pub const SETTING_BYTES: usize = 112;
+
+type Text = Columns<TEXT_BYTES>;
+
+type Answer = Columns<SETTING_BYTES>;
 
 // What a text says.
 #[derive(Clone, Copy)]
@@ -33,38 +39,29 @@ pub fn put(sheet: Sheet, out: &mut [u8]) -> usize
     ensures text { buffer result out.new ≡ put_in sheet out.old }
     ensures within { result ≤ length out.new }
 {
-    if out.len() < TEXT_BYTES {
-        return 0;
-    }
-    lines::put_sheet(out, sheet)
+    lines::text_of(sheet).write_to(out)
 }
 
 // The line after a byte of a line.
 fn line_after(line: usize, byte: u8) -> usize
-    requires { line ≤ 580 }
+    requires { line < 2 ^ 63 }
     ensures { result ≡ line_after line byte }
 {
-    if byte == b'\n' {
-        return line + 1;
-    }
-    line
+    if byte == b'\n' { line + 1 } else { line }
 }
 
 // The line, counted from 1, in which a text first differs from a sheet's; none where it is that.
 fn differing_line(text: &[u8], written: &[u8]) -> Option<usize>
-    requires { length written.now ≡ 580 }
     ensures { result ≡ differs_in 1 text.now written.now }
 {
-    let end = numbers::min_u64(text.len() as u64, TEXT_BYTES as u64) as usize;
     let mut line: usize = 1;
-    for i in 0..end {
-        let byte = text[i];
-        if byte != written[i] {
+    for (byte, other) in text.iter().zip(written) {
+        if byte != other {
             return Some(line);
         }
-        line = line_after(line, byte);
+        line = line_after(line, *byte);
     }
-    if text.len() == TEXT_BYTES {
+    if text.len() == written.len() {
         return None;
     }
     Some(line)
@@ -74,9 +71,7 @@ pub fn read(text: &[u8]) -> Drawing
     ensures { result ≡ drawing_of text.now }
 {
     let sheet = places::sheet_in(text);
-    let mut written = [0u8; TEXT_BYTES];
-    lines::put_sheet(&mut written, sheet);
-    let bad_line = differing_line(text, &written);
+    let bad_line = differing_line(text, lines::text_of(sheet).text());
     Drawing { bad_line, sheet }
 }
 
@@ -84,45 +79,47 @@ pub fn read(text: &[u8]) -> Drawing
 fn digits(line: usize) -> usize
     ensures { result ≡ digits_of line }
 {
-    if line < 10 {
-        return 1;
-    }
-    2
+    if line < 10 { 1 } else { 2 }
 }
 
 // `bad line N`.
-fn put_bad_line(out: &mut [u8], line: usize) -> usize
-    requires room { 112 ≤ length out.old }
-    ensures text { buffer result out.new ≡ appended (buffer 0 out.old) (bad_line_text line) }
-    ensures end { result ≤ 112 }
+fn put_bad_line(answer: &mut Answer, line: usize)
+    ensures { answer.new ≡ gathered setting_length answer.old (bad_line_text line) }
 {
-    let width = digits(line);
-    let first = lines::put_text(out, 0, b"bad line ");
-    let second = column::put(out, first, width, false, line as u64);
-    column::put_line_end(out, second)
+    answer.put_text(b"bad line ");
+    answer.put_number(digits(line), line as u64);
+    answer.put(b'\n');
 }
 
 // The number of a refusal.
-fn put_number(out: &mut [u8], number: u64) -> usize
-    requires room { 112 ≤ length out.old }
-    ensures text { buffer result out.new ≡ appended (buffer 0 out.old) (number_text number) }
-    ensures end { result ≡ 4 }
+fn put_number(answer: &mut Answer, number: u8)
+    ensures { answer.new ≡ gathered setting_length answer.old (number_text number) }
 {
-    let end = column::put(out, 0, 3, false, number);
-    column::put_line_end(out, end)
+    answer.put_number(3, u64::from(number));
+    answer.put(b'\n');
 }
 
 // The setting of a sheet that `write` accepts, else the number of its refusal.
-fn put_setting(out: &mut [u8], sheet: Sheet) -> usize
-    requires room { 112 ≤ length out.old }
-    ensures text { buffer result out.new ≡ appended (buffer 0 out.old) (setting_text sheet) }
-    ensures end { result ≤ 112 }
+fn put_setting(answer: &mut Answer, sheet: Sheet)
+    ensures { answer.new ≡ gathered setting_length answer.old (setting_text sheet) }
 {
     let mut setting = [0u8; SETTING_BYTES];
     match drive_sheet::write(sheet, &mut setting) {
-        Ok(()) => lines::put_text(out, 0, &setting),
-        Err(error) => put_number(out, numbers::wide(drive_sheet::number(error))),
+        Ok(()) => answer.put_text(&setting),
+        Err(error) => put_number(answer, u8::from(error)),
     }
+}
+
+fn answer_to(text: &[u8]) -> Answer
+    ensures { result ≡ answer_text text.now }
+{
+    let drawing = read(text);
+    let mut answer = Answer::new();
+    match drawing.bad_line {
+        Some(line) => put_bad_line(&mut answer, line),
+        None => put_setting(&mut answer, drawing.sheet),
+    }
+    answer
 }
 
 // What a text is answered with, to the front of `out`, and its length: the 112 bytes of its setting, the number of a refusal, or the line
@@ -131,12 +128,5 @@ pub fn answer(text: &[u8], out: &mut [u8]) -> usize
     ensures text { buffer result out.new ≡ answered_in text.now out.old }
     ensures within { result ≤ length out.new }
 {
-    if out.len() < SETTING_BYTES {
-        return 0;
-    }
-    let drawing = read(text);
-    match drawing.bad_line {
-        Some(line) => put_bad_line(out, line),
-        None => put_setting(out, drawing.sheet),
-    }
+    answer_to(text).write_to(out)
 }

@@ -31,6 +31,7 @@ fn digit_at(text: &[u8], at: usize) -> u8
     byte - b'0'
 }
 
+// By places, since the text may end before the column does.
 fn number_at(text: &[u8], at: usize, width: usize) -> u64
     requires { (at ≤ 580) × (width ≤ 7) }
     ensures number { result ≡ value_at text.now at width }
@@ -39,11 +40,12 @@ fn number_at(text: &[u8], at: usize, width: usize) -> u64
     let mut n: u64 = 0;
     for i in 0..width {
         let digit = digit_at(text, at + i);
-        n = 10 * n + numbers::wide(digit);
+        n = 10 * n + u64::from(digit);
     }
     n
 }
 
+// By `|`: the text may end before the seven columns do, and the contract speaks of `any_of` over places, so that `any` is no plainer.
 fn minus_at(text: &[u8], at: usize) -> bool
     requires { at ≤ 580 }
     ensures { result ≡ minus_at text.now at }
@@ -85,6 +87,7 @@ fn repeats_at(text: &[u8], at: usize) -> u16
     (n % 65536) as u16
 }
 
+// By the phase, whose place in the text is reckoned from it; so the codes.
 fn frames_at(text: &[u8], at: usize) -> [u8; 4]
     requires { at ≤ 560 }
     ensures { result ≡ tab 4 (λ phase. value_at text.now (at + 4 * phase) 4 % 256) }

@@ -17,7 +17,7 @@ use Rattle.numbers.proofs.Painted.{get_d_tab}
 use Rattle.waveform.specs.declared.GroupCodes.{GroupCodes}
 use Rattle.column.specs.Columns.{has_digit, symbol_at, column_of, natural, whole}
 use Rattle.column.specs.Reading.{value_of}
-use Rattle.column.proofs.Columns.{column_length, column_at_is}
+use Rattle.column.proofs.Symbols.{column_length, column_at_is}
 use Rattle.drive_sheet.specs.declared.Sheet.{Sheet}
 use Rattle.drive_sheet.specs.Bytes.{no_group_codes, group_at, code_at}
 use Rattle.sheet_text.specs.Text.{sheet_text}

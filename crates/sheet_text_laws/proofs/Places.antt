@@ -10,7 +10,7 @@ use lib.ListN.{length, get_or, length-append}
 use Rattle.waveform.specs.declared.GroupCodes.{GroupCodes}
 use Rattle.waveform.specs.Phases.{joined}
 use Rattle.column.specs.Columns.{natural, whole, line_end}
-use Rattle.column.proofs.Columns.{column_length}
+use Rattle.column.proofs.Symbols.{column_length}
 use Rattle.drive_sheet.specs.declared.Sheet.{Sheet}
 use Rattle.drive_sheet.specs.Bytes.{group_at, code_at}
 use Rattle.sheet_text.specs.Text.{digits_text, codes_text, frames_text, group_line, gate_name, vsh1_name, vsh2_name, vsl_name, vcom_name, gate_line, voltage_line, voltage_lines, group_lines, sheet_text}

@@ -17,7 +17,7 @@ use Rattle.numbers.proofs.Lin.{le_out}
 use Rattle.otp.specs.Search.{any_of}
 use Rattle.column.specs.Columns.{has_digit, symbol_at, column_of, natural, whole}
 use Rattle.column.specs.Reading.{same, value_from, value_of, read_of}
-use Rattle.column.proofs.Columns.{column_at_is}
+use Rattle.column.proofs.Symbols.{column_at_is}
 use Rattle.column.proofs.Reading.{written_read}
 use Rattle.sheet_text_laws.specs.Fits.{ColumnFits}
 

@@ -17,7 +17,7 @@ use Rattle.waveform.specs.declared.GroupCodes.{GroupCodes}
 use Rattle.config.specs.Answer.{accepted}
 use Rattle.column.specs.Columns.{symbol_at, natural, whole}
 use Rattle.column.specs.Reading.{value_of}
-use Rattle.column.proofs.Columns.{column_length, column_at_is}
+use Rattle.column.proofs.Symbols.{column_length, column_at_is}
 use Rattle.otp.specs.Search.{any_of}
 use Rattle.drive_sheet.specs.declared.Sheet.{Sheet}
 use Rattle.drive_sheet.specs.Bytes.{no_group_codes, group_at, code_at, setting_of, Formed}

@@ -1,9 +1,8 @@
 -- What `sensitivity` writes (SCOPE, Sensitivity): a line for each LUT, or a refusal's number.
-use Rattle.std.specs.Prelude.{List, ◌++◌, ℕ, ltb, length, drop}
-use Rattle.numbers.specs.Choice.{pick}
+use Rattle.std.specs.Prelude.{List, ◌++◌, ℕ}
 use Rattle.glass.specs.declared.Optics.{Optics}
 use Rattle.config.specs.Answer.{Answer, accepted, refused}
-use Rattle.column.specs.Columns.{natural, line_end, Buffer, buffer}
+use Rattle.column.specs.Columns.{natural, line_end, Buffer, in_front}
 use Rattle.voltage_shift.specs.declared.DrivingVoltage.{DrivingVoltage}
 use Rattle.voltage_shift.specs.declared.Shift.{Shift}
 use Rattle.voltage_shift.specs.declared.Shifts.{Shifts}
@@ -37,7 +36,7 @@ lines_room = 112
 
 -- a text at the front of the bytes lent, and its length; where they lack the room of four lines, nothing
 unfoldable pub at_front : List ℕ → List ℕ → Buffer
-at_front text out = pick (ltb (length out) lines_room) (buffer 0 out) (buffer (length text) (text ++ drop (length text) out))
+at_front text out = in_front lines_room text out
 
 -- the text of the bounds
 abbrev pub bounds_text : Optics → List ℕ → List ℕ → DrivingVoltage → ℕ → ℕ → List ℕ

@@ -1,5 +1,5 @@
 -- The words of `sensitivity` for a voltage and a code (SCOPE, Sensitivity), in ASCII.
-use Rattle.std.specs.Prelude.{Bool, ◌&&◌, List, [], ◌∷◌, ℕ, ◌+◌, ◌-◌, ◌*◌, eqb, leb, ltb, length, get_or, Option, Some, None}
+use Rattle.std.specs.Prelude.{◌&&◌, List, [], ◌∷◌, ℕ, ◌+◌, ◌-◌, ◌*◌, eqb, leb, length, get_or, Option, Some, None}
 use Rattle.numbers.specs.Choice.{pick}
 use Rattle.column.specs.Reading.{same}
 use Rattle.voltage_shift.specs.declared.DrivingVoltage.TheVariants.{Vsh1, Vsh2, Vsl}
@@ -13,19 +13,21 @@ voltage_word word =
     (pick (same word (118 ∷ 115 ∷ 108 ∷ [])) (Some Vsl)
     None))
 
--- what a hexadecimal digit of either case counts, and 16 for any other byte
-unfoldable pub hex_value : ℕ → ℕ
+-- what a hexadecimal digit of either case counts
+unfoldable pub hex_value : ℕ → Option ℕ
 hex_value c =
-    pick (leb 48 c && leb c 57) (c - 48)
-    (pick (leb 65 c && leb c 70) (c - 55)
-    (pick (leb 97 c && leb c 102) (c - 87)
-    16))
+    pick (leb 48 c && leb c 57) (Some (c - 48))
+    (pick (leb 65 c && leb c 70) (Some (c - 55))
+    (pick (leb 97 c && leb c 102) (Some (c - 87))
+    None))
 
--- "0x" and two hexadecimal digits
-abbrev pub is_code_word : List ℕ → Bool
-is_code_word w =
-    eqb (length w) 4 && eqb (get_or w 0 0) 48 && eqb (get_or w 1 0) 120 && ltb (hex_value (get_or w 2 0)) 16 && ltb (hex_value (get_or w 3 0)) 16
+-- the byte that two digits write
+abbrev pub hex_byte : Option ℕ → Option ℕ → Option ℕ
+hex_byte None low = None
+hex_byte (Some high) None = None
+hex_byte (Some high) (Some low) = Some (16 * high + low)
 
--- the byte that they write
+-- "0x" and two hexadecimal digits: the byte that they write
 unfoldable pub code_word : List ℕ → Option ℕ
-code_word w = pick (is_code_word w) (Some (16 * hex_value (get_or w 2 0) + hex_value (get_or w 3 0))) None
+code_word w =
+    pick (eqb (length w) 4 && eqb (get_or w 0 0) 48 && eqb (get_or w 1 0) 120) (hex_byte (hex_value (get_or w 2 0)) (hex_value (get_or w 3 0))) None

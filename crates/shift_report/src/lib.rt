@@ -3,12 +3,13 @@
 
 pub mod words;
 
-ghost use Rattle.std.specs.Prelude.{◌≡◌, ◌+◌, ◌<◌, ◌≤◌, length};
+ghost use Rattle.std.specs.Prelude.{◌≡◌, ◌≤◌, length};
 ghost use Rattle.config.specs.Answer.{refused_by};
-ghost use Rattle.column.specs.Columns.{buffer, appended};
+ghost use Rattle.column.specs.Columns.{buffer, gathered};
 ghost use Rattle.voltage_shift.specs.Bounds.{shift_refusal, shift_answer};
-ghost use Rattle.shift_report.specs.Report.{shift_line, shift_lines, answer_number, number_line, shift_text, at_front, bounds_text};
+ghost use Rattle.shift_report.specs.Report.{shift_line, shift_lines, answer_number, number_line, shift_text, lines_room, at_front, bounds_text};
 
+use column::Columns;
 use config::ConfigError;
 use glass::Optics;
 use voltage_shift::{DrivingVoltage, Shift, ShiftError, Shifts};
@@ -16,40 +17,35 @@ use voltage_shift::{DrivingVoltage, Shift, ShiftError, Shifts};
 // The bytes of four lines.
 pub const ROOM: usize = 112;
 
-fn put_line(out: &mut [u8], at: usize, lut: u64, shift: Shift) -> usize
-    requires { at + 28 ≤ length out.old }
-    ensures text { buffer result out.new ≡ appended (buffer at out.old) (shift_line lut shift) }
-    ensures end { result ≡ at + 28 }
+type Text = Columns<ROOM>;
+
+fn put_line(text: &mut Text, lut: u64, shift: Shift)
+    ensures { text.new ≡ gathered lines_room text.old (shift_line lut shift) }
 {
-    let steps = numbers::wide(shift.steps);
-    let bound_at = column::put(out, at, 3, false, lut);
-    let steps_at = column::put(out, bound_at, 20, false, shift.bound);
-    let end_at = column::put(out, steps_at, 4, false, steps);
-    column::put_line_end(out, end_at)
+    text.put_number(3, lut);
+    text.put_number(20, shift.bound);
+    text.put_number(4, u64::from(shift.steps));
+    text.put(b'\n');
 }
 
-fn put_lines(out: &mut [u8], shifts: Shifts) -> usize
-    requires { 112 ≤ length out.old }
-    ensures text { buffer result out.new ≡ appended (buffer 0 out.old) (shift_lines shifts) }
-    ensures end { result ≤ 112 }
+fn put_lines(text: &mut Text, shifts: Shifts)
+    ensures { text.new ≡ gathered lines_room text.old (shift_lines shifts) }
 {
-    let first_end = put_line(out, 0, 0, shifts.lut0);
-    let second_end = put_line(out, first_end, 1, shifts.lut1);
-    let third_end = put_line(out, second_end, 2, shifts.lut2);
-    put_line(out, third_end, 3, shifts.lut3)
+    put_line(text, 0, shifts.lut0);
+    put_line(text, 1, shifts.lut1);
+    put_line(text, 2, shifts.lut2);
+    put_line(text, 3, shifts.lut3);
 }
 
 // A refusal's number in three columns, as `wavelist` has it.
-fn put_number(out: &mut [u8], number: u64) -> usize
-    requires { 112 ≤ length out.old }
-    ensures text { buffer result out.new ≡ appended (buffer 0 out.old) (number_line number) }
-    ensures end { result ≤ 112 }
+fn put_number(text: &mut Text, number: u64)
+    ensures { text.new ≡ gathered lines_room text.old (number_line number) }
 {
-    let end = column::put(out, 0, 3, false, number);
-    column::put_line_end(out, end)
+    text.put_number(3, number);
+    text.put(b'\n');
 }
 
-// 4 and 5 are the ones that bounds are refused with.
+// No `From`: both types are of other crates. 4 and 5 are the ones that bounds are refused with.
 fn config_number(error: ConfigError) -> u64
     ensures { result ≡ answer_number (refused_by error) }
 {
@@ -75,15 +71,15 @@ fn number_of(error: ShiftError) -> u64
     }
 }
 
-fn put(out: &mut [u8], bounded: Result<Shifts, ShiftError>) -> usize
-    requires { 112 ≤ length out.old }
-    ensures text { buffer result out.new ≡ appended (buffer 0 out.old) (shift_text (shift_answer bounded)) }
-    ensures end { result ≤ 112 }
+fn text_of(bounded: Result<Shifts, ShiftError>) -> Text
+    ensures { result ≡ shift_text (shift_answer bounded) }
 {
+    let mut text = Text::new();
     match bounded {
-        Ok(shifts) => put_lines(out, shifts),
-        Err(error) => put_number(out, number_of(error)),
+        Ok(shifts) => put_lines(&mut text, shifts),
+        Err(error) => put_number(&mut text, number_of(error)),
     }
+    text
 }
 
 // Writes the bounds of `voltage_shift::bounds` to the front of `out`, a line for each LUT, or the number of the refusal, and answers how
@@ -100,9 +96,6 @@ pub fn report(
     ensures text { buffer result out.new ≡ at_front (bounds_text optics frame_period setting.now driving before after) out.old }
     ensures within { result ≤ length out.new }
 {
-    if out.len() < ROOM {
-        return 0;
-    }
     let bounded = voltage_shift::bounds(optics, frame_period, setting, driving, before, after);
-    put(out, bounded)
+    text_of(bounded).write_to(out)
 }

@@ -27,33 +27,24 @@ pub fn voltage(word: &[u8]) -> Option<DrivingVoltage>
     None
 }
 
-// What a hexadecimal digit counts; 16 for any other byte.
-fn hex_value(byte: u8) -> u8
+// What a hexadecimal digit counts.
+fn hex_value(byte: u8) -> Option<u8>
     ensures { result ≡ hex_value byte }
 {
-    if (b'0' <= byte) & (byte <= b'9') {
-        return byte - 48;
+    match byte {
+        b'0'..=b'9' => Some(byte - 48),
+        b'A'..=b'F' => Some(byte - 55),
+        b'a'..=b'f' => Some(byte - 87),
+        _ => None,
     }
-    if (b'A' <= byte) & (byte <= b'F') {
-        return byte - 55;
-    }
-    if (b'a' <= byte) & (byte <= b'f') {
-        return byte - 87;
-    }
-    16
 }
 
 // `0x` and two hexadecimal digits, and nothing else: 41 alone could be meant in decimal or not.
 pub fn code(word: &[u8]) -> Option<u8>
     ensures { result ≡ code_word word.now }
 {
-    if word.len() != 4 {
+    let [b'0', b'x', high, low] = word else {
         return None;
-    }
-    let high = hex_value(word[2]);
-    let low = hex_value(word[3]);
-    if (word[0] == b'0') & (word[1] == b'x') & (high < 16) & (low < 16) {
-        return Some(16 * high + low);
-    }
-    None
+    };
+    Some(16 * hex_value(*high)? + hex_value(*low)?)
 }

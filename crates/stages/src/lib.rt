@@ -6,7 +6,7 @@ ghost use Rattle.stages.specs.Run.{control_of, step, noted, waited};
 ghost use Rattle.stages.specs.Stages.{mode_of};
 
 use config::DisplayMode;
-use diagnostic::{DiagnosticKind, Journal};
+use diagnostic::{DiagnosticKind, Journal, Log};
 
 // The bits of Display Update Control 2 (0x22), from bit 7 down, one stage each but for the mode.
 #[derive(Clone, Copy)]
@@ -51,8 +51,7 @@ pub struct Run {
     pub waveform: u8,
 }
 
-pub fn note(run: Run, log: &mut [u8], time: u64, kind: DiagnosticKind) -> Run
-    requires { length log.old ≡ 16384 }
+pub fn note(run: Run, log: &mut Log, time: u64, kind: DiagnosticKind) -> Run
     ensures { step result log.new ≡ noted time kind (step run log.old) }
 {
     let journal = diagnostic_log::report(run.journal, log, time, kind);

@@ -6,7 +6,7 @@ ghost use Rattle.world.specs.World.{with_log};
 ghost use Rattle.start.specs.Start.{soft_reset, is_powered, unpowered, vcom_sensed, pointed};
 
 use device::{Ssd1677, part};
-use diagnostic::{DiagnosticKind, Stage};
+use diagnostic::{DiagnosticKind, Log, Stage};
 use numbers::low_nibble;
 
 // A second, in nanoseconds.
@@ -36,8 +36,7 @@ pub fn powered(state: Ssd1677) -> bool
 }
 
 // The stage is skipped without the clock or the analog supplies.
-pub fn report_unpowered(state: Ssd1677, log: &mut [u8], stage: Stage) -> Ssd1677
-    requires { length log.old ≡ 16384 }
+pub fn report_unpowered(state: Ssd1677, log: &mut Log, stage: Stage) -> Ssd1677
     ensures { with_log result log.new ≡ unpowered stage (with_log state log.old) }
 {
     if state.clock {
@@ -50,8 +49,7 @@ pub fn report_unpowered(state: Ssd1677, log: &mut [u8], stage: Stage) -> Ssd1677
 }
 
 // 0x28: the sensing takes the seconds of 0x29, with the supplies on.
-pub fn sense_vcom(state: Ssd1677, log: &mut [u8]) -> Ssd1677
-    requires { length log.old ≡ 16384 }
+pub fn sense_vcom(state: Ssd1677, log: &mut Log) -> Ssd1677
     ensures { with_log result log.new ≡ vcom_sensed (with_log state log.old) }
 {
     if powered(state) {
@@ -66,8 +64,7 @@ pub fn sense_vcom(state: Ssd1677, log: &mut [u8]) -> Ssd1677
 }
 
 // 0x24, 0x26 and 0x27: 32 where the counter lies outside the window (datasheet §8.5).
-pub fn point(state: Ssd1677, log: &mut [u8], command: u8) -> Ssd1677
-    requires { length log.old ≡ 16384 }
+pub fn point(state: Ssd1677, log: &mut Log, command: u8) -> Ssd1677
     ensures { with_log result log.new ≡ pointed command (with_log state log.old) }
 {
     let regs = state.regs;

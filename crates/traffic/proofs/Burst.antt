@@ -25,7 +25,7 @@ use Rattle.counts.specs.Counts.{Picture}
 use Rattle.world.specs.World.{World, world, with_ram, WithPlanes, with_planes, planes_in_world}
 use Rattle.registers.proofs.Bounds.{Bounded}
 use Rattle.clock.specs.Advance.{is_quiet}
-use Rattle.data.specs.Most.{is_stream}
+use Rattle.device.specs.Kinds.{is_stream}
 use Rattle.data.specs.Data.{one_byte_more, plane_for, data_taken}
 use Rattle.data.proofs.Cases.{puts, stream_is}
 use Rattle.data_laws.proofs.Kept.{written_length}

@@ -1,14 +1,14 @@
 // Events made of a device one after the other, up to the first call that is refused: what #102 feeds from a file.
 #![tactic(auto)]
 
-ghost use Rattle.std.specs.Prelude.{◌≡◌, true, ◌+◌, ◌-◌, ◌≤◌, ◌<◌, min, length, is_ok};
+ghost use Rattle.std.specs.Prelude.{◌≡◌, true, ◌+◌, ◌-◌, ◌≤◌, ◌<◌, min, is_ok};
 ghost use Rattle.guard.specs.Refusals.{refusal_number};
 ghost use Rattle.counts.specs.Counts.{picture};
 ghost use Rattle.world.specs.World.{world};
 ghost use Rattle.burst.specs.Burst.{bursted};
 ghost use Rattle.traffic.specs.Traffic.{event_at, shortest, fed, made, feeding, ended, EndsAlike};
 
-use burst::{Burst, DATA};
+use burst::{Burst, DATA, Events};
 use device::Ssd1677;
 use guard::Refusal;
 use guard_lengths::Lengths;
@@ -27,19 +27,17 @@ fn stream(
     lengths: Lengths,
     black_white: &mut [u8],
     red: &mut [u8],
-    kinds: &[u8],
-    times: &[u64],
-    values: &[u8],
+    events: Events,
     from: usize,
-    count: usize,
 ) -> Burst
-    requires { (from < count) × (count ≤ length kinds.now) × (count ≤ length times.now) × (count ≤ length values.now) }
-    ensures from_le_made { (from ≤ result.made) × (result.made ≤ count) }
-    ensures ends_alike { EndsAlike kinds.now times.now values.now count lengths (bursted from state black_white.old red.old) (bursted result.made result.state black_white.new red.new) }
+    requires { from < events.count }
+    ensures from_le_made { (from ≤ result.made) × (result.made ≤ events.entry.count) }
+    ensures ends_alike { EndsAlike events.entry.kinds.now events.entry.times.now events.entry.values.now events.entry.count lengths (bursted from state black_white.old red.old) (bursted result.made result.state black_white.new red.new) }
 {
-    if kinds[from] == DATA {
+    let kind = events.kinds[from];
+    if kind == DATA {
         if guard::check(state, lengths).is_ok() {
-            return burst::write_burst(state, black_white, red, kinds, times, values, from, count);
+            return burst::write_burst(state, black_white, red, events, from);
         }
     }
     Burst { made: from, state }
@@ -57,24 +55,21 @@ fn one(
     gates: &[u16],
     log: &mut [u8],
     otp: &[u8],
-    kinds: &[u8],
-    times: &[u64],
-    values: &[u8],
+    events: Events,
     at: usize,
-    count: usize,
 ) -> Fed
-    requires { (at ≤ count) × (count ≤ length kinds.now) × (count ≤ length times.now) × (count ≤ length values.now) }
-    ensures made_value { is_ok result.answer ≡ true → result.made ≡ min count (at + 1) }
-    ensures log_after { ended (made otp.now (event_at kinds.now times.now values.now)) count (fed (refusal_number result.answer) result.made (world result.state states.new luts.new (picture pixels.new counts.new) black_white.new red.new gates.now log.new)) ≡ feeding (made otp.now (event_at kinds.now times.now values.now)) (count - at) at (world state states.old luts.old (picture pixels.old counts.old) black_white.old red.old gates.now log.old) }
+    requires { at ≤ events.count }
+    ensures made_value { is_ok result.answer ≡ true → result.made ≡ min events.entry.count (at + 1) }
+    ensures log_after { ended (made otp.now (event_at events.entry.kinds.now events.entry.times.now events.entry.values.now)) events.entry.count (fed (refusal_number result.answer) result.made (world result.state states.new luts.new (picture pixels.new counts.new) black_white.new red.new gates.now log.new)) ≡ feeding (made otp.now (event_at events.entry.kinds.now events.entry.times.now events.entry.values.now)) (events.entry.count - at) at (world state states.old luts.old (picture pixels.old counts.old) black_white.old red.old gates.now log.old) }
 {
-    if count <= at {
+    if events.count <= at {
         return Fed {
             answer: Ok(()),
             state,
             made: at,
         };
     }
-    let event = event::event_of(kinds[at], times[at], values[at]);
+    let event = event::event_of(events.kinds[at], events.times[at], events.values[at]);
     let answer = dispatch::dispatch(
         state,
         &mut states[..],
@@ -114,15 +109,12 @@ fn turn(
     gates: &[u16],
     log: &mut [u8],
     otp: &[u8],
-    kinds: &[u8],
-    times: &[u64],
-    values: &[u8],
+    events: Events,
     from: usize,
-    count: usize,
 ) -> Fed
-    requires { (from < count) × (count ≤ length kinds.now) × (count ≤ length times.now) × (count ≤ length values.now) }
-    ensures from_lt_made { is_ok result.answer ≡ true → (from < result.made) × (result.made ≤ count) }
-    ensures log_after { ended (made otp.now (event_at kinds.now times.now values.now)) count (fed (refusal_number result.answer) result.made (world result.state states.new luts.new (picture pixels.new counts.new) black_white.new red.new gates.now log.new)) ≡ feeding (made otp.now (event_at kinds.now times.now values.now)) (count - from) from (world state states.old luts.old (picture pixels.old counts.old) black_white.old red.old gates.now log.old) }
+    requires { from < events.count }
+    ensures from_lt_made { is_ok result.answer ≡ true → (from < result.made) × (result.made ≤ events.entry.count) }
+    ensures log_after { ended (made otp.now (event_at events.entry.kinds.now events.entry.times.now events.entry.values.now)) events.entry.count (fed (refusal_number result.answer) result.made (world result.state states.new luts.new (picture pixels.new counts.new) black_white.new red.new gates.now log.new)) ≡ feeding (made otp.now (event_at events.entry.kinds.now events.entry.times.now events.entry.values.now)) (events.entry.count - from) from (world state states.old luts.old (picture pixels.old counts.old) black_white.old red.old gates.now log.old) }
 {
     let lengths = guard_lengths::planes_log_lent(
         states.len(),
@@ -138,11 +130,8 @@ fn turn(
         lengths,
         &mut black_white[..],
         &mut red[..],
-        kinds,
-        times,
-        values,
+        events,
         from,
-        count,
     );
     let at = run.made;
     let present = run.state;
@@ -157,11 +146,8 @@ fn turn(
         gates,
         log,
         otp,
-        kinds,
-        times,
-        values,
+        events,
         at,
-        count,
     )
 }
 
@@ -184,6 +170,12 @@ pub fn feed(
     ensures { fed (refusal_number result.answer) result.made (world result.state states.new luts.new (picture pixels.new counts.new) black_white.new red.new gates.now log.new) ≡ feeding (made otp.now (event_at kinds.now times.now values.now)) (shortest kinds.now times.now values.now) 0 (world state states.old luts.old (picture pixels.old counts.old) black_white.old red.old gates.now log.old) }
 {
     let count = kinds.len().min(times.len().min(values.len()));
+    let events = Events {
+        kinds,
+        times,
+        values,
+        count,
+    };
     let mut next = state;
     let mut i: usize = 0;
     // By as many places as a turn has made: RAM data are one turn, however many bytes they are.
@@ -199,11 +191,8 @@ pub fn feed(
             gates,
             &mut log[..],
             otp,
-            kinds,
-            times,
-            values,
+            events,
             i,
-            count,
         );
         if fed.answer.is_err() {
             return fed;

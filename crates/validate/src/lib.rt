@@ -1,10 +1,10 @@
 // The parameters and the table that a start is refused for (config.rs, `validate`).
 #![tactic(auto)]
 
-ghost use Rattle.std.specs.Prelude.{◌≡◌, not, [], ◌∷◌, ◌<◌};
+ghost use Rattle.std.specs.Prelude.{◌≡◌, not, [], ◌∷◌};
 ghost use Rattle.voltage.specs.Codes.{is_voltage, source_voltage, vsl_voltage, vcom_voltage};
 ghost use Rattle.config.specs.Answer.{first_of, answer_of};
-ghost use Rattle.otp.specs.Table.{entry_count, unlisted_voltage, voltages_test, start_tests};
+ghost use Rattle.otp.specs.Table.{unlisted_voltage, voltages_test, start_tests};
 
 use config::{ConfigError, Ssd1677Config};
 use otp::ENTRY_BYTES;
@@ -28,24 +28,23 @@ fn is_unlisted_vcom(code: u8) -> bool
 }
 
 // Bytes 106 to 109 of the setting, which begins at byte 6 of the entry.
-fn has_unlisted_voltage(otp: &[u8], entry: usize) -> bool
-    requires { entry < entry_count otp.now }
-    ensures { result ≡ unlisted_voltage otp.now entry }
+fn has_unlisted_voltage(entry: &[u8; ENTRY_BYTES]) -> bool
+    ensures { result ≡ unlisted_voltage entry.now 0 }
 {
-    let at = ENTRY_BYTES * entry;
-    let vsh1 = is_unlisted_source(otp[at + 112]);
-    let vsh2 = is_unlisted_source(otp[at + 113]);
-    let vsl = is_unlisted_vsl(otp[at + 114]);
-    let vcom = is_unlisted_vcom(otp[at + 115]);
+    let vsh1 = is_unlisted_source(entry[112]);
+    let vsh2 = is_unlisted_source(entry[113]);
+    let vsl = is_unlisted_vsl(entry[114]);
+    let vcom = is_unlisted_vcom(entry[115]);
     vsh1 | vsh2 | vsl | vcom
 }
 
+// By their numbers, since that of the first one is told.
 fn check_voltages(otp: &[u8]) -> Result<(), ConfigError>
     ensures { answer_of result ≡ first_of (voltages_test otp.now ∷ []) }
 {
-    let entries = otp.len() / ENTRY_BYTES;
-    for entry in 0..entries {
-        if has_unlisted_voltage(otp, entry) {
+    let (entries, _) = otp.as_chunks::<ENTRY_BYTES>();
+    for entry in 0..entries.len() {
+        if has_unlisted_voltage(&entries[entry]) {
             return Err(ConfigError::OtpVoltage(entry));
         }
     }

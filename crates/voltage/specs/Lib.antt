@@ -1,3 +1,2 @@
 -- The root of voltage's specs.
 pub mod Codes
-pub mod Sheet

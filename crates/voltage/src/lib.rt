@@ -5,60 +5,13 @@ mod sheet;
 
 ghost use Rattle.std.specs.Prelude.{◌≡◌};
 ghost use Rattle.voltage.specs.Codes.{source_voltage, vsl_voltage, vcom_voltage, gate_listed};
-ghost use Rattle.voltage.specs.Sheet.{figure};
-
-// The sheet's figures for two codes.
-#[derive(Clone, Copy)]
-struct Figures {
-    first: u16,
-    second: u16,
-}
-
-// Two at once, since the sheet is laid on the stack for each call.
-fn look_up(first: u8, second: u8) -> Figures
-    ensures first_value { figure result.first ≡ source_voltage first }
-    ensures second_value { figure result.second ≡ source_voltage second }
-{
-    let sheet = sheet::SOURCE_MILLIVOLTS;
-    Figures {
-        first: sheet[first as usize],
-        second: sheet[second as usize],
-    }
-}
-
-// What a figure of the sheet says.
-fn told(found: u16) -> Option<i64>
-    ensures { result ≡ figure found }
-{
-    if found != sheet::UNLISTED {
-        return Some(found as i64);
-    }
-    None
-}
 
 // VSH1 or VSH2 (0x04, bytes A and B).
 pub fn source_millivolts(code: u8) -> Option<i64>
     ensures { result ≡ source_voltage code }
 {
-    told(look_up(code, code).first)
-}
-
-// VSH1 and VSH2 of one setting.
-#[derive(Clone, Copy)]
-pub struct SourcePair {
-    pub vsh1: Option<i64>,
-    pub vsh2: Option<i64>,
-}
-
-pub fn source_pair(vsh1: u8, vsh2: u8) -> SourcePair
-    ensures vsh1_value { result.vsh1 ≡ source_voltage vsh1 }
-    ensures vsh2_value { result.vsh2 ≡ source_voltage vsh2 }
-{
-    let figures = look_up(vsh1, vsh2);
-    SourcePair {
-        vsh1: told(figures.first),
-        vsh2: told(figures.second),
-    }
+    let millivolts = sheet::SOURCE_MILLIVOLTS[code as usize]?;
+    Some(i64::from(millivolts))
 }
 
 // VSL (0x04, byte C).

@@ -2,13 +2,13 @@
 #![tactic(auto)]
 
 ghost use Rattle.std.specs.Prelude.{◌≡◌, ◌<◌, ◌≤◌, min, nat_abs, ◌-ℤ◌, ◌≤ℤ◌, length};
+ghost use Rattle.numbers.specs.Choice.{pick};
 ghost use Rattle.numbers.specs.Saturation.{largest};
 ghost use Rattle.config.specs.Answer.{first_of};
 ghost use Rattle.voltage.specs.Codes.{is_voltage};
-ghost use Rattle.waveform.specs.Setting.{waveform_of};
 ghost use Rattle.waveform.specs.Voltages.{or_zero, Listable};
 ghost use Rattle.voltage_shift.specs.declared.ShiftError.TheVariants.{Parameters};
-ghost use Rattle.voltage_shift.specs.Shift.{driving_millivolts, source_uses, vcom_uses, uses_one, changing_frames, group_shift, shift_of, gray_steps};
+ghost use Rattle.voltage_shift.specs.Shift.{driving_millivolts, source_uses, vcom_uses, exactly_one, group_shift, shift_of, gray_steps};
 ghost use Rattle.voltage_shift.specs.Bounds.{optics_swing, setting_tests, change_of, lut_shift, lut_shifts, shifts_for, shifting_unless, bounds_of, shift_answer};
 
 use config::ConfigError;
@@ -129,63 +129,15 @@ fn vcom_uses(driving: DrivingVoltage, code: u8) -> bool
     }
 }
 
-// Exactly one of the source of a LUT and VCOM uses the voltage.
-fn uses_one(driving: DrivingVoltage, group: Group, lut: usize, phase: usize) -> bool
-    requires { (lut < 4) × (phase < 4) }
-    ensures { result ≡ uses_one driving group lut phase }
-{
-    let vcom = vcom_uses(driving, group.codes[16 + phase]);
-    if source_uses(driving, group.codes[4 * lut + phase]) {
-        return !vcom;
-    }
-    vcom
-}
-
-// A phase's frames, with their bound.
-fn count(frames: u8) -> u64
-    ensures { (result ≡ frames) × (result < 256) }
-{
-    frames as u64
-}
-
-// The frames of a phase, if it counts.
-fn changing_frames(driving: DrivingVoltage, group: Group, lut: usize, phase: usize) -> u64
-    requires { (lut < 4) × (phase < 4) }
-    ensures is { result ≡ changing_frames driving group lut phase }
+// The frames of a phase, if it counts: exactly one of the source of a LUT and VCOM uses the voltage.
+fn changing_frames(driving: DrivingVoltage, source: u8, vcom: u8, frames: u8) -> u64
+    ensures is { result ≡ pick (exactly_one (source_uses driving source) (vcom_uses driving vcom)) frames 0 }
     ensures few { result < 256 }
 {
-    if uses_one(driving, group, lut, phase) {
-        return count(group.frames[phase]);
+    if source_uses(driving, source) != vcom_uses(driving, vcom) {
+        return u64::from(frames);
     }
     0
-}
-
-// All repeats of a group.
-fn group_shift(change: u64, driving: DrivingVoltage, group: Group, lut: usize) -> u64
-    requires { lut < 4 }
-    ensures { result ≡ min (group_shift change driving group lut) (largest 64) }
-{
-    let first = changing_frames(driving, group, lut, 0);
-    let second = changing_frames(driving, group, lut, 1);
-    let third = changing_frames(driving, group, lut, 2);
-    let fourth = changing_frames(driving, group, lut, 3);
-    let frames = first + second + third + fourth;
-    let runs = numbers::saturating_mul_u64(frames, group.repeats as u64);
-    let drive = numbers::saturating_mul_u64(runs, change);
-    numbers::saturating_mul_u64(drive, group.frame_ns)
-}
-
-// Ten groups.
-fn waveform_shift(change: u64, driving: DrivingVoltage, waveform: Waveform, lut: usize) -> u64
-    requires { lut < 4 }
-    ensures { result ≡ min (shift_of change driving waveform.groups lut) (largest 64) }
-{
-    let mut total: u64 = 0;
-    for k in 0..10 {
-        let group = waveform.groups[k];
-        total = numbers::saturating_add_u64(total, group_shift(change, driving, group, lut));
-    }
-    total
 }
 
 // The nearest grey, or the next where its level falls short: 255 × bound / swing, rounded up, without the product.
@@ -200,52 +152,76 @@ fn gray_steps(bound: u64, swing: u64) -> u8
     gray
 }
 
-// A sum that stops at 2^64 − 1 is above any swing.
-fn lut_shift(
-    swing: u64,
-    change: u64,
+// A change of a voltage, without its sign.
+#[derive(Clone, Copy)]
+struct VoltageChange {
     driving: DrivingVoltage,
-    waveform: Waveform,
-    lut: usize,
-) -> Shift
-    requires some { (1 ≤ swing) × (swing ≤ largest 63) }
-    requires lut { lut < 4 }
-    ensures { result ≡ lut_shift swing change driving waveform.groups lut }
-{
-    let bound = numbers::min_u64(waveform_shift(change, driving, waveform, lut), swing);
-    let steps = gray_steps(bound, swing);
-    Shift { bound, steps }
+    millivolts: u64,
 }
 
-fn lut_shifts(swing: u64, change: u64, driving: DrivingVoltage, waveform: Waveform) -> Shifts
-    requires { (1 ≤ swing) × (swing ≤ largest 63) }
-    ensures { result ≡ lut_shifts swing change driving waveform.groups }
-{
-    let lut0 = lut_shift(swing, change, driving, waveform, 0);
-    let lut1 = lut_shift(swing, change, driving, waveform, 1);
-    let lut2 = lut_shift(swing, change, driving, waveform, 2);
-    let lut3 = lut_shift(swing, change, driving, waveform, 3);
-    Shifts {
-        lut0,
-        lut1,
-        lut2,
-        lut3,
+impl VoltageChange {
+    // All repeats of a group.
+    fn group_shift(self, group: Group, lut: usize) -> u64
+        requires { lut < 4 }
+        ensures { result ≡ min (group_shift self.millivolts self.driving group lut) (largest 64) }
+    {
+        // A LUT goes by its number, as in the definition: the codes of all five lie in one array.
+        let codes = group.codes;
+        let [a, b, c, d] = group.frames;
+        let first = changing_frames(self.driving, codes[4 * lut], codes[16], a);
+        let second = changing_frames(self.driving, codes[4 * lut + 1], codes[17], b);
+        let third = changing_frames(self.driving, codes[4 * lut + 2], codes[18], c);
+        let fourth = changing_frames(self.driving, codes[4 * lut + 3], codes[19], d);
+        let frames = first + second + third + fourth;
+        let runs = frames.saturating_mul(u64::from(group.repeats));
+        let drive = runs.saturating_mul(self.millivolts);
+        drive.saturating_mul(group.frame_ns)
     }
-}
 
-fn waveform_of(setting: &[u8], frame_period: [u64; 16]) -> Waveform
-    requires { length setting.now ≡ 112 }
-    ensures { result ≡ waveform_of setting.now frame_period }
-{
-    let mut copied = [0u8; 112];
-    byte_copy::copy(setting, &mut copied);
-    setting::from_setting(&copied, &frame_period)
+    // Ten groups.
+    fn waveform_shift(self, waveform: Waveform, lut: usize) -> u64
+        requires { lut < 4 }
+        ensures { result ≡ min (shift_of self.millivolts self.driving waveform.groups lut) (largest 64) }
+    {
+        let mut total: u64 = 0;
+        for group in waveform.groups {
+            total = total.saturating_add(self.group_shift(group, lut));
+        }
+        total
+    }
+
+    // A sum that stops at 2^64 − 1 is above any swing.
+    fn lut_shift(self, swing: u64, waveform: Waveform, lut: usize) -> Shift
+        requires some { (1 ≤ swing) × (swing ≤ largest 63) }
+        requires lut { lut < 4 }
+        ensures { result ≡ lut_shift swing self.millivolts self.driving waveform.groups lut }
+    {
+        let bound = self.waveform_shift(waveform, lut).min(swing);
+        let steps = gray_steps(bound, swing);
+        Shift { bound, steps }
+    }
+
+    fn lut_shifts(self, swing: u64, waveform: Waveform) -> Shifts
+        requires { (1 ≤ swing) × (swing ≤ largest 63) }
+        ensures { result ≡ lut_shifts swing self.millivolts self.driving waveform.groups }
+    {
+        let lut0 = self.lut_shift(swing, waveform, 0);
+        let lut1 = self.lut_shift(swing, waveform, 1);
+        let lut2 = self.lut_shift(swing, waveform, 2);
+        let lut3 = self.lut_shift(swing, waveform, 3);
+        Shifts {
+            lut0,
+            lut1,
+            lut2,
+            lut3,
+        }
+    }
 }
 
 fn swing_of(optics: Optics) -> u64
     ensures { result ≡ optics_swing optics }
 {
-    numbers::min_u64(optics.full_swing, LARGEST_SWING)
+    optics.full_swing.min(LARGEST_SWING)
 }
 
 // 11, 91, and the bounds.
@@ -260,18 +236,21 @@ fn setting_bounds(
     requires { 1 ≤ optics.full_swing }
     ensures { shift_answer result ≡ shifting_unless (first_of (setting_tests setting.now driving before after)) (shifts_for optics frame_period setting.now driving before after) }
 {
-    let whole = setting.len() == SETTING_BYTES;
     let listed = is_listed(driving, before) & is_listed(driving, after);
-    if !whole {
+    let Ok(setting) = <&[u8; SETTING_BYTES]>::try_from(setting) else {
         return Err(ShiftError::NotASetting);
-    }
+    };
     if !listed {
         return Err(ShiftError::UnlistedCode);
     }
-    let waveform = waveform_of(setting, frame_period);
+    let waveform = setting::from_setting(setting, &frame_period);
     let millivolts = change(driving, before, after);
     let swing = swing_of(optics);
-    Ok(lut_shifts(swing, millivolts, driving, waveform))
+    let change = VoltageChange {
+        driving,
+        millivolts,
+    };
+    Ok(change.lut_shifts(swing, waveform))
 }
 
 // How far each LUT's states may shift when the code of `driving` changes from `before` to `after`, whatever `setting` has for it.

@@ -9,7 +9,7 @@ ghost use Rattle.world.specs.World.{with_glass};
 ghost use Rattle.wait.specs.Wait.{clock_moved};
 
 use device::Ssd1677;
-use guard::Refused;
+use guard::{Refusal, Refused};
 
 // Brings the chip to an instant: publishes a display that has ended, lowers BUSY. An instant before the latest one seen counts as the
 // latest.
@@ -24,8 +24,15 @@ pub fn advance(
     ensures { outcome (refusal_number (answer_in result)) (with_glass (state_in result) states.new (picture pixels.new counts.new)) ≡ clock_moved luts.now time (with_glass state states.old (picture pixels.old counts.old)) }
 {
     let lengths = guard_lengths::glass_lent(states.len(), luts.len(), pixels.len(), counts.len());
-    match guard::check(state, lengths) {
-        Ok(()) => Ok(clock::advance(state, states, luts, pixels, counts, time)),
-        Err(refusal) => Err(Refused { refusal, state }),
+    if let Err(refusal) = guard::check(state, lengths) {
+        return Err(Refused { refusal, state });
     }
+    // The guard has seen the length.
+    let Some(counts) = counts.as_mut_array() else {
+        return Err(Refused {
+            refusal: Refusal::Counts,
+            state,
+        });
+    };
+    Ok(clock::advance(state, states, luts, pixels, counts, time))
 }

@@ -6,14 +6,14 @@ pub mod phases;
 ghost use Rattle.std.specs.Prelude.{◌≡◌, ◌/◌, ◌<◌};
 ghost use mathlib.Core.List.{foldl};
 ghost use Rattle.waveform.specs.Phases.{Timed, driven, phases_in};
-ghost use Rattle.waveform.specs.Walks.{Drivable, Walkable, group_in, groups_in, drive_stepped, whole_step, cut_step, phase_cut, whole_of, cut_of, transfer_of};
+ghost use Rattle.waveform.specs.Walks.{Drivable, Walkable, group_in, groups_in, drive_stepped, whole_step, cut_step, phase_cut, cut_of, transfer_of};
 ghost use Rattle.walk.specs.Ready.{LastingOf};
 
 use glass::Transfer;
 use phases::Lasting;
 use waveform::{Drive, DrivenPhase, Driving, Group, Phase, Progress, Waveform};
 
-// ---- the whole display
+// ---- whole groups
 
 // A phase to its end; one of 0 frames is passed over.
 fn whole_step(driving: Driving, step: DrivenPhase, transfer: Transfer) -> Transfer
@@ -26,7 +26,8 @@ fn whole_step(driving: Driving, step: DrivenPhase, transfer: Transfer) -> Transf
     transfer.then(Transfer::shift(step.drive, driving.swing))
 }
 
-// The four phases of a group, once.
+// The four phases of a group, once. Apart from `cut_pass`, which asks of each phase whether it ends in time: docs/PERFORMANCE says what
+// the whole groups of a cut walk gain by that.
 fn whole_pass(
     driving: Driving,
     first: DrivenPhase,
@@ -57,39 +58,6 @@ fn group_transfer(driving: Driving, group: Group, transfer: Transfer) -> Transfe
         moved = whole_pass(driving, first, second, third, fourth, moved);
     }
     moved
-}
-
-fn whole_groups(driving: Driving, waveform: Waveform, transfer: Transfer) -> Transfer
-    requires { Drivable driving }
-    ensures { result ≡ foldl (whole_step driving) transfer (groups_in driving waveform) }
-{
-    let mut moved = transfer;
-    for group in waveform.groups {
-        if !phases::idle(group) {
-            moved = group_transfer(driving, group, moved);
-        }
-    }
-    moved
-}
-
-// What the whole display does to a state from 0 to the swing.
-fn transfer_whole(
-    waveform: Waveform,
-    drive: Drive,
-    swing: i64,
-    positive_drives_black: bool,
-) -> Transfer
-    requires { Walkable waveform drive }
-    ensures { result ≡ whole_of waveform drive swing positive_drives_black }
-{
-    let levels = waveform.levels;
-    let driving = Driving {
-        levels,
-        drive,
-        swing,
-        positive_drives_black,
-    };
-    whole_groups(driving, waveform, Transfer::identity(swing))
 }
 
 // ---- up to a cut
@@ -210,7 +178,7 @@ fn cut_groups(driving: Driving, until: u64, waveform: Waveform, progress: Progre
 {
     let mut moved = progress;
     for group in waveform.groups {
-        if !phases::idle(group) {
+        if !phases::idle(group.frames) {
             moved = cut_group(driving, until, group, moved);
         }
     }
@@ -255,8 +223,7 @@ pub fn transfer(
     requires { Walkable waveform drive }
     ensures { result ≡ transfer_of waveform drive swing positive_drives_black until }
 {
-    match until {
-        None => transfer_whole(waveform, drive, swing, positive_drives_black),
-        Some(cut) => transfer_cut(waveform, drive, swing, positive_drives_black, cut),
-    }
+    // No phase ends past the last moment: a cut there cuts none.
+    let until = until.unwrap_or(u64::MAX);
+    transfer_cut(waveform, drive, swing, positive_drives_black, until)
 }

@@ -1,11 +1,12 @@
 // The phases of a group as they drive a pixel, and what some frames of one do to a transfer.
-ghost use Rattle.std.specs.Prelude.{◌≡◌, ◌<◌};
+ghost use Rattle.std.specs.Prelude.{◌≡◌, ◌<◌, ◌-ℤ◌};
+ghost use Rattle.waveform.specs.Voltages.{AllListable, source_level, vcom_swing};
 ghost use Rattle.waveform.specs.Phases.{Takes, code_for};
 ghost use Rattle.waveform.specs.Walks.{Drivable, phase_in, saturated_drive, phase_step, pushed};
 ghost use Rattle.walk.specs.Ready.{LastingOf, no_frames};
 
 use glass::Transfer;
-use waveform::{Drive, DrivenPhase, Driving, Group, Phase};
+use waveform::{Drive, DrivenPhase, Driving, Group, Levels, Phase};
 
 // A phase with its drive and how long it lasts, in 64 bits: both made once for all repeats of its group.
 #[derive(Clone, Copy)]
@@ -15,10 +16,9 @@ pub(crate) struct Lasting {
 }
 
 // A group without frames moves nothing, so its phases need not be made.
-pub(crate) fn idle(group: Group) -> bool
-    ensures { result ≡ no_frames group.frames }
+pub fn idle(frames: [u8; 4]) -> bool
+    ensures { result ≡ no_frames frames }
 {
-    let frames = group.frames;
     (frames[0] == 0) & (frames[1] == 0) & (frames[2] == 0) & (frames[3] == 0)
 }
 
@@ -33,20 +33,24 @@ fn code_for(drive: Drive, codes: [u8; 20], phase: usize) -> u8
     }
 }
 
+// What a pixel sees: a source's level against VCOM's, each by its code.
+pub fn pixel_millivolts(levels: Levels, source: u8, vcom: u8) -> i64
+    requires { AllListable levels }
+    ensures { result ≡ source_level levels source -ℤ vcom_swing levels vcom }
+{
+    levels.source(source) - levels.vcom_swing(vcom)
+}
+
 pub fn phase_of(driving: Driving, group: Group, phase: usize) -> Phase
     requires { (phase < 4) × Drivable driving }
     ensures { result ≡ phase_in driving group phase }
 {
-    let levels = driving.levels;
-    let drive = driving.drive;
     let codes = group.codes;
-    let source = levels.source(code_for(drive, codes, phase));
-    let vcom = levels.vcom_swing(codes[16 + phase]);
-    let millivolts = source - vcom;
+    let source = code_for(driving.drive, codes, phase);
     Phase {
-        frames: numbers::wide(group.frames[phase]),
+        frames: u64::from(group.frames[phase]),
         frame_ns: group.frame_ns,
-        millivolts,
+        millivolts: pixel_millivolts(driving.levels, source, codes[16 + phase]),
     }
 }
 
@@ -87,7 +91,7 @@ pub(crate) fn lasting_of(driving: Driving, group: Group, at: usize) -> Lasting
 {
     let step = step_of(driving, group, at);
     let phase = step.phase;
-    let length = numbers::saturating_mul_u64(phase.frames, phase.frame_ns);
+    let length = phase.frames.saturating_mul(phase.frame_ns);
     Lasting { step, length }
 }
 

@@ -4,7 +4,7 @@
 #![tactic(auto)]
 
 ghost use Rattle.std.specs.Prelude.{◌≡◌};
-ghost use Rattle.waveform.specs.Voltages.{or_zero, levels_of, source_level, vcom_swing};
+ghost use Rattle.waveform.specs.Voltages.{levels_of, source_level, vcom_swing};
 
 use glass::Transfer;
 
@@ -17,27 +17,15 @@ pub struct Levels {
     pub vsl: i64,
 }
 
-// A code that the datasheet does not list reads 0 V; the command that wrote it reported it.
-fn or_zero(millivolts: Option<i64>) -> i64
-    ensures { result ≡ or_zero millivolts }
-{
-    match millivolts {
-        Some(listed) => listed,
-        None => 0,
-    }
-}
-
 impl Levels {
+    // A code that the datasheet does not list reads 0 V; the command that wrote it reported it.
     pub fn from_setting(setting: &[u8; 112]) -> Levels
         ensures { result ≡ levels_of setting.now }
     {
-        let sources = voltage::source_pair(setting[106], setting[107]);
-        let vsh1 = sources.vsh1;
-        let vsh2 = sources.vsh2;
         Levels {
-            vsh1: or_zero(vsh1),
-            vsh2: or_zero(vsh2),
-            vsl: or_zero(voltage::vsl_millivolts(setting[108])),
+            vsh1: voltage::source_millivolts(setting[106]).unwrap_or(0),
+            vsh2: voltage::source_millivolts(setting[107]).unwrap_or(0),
+            vsl: voltage::vsl_millivolts(setting[108]).unwrap_or(0),
         }
     }
 

@@ -8,10 +8,7 @@ use Rattle.activation.proofs.run_stages.Goals as goal
 pub show-s-requires : goal.show-s-requires
 show-s-requires c =
     let s = c in
-    record { mux_small = s.requires.mux_small; sources = s.requires.sources; luts_long = s.requires.luts_long; gates_long = s.requires.gates_long; black_white_long = s.requires.black_white_long; red_long = s.requires.red_long; log_long = c.load-a.auto.log ∙ s.requires.log_long }
-
-pub shape_of-log : goal.shape_of-log
-shape_of-log c = c.show-s.auto.log ∙ c.load-a.auto.log
+    record { mux_small = s.requires.mux_small; sources = s.requires.sources; luts_long = s.requires.luts_long; gates_long = s.requires.gates_long; black_white_long = s.requires.black_white_long; red_long = s.requires.red_long }
 
 pub returns : goal.returns
 returns c =

@@ -49,9 +49,6 @@ bounds-plane-row c = omega arith
 pub overflow_step-column : goal.overflow_step-column
 overflow_step-column c = omega arith
 
-pub loop-column-smaller : goal.loop-column-smaller
-loop-column-smaller c = omega arith
-
 pub loop-column-preserved : goal.loop-column-preserved
 unfolding bit_of
 loop-column-preserved c = (
@@ -68,9 +65,6 @@ loop-column-preserved c = (
 
 pub overflow_step-row : goal.overflow_step-row
 overflow_step-row c = omega arith
-
-pub loop-row-smaller : goal.loop-row-smaller
-loop-row-smaller c = omega arith
 
 pub loop-row-preserved : goal.loop-row-preserved
 loop-row-preserved c = (painted_on c.loop-row.invariant.0 c.loop-column.invariant.0 (omega arith) (omega arith), omega arith)

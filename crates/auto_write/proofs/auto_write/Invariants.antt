@@ -1,4 +1,4 @@
-use Prim.Native.Nat.{◌+◌, ◌-◌, ◌*◌, ◌≤◌}
+use Prim.Native.Nat.{◌+◌, ◌*◌, ◌≤◌}
 use Rattle.numbers.proofs.Painted.{Painted}
 use Rattle.auto_write.specs.Auto.{auto_byte}
 use Rattle.auto_write.proofs.auto_write.Given as goal
@@ -6,11 +6,5 @@ use Rattle.auto_write.proofs.auto_write.Given as goal
 abbrev pub invariant-loop-column : goal.invariant-loop-column
 invariant-loop-column l = Painted (l.row * 120 + l.column) (auto_byte l.parameter) l.initial.plane l.plane × (l.column ≤ 120)
 
-abbrev pub decreases-loop-column : goal.decreases-loop-column
-decreases-loop-column l = 120 - l.column
-
 abbrev pub invariant-loop-row : goal.invariant-loop-row
 invariant-loop-row l = Painted (l.row * 120) (auto_byte l.parameter) l.initial.plane l.plane × (l.row ≤ l.rows)
-
-abbrev pub decreases-loop-row : goal.decreases-loop-row
-decreases-loop-row l = l.rows - l.row

@@ -7,7 +7,7 @@ use Rattle.begin.proofs.accept.Goals as goal
 pub start_command-requires : goal.start_command-requires
 start_command-requires c =
     let s = c in
-    still_activatable _ _ s.args.state _ s.args.states.now s.args.luts.now s.args.pixels.now s.args.counts.now s.args.black_white.now s.args.red.now s.args.gates.now s.args.log.now c.make_current-current.ensures s.requires
+    still_activatable _ _ s.args.state _ s.args.states.now s.args.luts.now s.args.pixels.now s.args.counts.now s.args.black_white.now s.args.red.now s.args.gates.now c.make_current-current.ensures s.requires
 
 pub returns : goal.returns
 returns c =

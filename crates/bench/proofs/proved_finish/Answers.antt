@@ -24,11 +24,20 @@ finish-finished-requires c =
     record {
       luts_long = finish_luts a.periods.now (rd a.swing) n l m k e;
       pixels_long = gray_long (rd a.swing) n m g;
-      counts_long = finish_counts a.periods.now (rd a.swing) n l m k e;
+      counts_long = ap length c.in-Some.ensures.cases.same ∙ finish_counts a.periods.now (rd a.swing) n l m k e;
       few = finish_few a.periods.now (rd a.swing) n l m k e;
       some = subst (λ (p : Panel). pos 1 ≤ℤ p.swing) (sym c.panel_of-panel.ensures) (gray_some (rd a.swing) n m g);
       lasting = finish_lasts a.periods.now (rd a.swing) n l m k e;
     }
+
+pub returns-in_default : goal.returns-in_default
+returns-in_default c =
+    let a = c.args in
+    let e = sym c.can_finish.ensures ∙ c.if-can_finish.true in
+    elim
+    (c.in_default.ensures.cases
+    (finish_counts a.periods.now (rd a.swing) (length a.states.now) (length a.luts.now) (length a.pixels.now) (length a.counts.now) e))
+    [ ]
 
 pub returns-then-can_finish : goal.returns-then-can_finish
 returns-then-can_finish c =
@@ -40,7 +49,7 @@ returns-then-can_finish c =
     ((λ i. shown (field_back c.finish-finished.result.border c.struct_told-1.given.1.0.1 i) c.finish-finished.new.states (picture c.finish-finished.new.pixels c.finish-finished.new.counts) (c.header_of.ensures i))
     ∙ ap shown_of
     (c.finish-finished.ensures
-    ∙ (λ i. finished (ending (c.display_of-display.ensures i) a.positive_drives_black a.periods.now a.at (c.until_of-until.ensures i)) a.luts.now (glass (panel i) a.states.now (picture a.pixels.now a.counts.now)))))
+    ∙ (λ i. finished (ending (c.display_of-display.ensures i) a.positive_drives_black a.periods.now a.at (c.until_of-until.ensures i)) a.luts.now (glass (panel i) a.states.now (picture a.pixels.now (c.in-Some.ensures.cases.same i))))))
 
 pub returns : goal.returns
 returns c =

@@ -1,8 +1,8 @@
 -- `charges::charge` meets its contract: 5, 81 and 11 in their order, then the sum.
-use mathlib.Core.Path.{sym, ap, ◌∙◌}
+use mathlib.Core.Path.{◌≡◌, sym, ap, subst, ◌∙◌}
 use mathlib.Core.Bool.{not}
 use mathlib.Core.List.{List, [], ◌∷◌}
-use Prim.Native.Nat.{ℕ, ◌<◌}
+use Prim.Native.Nat.{ℕ}
 use native.Mathlib.Omega.{arith}
 use lib.IntN.{ℤ, pos}
 use lib.ListN.{length}
@@ -10,13 +10,16 @@ use borrow.Author.Tests.{eq-eqb, ne_eqb}
 use Rattle.std.proofs.lemmas.Result.{err_from_is_err_and}
 use Rattle.numbers.proofs.Lin.{got}
 use Rattle.waveform.specs.declared.Drive.TheVariants.{Lut}
+use Rattle.waveform.specs.declared.Waveform.{Waveform}
+use Rattle.waveform.specs.Setting.{waveform_of}
 use Rattle.waveform.specs.Phases.{phases_of}
 use Rattle.config.specs.Answer.{Test}
 use Rattle.config.specs.Tests.{periods_test, lent_test}
 use Rattle.charges.specs.declared.PixelLut.{PixelLut}
-use Rattle.charges.specs.declared.PixelLut.TheVariants.{Lut0, Lut1, Lut2, Lut3}
-use Rattle.charges.specs.Charge.{drive_sum, charge_of, long_period_test, lut_number, charge_refusal, charged_of}
+use Rattle.charges.specs.Charge.{drive_sum, BoundedWaveform, charge_of, long_period_test, lut_number, charge_refusal, charged_of}
 use Rattle.charges.proofs.Answers.{none_long, at_first, at_long, at_lent, at_none}
+use Rattle.charges.proofs.Bounds.{setting_bounded}
+use Rattle.charges.proofs.Luts.{lut_is, below_4}
 use Rattle.charges.proofs.charge.Goals as goal
 
 -- ---- the tests, and the sum
@@ -44,34 +47,32 @@ returns-then-has_long_period c =
     at_long _ (first s.frame_period) (long_period_test s.frame_period) (lent s.setting.now) (pos 0) (sum s.setting.now s.frame_period s.lut) _ c.in_ok-check_periods.ensures
     (sym c.has_long_period.ensures ∙ c.if-has_long_period.true)
 
-pub returns-then-setting-ne-SETTING_BYTES : goal.returns-then-setting-ne-SETTING_BYTES
+pub returns-in_default : goal.returns-in_default
 unfolding charge_refusal charged_of
-returns-then-setting-ne-SETTING_BYTES c =
+returns-in_default c =
     let s = c.args in
     at_lent _ (first s.frame_period) (long_period_test s.frame_period) (lent s.setting.now) (pos 0) (sum s.setting.now s.frame_period s.lut) _ c.in_ok-check_periods.ensures
-    (sym c.has_long_period.ensures ∙ c.if-has_long_period.false) (ap not (ne_eqb _ _ c.if-setting-ne-SETTING_BYTES.true))
-
-pub waveform_of-waveform-requires : goal.waveform_of-waveform-requires
-waveform_of-waveform-requires c =
-    record {
-      setting = c.if-setting-ne-SETTING_BYTES.false;
-      periods = none_long c.args.frame_period (sym c.has_long_period.ensures ∙ c.if-has_long_period.false);
-    }
-
-below_4 : (lut : PixelLut) → lut_number lut < 4
-below_4 Lut0 = omega arith
-below_4 Lut1 = omega arith
-below_4 Lut2 = omega arith
-below_4 Lut3 = omega arith
+    (sym c.has_long_period.ensures ∙ c.if-has_long_period.false) (ap not (ne_eqb _ _ (search c.in_default.ensures)))
 
 pub charge_of-requires : goal.charge_of-requires
 charge_of-requires c =
-    record { lut = omega (arith, c.number_of.ensures, below_4 c.args.lut); bounded = c.waveform_of-waveform.ensures.bounded }
+    let s = c.args in
+    let same : c.in-Ok.setting.now ≡ s.setting.now = search c.in-Ok.ensures in
+    record {
+      lut = omega (arith, lut_is s.lut, below_4 s.lut);
+      bounded = subst BoundedWaveform (sym (c.from_setting-waveform.ensures ∙ ap (λ (l : List ℕ). waveform_of l s.frame_period) same))
+          (setting_bounded s.setting.now s.frame_period (λ i. omega (arith, c.type_inv.setting i))
+          (none_long s.frame_period (sym c.has_long_period.ensures ∙ c.if-has_long_period.false)));
+    }
+
+of_setting : (p : List ℕ) (lut : PixelLut) {s t : List ℕ} {w : Waveform} {n : ℕ} → t ≡ s → w ≡ waveform_of t p → n ≡ lut_number lut
+    → drive_sum (phases_of w (Lut n)) ≡ sum s p lut
+of_setting p lut e f g = (λ i. drive_sum (phases_of (f i) (Lut (g i)))) ∙ ap (λ (l : List ℕ). sum l p lut) e
 
 pub returns : goal.returns
 unfolding charged_of
 returns c =
     let s = c.args in
     at_none _ (first s.frame_period) (long_period_test s.frame_period) (lent s.setting.now) (pos 0) (sum s.setting.now s.frame_period s.lut) _ c.in_ok-check_periods.ensures
-    (sym c.has_long_period.ensures ∙ c.if-has_long_period.false) (ap not (eq-eqb _ _ c.if-setting-ne-SETTING_BYTES.false))
-    (got c.charge_of.type_inv c.charge_of.ensures ∙ (λ i. drive_sum (phases_of (c.waveform_of-waveform.ensures.is i) (Lut (c.number_of.ensures i)))))
+    (sym c.has_long_period.ensures ∙ c.if-has_long_period.false) (ap not (eq-eqb _ _ (search c.in-Ok.ensures)))
+    (got c.charge_of.type_inv c.charge_of.ensures ∙ of_setting s.frame_period s.lut (search c.in-Ok.ensures) c.from_setting-waveform.ensures (lut_is s.lut))

@@ -6,13 +6,13 @@ use Rattle.otp.proofs.Search.{any_none, any_more}
 use Rattle.charges.proofs.has_long_period.Invariants.{isLong}
 use Rattle.charges.proofs.has_long_period.Goals as goal
 
-pub loop-code-init : goal.loop-code-init
-loop-code-init c = any_none _
+pub loop-ns-init : goal.loop-ns-init
+loop-ns-init c = any_none _
 
-pub loop-code-preserved : goal.loop-code-preserved
-loop-code-preserved c = any_more (isLong c.args.frame_period) c.loop-code.code _ _ c.loop-code.invariant refl
+pub loop-ns-preserved : goal.loop-ns-preserved
+loop-ns-preserved c = any_more (isLong c.args.frame_period) c.loop-ns.ns-index _ _ c.loop-ns.invariant refl
 
 pub returns : goal.returns
 returns c =
-    let e : c.loop-code.code ≡ 16 = omega arith in
-    c.loop-code.invariant ∙ ap (any_of (isLong c.args.frame_period)) e
+    let e : c.loop-ns.ns-index ≡ 16 = omega arith in
+    c.loop-ns.invariant ∙ ap (any_of (isLong c.args.frame_period)) e

@@ -11,5 +11,5 @@ use Rattle.charges.proofs.has_long_period.Given as goal
 abbrev pub isLong : List ℕ → ℕ → Bool
 isLong periods code = ltb longest_period (get_or periods code 0)
 
-abbrev pub invariant-loop-code : goal.invariant-loop-code
-invariant-loop-code l = (l.long ≡ any_of (isLong l.frame_period) l.code)
+abbrev pub invariant-loop-ns : goal.invariant-loop-ns
+invariant-loop-ns l = (l.long ≡ any_of (isLong l.fn.frame_period) l.ns-index)

@@ -1,53 +1,47 @@
 -- `charges::put_text` meets its contract: a line for each entry, which fill the buffer.
-use mathlib.Core.Path.{◌≡◌, refl, ap, ◌∙◌}
+use mathlib.Core.Path.{◌≡◌, ap, ◌∙◌}
 use mathlib.Core.List.{List}
 use Prim.Native.Nat.{ℕ, ◌+◌, ◌*◌, ◌-◌}
 use native.Mathlib.Omega.{arith}
-use lib.ListN.{take, drop, length-take, length-drop}
-use Rattle.waveform.specs.Phases.{joined}
+use lib.ListN.{length, take, drop, length-take, length-drop}
 use Rattle.otp.specs.Table.{entry_count}
-use Rattle.column.specs.Columns.{Buffer, buffer, appended}
-use Rattle.listing.proofs.Joined.{joined_none, joined_more}
-use Rattle.charges.specs.Report.{charge_line, charge_text}
-use Rattle.charges.proofs.Answers.{filled}
-use Rattle.charges.proofs.put_text.Invariants.{lineIn}
+use Rattle.charges.specs.Report.{setting_bytes, charge_line, charge_text}
+use Rattle.charges.proofs.Lines.{line_length, lines_none, lines_more, lines_all}
+use Rattle.charges.proofs.put_text.Invariants.{line_in}
 use Rattle.charges.proofs.put_text.Goals as goal
 
+long : (periods otp : List ℕ) (i : ℕ) → length (line_in periods otp i) ≡ 88
+long periods otp i = line_length periods (setting_bytes otp i) i
+
 pub loop-entry-init : goal.loop-entry-init
-loop-entry-init c = (joined_none 0 c.args.out.now _, omega arith, refl)
+loop-entry-init c = lines_none (line_in c.args.frame_period.now c.args.otp.now) (long _ _) c.args.out.now
 
-pub put_line-at-requires : goal.put_line-at-requires
-put_line-at-requires c =
-    let s = c in record { room = omega (arith, s.requires.room); setting = simp (length-take, length-drop) (omega arith); periods = s.requires.periods }
+-- what is copied is the setting of the entry, and then its line
+setting_is : (otp : List ℕ) (entry : ℕ) {s : List ℕ} → s ≡ take (118 * entry + 6 + 112 - (118 * entry + 6)) (drop (118 * entry + 6) otp) → s ≡ setting_bytes otp entry
+setting_is otp entry e =
+    e ∙ ap (λ (n : ℕ). take n (drop (118 * entry + 6) otp)) (let n : 118 * entry + 6 + 112 - (118 * entry + 6) ≡ 112 = omega arith in n)
 
--- the part of the table that the call is lent is the setting
-as_setting : (b : Buffer) {d : Buffer} (periods otp : List ℕ) (from entry : ℕ) → d ≡ appended b (charge_line periods (take (from + 112 - from) (drop from otp)) entry)
-    → d ≡ appended b (charge_line periods (take 112 (drop from otp)) entry)
-as_setting b periods otp from entry e =
-    let part : from + 112 - from ≡ 112 = omega arith in
-    e ∙ ap (λ (n : ℕ). appended b (charge_line periods (take n (drop from otp)) entry)) part
+line_is : (periods otp : List ℕ) (entry : ℕ) {s line text : List ℕ} → s ≡ take (118 * entry + 6 + 112 - (118 * entry + 6)) (drop (118 * entry + 6) otp)
+    → line ≡ charge_line periods s entry → text ≡ line → text ≡ line_in periods otp entry
+line_is periods otp entry e f g = g ∙ f ∙ ap (λ (s : List ℕ). charge_line periods s entry) (setting_is otp entry e)
+
+pub copy_from_slice-requires-in-loop-entry : goal.copy_from_slice-requires-in-loop-entry
+copy_from_slice-requires-in-loop-entry c =
+    let s = c.args in
+    let e = line_is s.frame_period.now s.otp.now c.loop-entry.entry c.copy_from_slice.ensures.after c.line_of-line.ensures c.text.ensures in
+    simp (length-take, length-drop) (omega (arith, ap length e, long s.frame_period.now s.otp.now c.loop-entry.entry, c.requires.room))
 
 pub loop-entry-preserved : goal.loop-entry-preserved
 loop-entry-preserved c =
-    let put = c in
-    let l = put in
-    let s = l.args in (
-      joined_more 0 s.out.now (lineIn s.frame_period.now s.otp.now) l.loop-entry.entry (omega arith) l.loop-entry.invariant.0
-          (as_setting (buffer l.loop-entry.at l.loop-entry.out) s.frame_period.now s.otp.now (118 * l.loop-entry.entry + 6) l.loop-entry.entry put.put_line-at.ensures.text),
-      omega (arith, put.put_line-at.ensures.end),
-      omega arith,
-    )
-
-pub shape_of-out : goal.shape_of-out
-shape_of-out c = c.loop-entry.invariant.2
+    let s = c.args in
+    let n = c.loop-entry.entry in
+    lines_more (line_in s.frame_period.now s.otp.now) (long s.frame_period.now s.otp.now) s.out.now n (88 * n) (88 * n + 88 - 88 * n) c.loop-entry.invariant (omega arith) (omega arith)
+    (c.copy_from_slice-in-loop-entry.ensures.after
+    ∙ line_is s.frame_period.now s.otp.now n c.copy_from_slice.ensures.after c.line_of-line.ensures c.text.ensures)
 
 pub returns : goal.returns
 unfolding charge_text
 returns c =
-    let l = c in
-    let s = l in
-    let a = s.args in
-    let e : l.loop-entry.entry ≡ entry_count a.otp.now = omega arith in
-    filled (joined (entry_count a.otp.now) (lineIn a.frame_period.now a.otp.now)) a.out.now
-    (l.loop-entry.invariant.0 ∙ ap (λ (n : ℕ). appended (buffer 0 a.out.now) (joined n (lineIn a.frame_period.now a.otp.now))) e)
-    (omega (arith, s.requires.room))
+    let s = c.args in
+    lines_all (line_in s.frame_period.now s.otp.now) (long s.frame_period.now s.otp.now) s.out.now c.loop-entry.entry (entry_count s.otp.now) c.loop-entry.invariant (omega arith)
+    c.requires.room

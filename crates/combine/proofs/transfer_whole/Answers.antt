@@ -16,6 +16,7 @@ use Rattle.waveform.specs.Voltages.{AllListable}
 use Rattle.waveform.specs.Setting.{group_codes_of, waveform_of}
 use Rattle.waveform.specs.Phases.{joined, phases_of}
 use Rattle.waveform.specs.Walks.{group_in, whole_step, whole_of, driving_of}
+use Rattle.walk.specs.Ready.{no_frames}
 use Rattle.walk.proofs.Made.{idle_walk}
 use Rattle.combine.specs.Acts.{ActsAs, Extends, swing_in, driven_by}
 use Rattle.combine.specs.Groups.{timed_group}
@@ -72,8 +73,8 @@ loop-k-preserved c =
     let l = test in
     let made = l in
     let s = made in
-    let d = machine c.before.before.before.before.before in
-    let w = swings_in c.before.before.before.before.before.before in
+    let d = machine c.before.before.before.before.before.before in
+    let w = swings_in c.before.before.before.before.before.before.before in
     let k = l.loop-k.k in
     let bytes = s.args.setting.now in
     let periods = s.args.frame_period.now in
@@ -81,7 +82,7 @@ loop-k-preserved c =
     let next : Extends d (group_in d g) l.loop-k.moved c.if-not-idle.moved =
     elim c.if-not-idle.branch [
       | then-not-idle v ↦ subst (λ (u : Transfer). Extends d (group_in d g) l.loop-k.moved u) (sym v.moved-is) v.group_combined-moved.ensures
-      | else-not-idle v ↦ walk_extends d w (group_in d g) l.loop-k.moved c.if-not-idle.moved (v.moved-is ∙ idle_walk (whole_step d) d g l.loop-k.moved c.idle.ensures (ap not v.if-not-idle.false))
+      | else-not-idle v ↦ walk_extends d w (group_in d g) l.loop-k.moved c.if-not-idle.moved (v.moved-is ∙ idle_walk (whole_step d) d g l.loop-k.moved (c.idle.ensures ∙ ap no_frames c.frames.ensures) (ap not v.if-not-idle.false))
     ] in
     let worked : Extends d (of d bytes periods k) l.loop-k.moved c.if-not-idle.moved =
     subst (λ (h : Group). Extends d (group_in d h) l.loop-k.moved c.if-not-idle.moved) (group_is bytes periods k test.loop-k-test.true) next in (

@@ -1,105 +1,109 @@
 -- `counts::count` meets its contract: before either loop's turn, the four tables together count the pixels passed. Assumes nothing.
-use mathlib.Core.Path.{◌∙◌}
+use mathlib.Core.Path.{refl, ap, subst, ◌∙◌}
+use mathlib.Core.List.{List}
+use Prim.Native.Nat.{ℕ, ◌+◌, ◌*◌, ◌/◌}
 use native.Mathlib.Omega.{arith}
+use lib.ListN.{length, get_or}
+use Rattle.std.proofs.lemmas.List.{get_or-drop}
 use Rattle.numbers.specs.Lists.{tab}
 use Rattle.counts.specs.Counts.{occurs, counts_of}
-use Rattle.counts.proofs.Tables.{a_room, b_room, c_room, d_room, joinable, counted_none, counted_four, counted_one, counted_all}
+use Rattle.counts.specs.Tables.{one_more}
+use Rattle.counts.proofs.Tables.{Counted, a_room, b_room, c_room, d_room, joinable, counted_none, counted_four, counted_one, counted_all}
+use Rattle.counts.proofs.Quads.{quad_at, in_quads}
 use Rattle.counts.proofs.count.Goals as goal
 
-pub loop-i-init : goal.loop-i-init
+pub loop-quad-init : goal.loop-quad-init
 unfolding occurs counts_of tab
-loop-i-init c = counted_none _
-
-pub overflow_sub-pixels : goal.overflow_sub-pixels
-overflow_sub-pixels c = omega arith
-
-pub bounds-pixels-i : goal.bounds-pixels-i
-bounds-pixels-i c = omega arith
+loop-quad-init c = counted_none _
 
 pub add-requires : goal.add-requires
 add-requires c =
-    let l = c.before.before.before.before in
-    a_room l.loop-i.invariant l.requires.pixels_len_bound _ (c.shared_slice_known-in-loop-i-1.given _).fits (omega arith)
+    let q = c.loop-quad.quad-index in
+    let e = quad_at c.args.pixels.now c.as_chunks.ensures.front c.as_chunks.ensures.front_len q 0 (4 * q) c.loop-quad-test.true (omega arith) (omega arith) in
+    a_room
+    c.loop-quad.invariant
+    c.requires.pixels_len_bound
+    _
+    (omega (arith, e, (c.type_inv.pixels (4 * q)).fits))
+    (omega (arith, in_quads c.args.pixels.now c.as_chunks.ensures.front c.as_chunks.ensures.front_len q c.loop-quad-test.true))
 
-pub overflow_add-i : goal.overflow_add-i
-overflow_add-i c = omega arith
+pub add-requires-in-loop-quad : goal.add-requires-in-loop-quad
+add-requires-in-loop-quad c =
+    let q = c.loop-quad.quad-index in
+    let e = quad_at c.args.pixels.now c.as_chunks.ensures.front c.as_chunks.ensures.front_len q 1 (4 * q + 1) c.loop-quad-test.true (omega arith) refl in
+    b_room
+    c.loop-quad.invariant
+    c.requires.pixels_len_bound
+    _
+    (omega (arith, e, (c.type_inv.pixels (4 * q + 1)).fits))
+    (omega (arith, in_quads c.args.pixels.now c.as_chunks.ensures.front c.as_chunks.ensures.front_len q c.loop-quad-test.true))
 
-pub bounds-pixels-i-in-loop-i : goal.bounds-pixels-i-in-loop-i
-bounds-pixels-i-in-loop-i c = omega arith
+pub add-requires-in-loop-quad-2 : goal.add-requires-in-loop-quad-2
+add-requires-in-loop-quad-2 c =
+    let q = c.loop-quad.quad-index in
+    let e = quad_at c.args.pixels.now c.as_chunks.ensures.front c.as_chunks.ensures.front_len q 2 (4 * q + 2) c.loop-quad-test.true (omega arith) refl in
+    c_room
+    c.loop-quad.invariant
+    c.requires.pixels_len_bound
+    _
+    (omega (arith, e, (c.type_inv.pixels (4 * q + 2)).fits))
+    (omega (arith, in_quads c.args.pixels.now c.as_chunks.ensures.front c.as_chunks.ensures.front_len q c.loop-quad-test.true))
 
-pub add-requires-in-loop-i : goal.add-requires-in-loop-i
-add-requires-in-loop-i c =
-    let l = c.before.before.before.before.before.before.before.before in
-    b_room l.loop-i.invariant l.requires.pixels_len_bound _ (c.shared_slice_known-in-loop-i-2-1.given _).fits (omega arith)
+pub add-requires-in-loop-quad-3 : goal.add-requires-in-loop-quad-3
+add-requires-in-loop-quad-3 c =
+    let q = c.loop-quad.quad-index in
+    let e = quad_at c.args.pixels.now c.as_chunks.ensures.front c.as_chunks.ensures.front_len q 3 (4 * q + 3) c.loop-quad-test.true (omega arith) refl in
+    d_room
+    c.loop-quad.invariant
+    c.requires.pixels_len_bound
+    _
+    (omega (arith, e, (c.type_inv.pixels (4 * q + 3)).fits))
+    (omega (arith, in_quads c.args.pixels.now c.as_chunks.ensures.front c.as_chunks.ensures.front_len q c.loop-quad-test.true))
 
-pub overflow_add-i-in-loop-i : goal.overflow_add-i-in-loop-i
-overflow_add-i-in-loop-i c = omega arith
-
-pub bounds-pixels-i-in-loop-i-2 : goal.bounds-pixels-i-in-loop-i-2
-bounds-pixels-i-in-loop-i-2 c = omega arith
-
-pub add-requires-in-loop-i-2 : goal.add-requires-in-loop-i-2
-add-requires-in-loop-i-2 c =
-    let l = c.before.before.before.before.before.before.before.before.before.before.before.before in
-    c_room l.loop-i.invariant l.requires.pixels_len_bound _ (c.shared_slice_known-in-loop-i-3-1.given _).fits (omega arith)
-
-pub overflow_add-i-in-loop-i-2 : goal.overflow_add-i-in-loop-i-2
-overflow_add-i-in-loop-i-2 c = omega arith
-
-pub bounds-pixels-i-in-loop-i-3 : goal.bounds-pixels-i-in-loop-i-3
-bounds-pixels-i-in-loop-i-3 c = omega arith
-
-pub add-requires-in-loop-i-3 : goal.add-requires-in-loop-i-3
-add-requires-in-loop-i-3 c =
-    let l = c.before.before.before.before.before.before.before.before.before.before.before.before.before.before.before.before in
-    d_room l.loop-i.invariant l.requires.pixels_len_bound _ (c.shared_slice_known-in-loop-i-4-1.given _).fits (omega arith)
-
-pub overflow_add-i-in-loop-i-3 : goal.overflow_add-i-in-loop-i-3
-overflow_add-i-in-loop-i-3 c = omega arith
-
-pub loop-i-smaller : goal.loop-i-smaller
-loop-i-smaller c = omega arith
-
-pub loop-i-preserved : goal.loop-i-preserved
-loop-i-preserved c =
-    let l = c.before.before.before.before.before.before.before.before.before.before.before.before.before.before.before.before.before.before in
+pub loop-quad-preserved : goal.loop-quad-preserved
+loop-quad-preserved c =
+    let q = c.loop-quad.quad-index in
+    let at = quad_at c.args.pixels.now c.as_chunks.ensures.front c.as_chunks.ensures.front_len q in
+    let t = c.loop-quad-test.true in
     counted_four
-    l.loop-i.invariant
+    c.loop-quad.invariant
+    (in_quads c.args.pixels.now c.as_chunks.ensures.front c.as_chunks.ensures.front_len q t)
+    (λ k. (c.type_inv.pixels k).fits)
+    (c.add.ensures ∙ ap (one_more c.loop-quad.a) (at 0 (4 * q) t (omega arith) (omega arith)))
+    (c.add-in-loop-quad.ensures ∙ ap (one_more c.loop-quad.b) (at 1 (4 * q + 1) t (omega arith) refl))
+    (c.add-in-loop-quad-2.ensures ∙ ap (one_more c.loop-quad.c) (at 2 (4 * q + 2) t (omega arith) refl))
+    (c.add-in-loop-quad-3.ensures ∙ ap (one_more c.loop-quad.d) (at 3 (4 * q + 3) t (omega arith) refl))
     (omega arith)
-    (λ k. (l.shared_slice_known-1.given k).fits)
-    c.add.ensures
-    c.add-in-loop-i.ensures
-    c.add-in-loop-i-2.ensures
-    c.add-in-loop-i-3.ensures
 
-pub loop-i-2-init : goal.loop-i-2-init
-loop-i-2-init c = c.loop-i.invariant
+pub loop-pixel-init : goal.loop-pixel-init
+loop-pixel-init c =
+    subst (λ (n : ℕ). Counted c.args.pixels.now n c.loop-quad.a c.loop-quad.b c.loop-quad.c c.loop-quad.d)
+    (omega (arith, c.loop-quad.auto.quad-index-end, c.loop-quad-test.false, c.as_chunks.ensures.front_len)) c.loop-quad.invariant
 
-pub bounds-pixels-i-in-loop-i-2-2 : goal.bounds-pixels-i-in-loop-i-2-2
-bounds-pixels-i-in-loop-i-2-2 c = omega arith
+pub add-requires-in-loop-pixel : goal.add-requires-in-loop-pixel
+add-requires-in-loop-pixel c =
+    let p = length c.args.pixels.now / 4 * 4 + c.loop-pixel.pixel-index in
+    let e = ap (λ (ps : List ℕ). get_or ps c.loop-pixel.pixel-index 0) c.as_chunks.ensures.back ∙ get_or-drop (length c.args.pixels.now / 4 * 4) c.args.pixels.now c.loop-pixel.pixel-index 0 in
+    a_room
+    c.loop-pixel.invariant
+    c.requires.pixels_len_bound
+    _
+    (omega (arith, e, (c.type_inv.pixels p).fits))
+    (omega (arith, c.loop-pixel-test.true, c.as_chunks.ensures.back_len))
 
-pub add-requires-in-loop-i-2-2 : goal.add-requires-in-loop-i-2-2
-add-requires-in-loop-i-2-2 c =
-    let l = c.before.before.before.before in
-    a_room l.loop-i-2.invariant l.requires.pixels_len_bound _ (c.shared_slice_known-in-loop-i-2-2-1.given _).fits (omega arith)
-
-pub overflow_add-i-in-loop-i-2-2 : goal.overflow_add-i-in-loop-i-2-2
-overflow_add-i-in-loop-i-2-2 c = omega arith
-
-pub loop-i-2-smaller : goal.loop-i-2-smaller
-loop-i-2-smaller c = omega arith
-
-pub loop-i-2-preserved : goal.loop-i-2-preserved
-loop-i-2-preserved c =
-    let l = c.before.before.before.before.before.before in
-    counted_one l.loop-i-2.invariant (omega arith) (c.shared_slice_known-in-loop-i-2-2-1.given _).fits c.add-in-loop-i-2-2.ensures
+pub loop-pixel-preserved : goal.loop-pixel-preserved
+loop-pixel-preserved c =
+    let p = length c.args.pixels.now / 4 * 4 + c.loop-pixel.pixel-index in
+    let e = ap (λ (ps : List ℕ). get_or ps c.loop-pixel.pixel-index 0) c.as_chunks.ensures.back ∙ get_or-drop (length c.args.pixels.now / 4 * 4) c.args.pixels.now c.loop-pixel.pixel-index 0 in
+    counted_one
+    c.loop-pixel.invariant
+    (omega (arith, c.loop-pixel-test.true, c.as_chunks.ensures.back_len))
+    (c.type_inv.pixels p).fits
+    (c.add-in-loop-pixel.ensures ∙ ap (one_more c.loop-pixel.a) e)
+    (omega arith)
 
 pub join-requires : goal.join-requires
-join-requires c =
-    let l = c.before.before.before.before.before.before.before in
-    let s = l.before.before.before.before.before in record { counts_len = s.requires.counts_len; joinable = joinable l.loop-i-2.invariant s.requires.pixels_len_bound }
+join-requires c = joinable c.loop-pixel.invariant c.requires.pixels_len_bound
 
 pub returns : goal.returns
-returns c =
-    let l = c.before.before.before.before.before.before.before.before.before.before in
-    c.join.ensures ∙ counted_all l.loop-i-2.invariant (omega arith)
+returns c = c.join.ensures ∙ counted_all c.loop-pixel.invariant (omega (arith, c.loop-pixel.auto.pixel-index-end, c.loop-pixel-test.false, c.as_chunks.ensures.back_len))

@@ -25,7 +25,7 @@ bounds-b-g c = omega arith
 pub overflow_add-counts : goal.overflow_add-counts
 overflow_add-counts c =
     let l = c.before.before.before.before in
-    omega (arith, l.requires.joinable.below l.loop-g.g (omega arith))
+    omega (arith, l.requires.below l.loop-g.g (omega arith))
 
 pub offset_bounds-c-g : goal.offset_bounds-c-g
 offset_bounds-c-g c = omega arith
@@ -36,7 +36,7 @@ bounds-c-g c = omega arith
 pub overflow_add-counts-in-loop-g : goal.overflow_add-counts-in-loop-g
 overflow_add-counts-in-loop-g c =
     let l = c.before.before.before.before.before in
-    omega (arith, l.requires.joinable.below l.loop-g.g (omega arith))
+    omega (arith, l.requires.below l.loop-g.g (omega arith))
 
 pub offset_bounds-d-g : goal.offset_bounds-d-g
 offset_bounds-d-g c = omega arith
@@ -47,7 +47,7 @@ bounds-d-g c = omega arith
 pub overflow_add-counts-in-loop-g-2 : goal.overflow_add-counts-in-loop-g-2
 overflow_add-counts-in-loop-g-2 c =
     let l = c.before.before.before.before.before.before in
-    omega (arith, l.requires.joinable.below l.loop-g.g (omega arith))
+    omega (arith, l.requires.below l.loop-g.g (omega arith))
 
 pub offset_bounds-counts-g : goal.offset_bounds-counts-g
 offset_bounds-counts-g c = omega arith
@@ -64,12 +64,9 @@ loop-g-smaller c = omega arith
 pub loop-g-preserved : goal.loop-g-preserved
 loop-g-preserved c = painted_more c.loop-g.invariant (omega arith) refl
 
-pub shape_of-counts : goal.shape_of-counts
-shape_of-counts c = c.loop-g.invariant.long
-
 pub returns : goal.returns
 unfolding joined
 returns c =
     let s = c.before.before in
     painted_all c.loop-g.invariant (omega arith)
-    ∙ ap (λ (n : ℕ). tab n (sum_at s.args.a.now s.args.b.now s.args.c.now s.args.d.now)) s.requires.counts_len
+    ∙ ap (λ (n : ℕ). tab n (sum_at s.args.a.now s.args.b.now s.args.c.now s.args.d.now)) c.told-counts

@@ -1,5 +1,5 @@
 use mathlib.Core.Path.{◌≡◌}
-use Prim.Native.Nat.{◌≤◌, min}
+use Prim.Native.Nat.{min}
 use Rattle.numbers.specs.Saturation.{largest}
 use Rattle.waveform.specs.Duration.{groups_ns}
 use Rattle.duration.proofs.duration_ns.Given as goal

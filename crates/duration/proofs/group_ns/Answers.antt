@@ -9,6 +9,6 @@ use Rattle.duration.proofs.group_ns.Goals as goal
 pub returns : goal.returns
 unfolding group_ns
 returns c = let g = c.args.group in
-    c.saturating_mul_u64.ensures
-    ∙ ap (λ (n : ℕ). min (n * g.frame_ns) (largest 64)) (c.saturating_mul_u64-runs.ensures ∙ ap (λ (n : ℕ). min (n * g.repeats) (largest 64)) c.frames.ensures)
+    c.saturating_mul.ensures
+    ∙ ap (λ (n : ℕ). min (n * g.frame_ns) (largest 64)) (c.saturating_mul-runs.ensures ∙ λ i. min (c.frames.ensures i * c.from.ensures i) (largest 64))
     ∙ cap_first (frames_of g * g.repeats) g.frame_ns (largest 64)

@@ -19,5 +19,5 @@ pub returns : goal.returns
 returns c =
     let s = c.before.before.before in
     down_met s.args.frequency s.args.cycles (some c.before.before) _ _
-    c.saturating_mul_u64-whole.ensures
+    c.saturating_mul-whole.ensures
     c.saturating_add.ensures

@@ -15,7 +15,7 @@ pub overflow_cast-result : goal.overflow_cast-result
 overflow_cast-result c =
     let s = c.before.before in
     let w = s.args.swing in
-    record { sfits = omega (whole, c.share.ensures, level_le (nat_abs (rd w)) c.wide.result (omega (whole, c.wide.ensures)), ranged s.ranges.swing, abs_back s.ranges.swing, abs_pos w (omega whole)) }
+    record { sfits = omega (whole, c.share.ensures, level_le (nat_abs (rd w)) c.from.result (omega (whole, c.from.ensures)), ranged s.ranges.swing, abs_back s.ranges.swing, abs_pos w (omega whole)) }
 
 pub returns : goal.returns
 returns c =
@@ -23,5 +23,5 @@ returns c =
     let w = s.args.swing in
     back {z = pos c.share.result} (overflow_cast-result c)
     ∙ ap pos c.share.ensures
-    ∙ level_is c.wide.result (nat_abs (rd w))
-    ∙ (λ i. level_z (c.wide.ensures i) ((pos-nat_abs (rd w) (overflow_cast-swing c.before).0 ∙ back s.ranges.swing) i))
+    ∙ level_is c.from.result (nat_abs (rd w))
+    ∙ (λ i. level_z (c.from.ensures i) ((pos-nat_abs (rd w) (overflow_cast-swing c.before).0 ∙ back s.ranges.swing) i))

@@ -4,4 +4,4 @@ use Rattle.hash.specs.Hash.{hash_from, count_bytes}
 use Rattle.hash.proofs.of_counts.Given as goal
 
 abbrev pub invariant-loop-count : goal.invariant-loop-count
-invariant-loop-count l = l.h ≡ hash_from 0 (count_bytes (take l.count-index l.counts))
+invariant-loop-count l = l.hash ≡ hash_from 0 (count_bytes (take l.count-index l.counts))

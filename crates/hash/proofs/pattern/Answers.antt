@@ -1,25 +1,16 @@
--- `hash::pattern` meets its contract: below 0, 2^64 less the size.
-use mathlib.Core.Path.{sym, ap, ◌∙◌}
-use lib.IntN.{ℤ, nat_abs, pos}
-use lib.Signed.{lt_z}
+-- `hash::pattern` meets its contract.
+use mathlib.Core.Path.{◌≡◌, refl, ap, ◌∙◌}
+use native.Mathlib.Omega.{arith}
+use lib.IntN.{ℤ, pos, negsuc}
+use mir.Syntax.{w64}
+use mir.Val.{of_z}
 use Rattle.numbers.proofs.Lin.{back}
-use Rattle.hash.proofs.Laws.{above, negative, positive}
+use Rattle.hash.specs.Hash.{pattern_of}
 use Rattle.hash.proofs.pattern.Goals as goal
 
-pub overflow_sub-result : goal.overflow_sub-result
-overflow_sub-result c =
-    let s = c in
-    above s.args.state (c.magnitude_i64-size.ensures ∙ ap nat_abs (back s.ranges.state))
-    (sym (c.is_negative.ensures ∙ ap (λ (z : ℤ). lt_z z (pos 0)) (back s.ranges.state)) ∙ c.if-is_negative.true)
-
-pub returns-then-is_negative : goal.returns-then-is_negative
-returns-then-is_negative c =
-    let s = c in
-    negative s.args.state (c.magnitude_i64-size.ensures ∙ ap nat_abs (back s.ranges.state))
-    (sym (c.is_negative.ensures ∙ ap (λ (z : ℤ). lt_z z (pos 0)) (back s.ranges.state)) ∙ c.if-is_negative.true)
+is : (z : ℤ) → of_z w64 z ≡ pattern_of z
+is (pos n) = refl
+is (negsuc n) = omega arith
 
 pub returns : goal.returns
-returns c =
-    let s = c in
-    positive s.args.state (c.magnitude_i64-size.ensures ∙ ap nat_abs (back s.ranges.state))
-    (sym (c.is_negative.ensures ∙ ap (λ (z : ℤ). lt_z z (pos 0)) (back s.ranges.state)) ∙ c.if-is_negative.false)
+returns c = c.cast_unsigned.ensures ∙ ap (of_z w64) (back c.ranges.state) ∙ is c.args.state

@@ -11,7 +11,6 @@ begin-requires c =
     s.black_white.now s.red.now s.gates.now s.log.now s.time _ _
     c.advance-present.ensures
     c.close_command-closed.ensures
-    c.close_command-closed.auto.log
     c.requires
 
 pub returns : goal.returns

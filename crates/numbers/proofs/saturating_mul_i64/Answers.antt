@@ -25,32 +25,24 @@ done f {m} {n} stop fa fb ok e h p q s =
 
 pub returns-then-b-lt0 : goal.returns-then-b-lt0
 returns-then-b-lt0 c =
-    let m = c.before.before.before in
-    let s = m.before.before.before in
-    done pos sat_pos_min s.ranges.a s.ranges.b c.to_i64.type_inv c.to_i64.ensures m.saturating_mul_u64-product.ensures
-    m.magnitude_i64.ensures m.magnitude_i64-2.ensures
-    (mul_tt s.args.a s.args.b (plain s.ranges.a c.if-a-lt0.true) (plain s.ranges.b c.if-b-lt0.true))
+    done pos sat_pos_min c.ranges.a c.ranges.b c.to_i64.type_inv c.to_i64.ensures c.saturating_mul-product.ensures
+    c.unsigned_abs-first.ensures.value c.unsigned_abs-second.ensures.value
+    (mul_tt c.args.a c.args.b (plain c.ranges.a c.if-a-lt0.true) (plain c.ranges.b c.if-b-lt0.true))
 
 pub returns-else-b-lt0 : goal.returns-else-b-lt0
 returns-else-b-lt0 c =
-    let m = c.before.before.before in
-    let s = m.before.before.before in
-    done (λ (k : ℕ). neg_ℤ (pos k)) sat_neg_min s.ranges.a s.ranges.b c.negative_i64.type_inv c.negative_i64.ensures m.saturating_mul_u64-product.ensures
-    m.magnitude_i64.ensures m.magnitude_i64-2.ensures
-    (mul_tf s.args.a s.args.b (plain s.ranges.a c.if-a-lt0.true) (plain s.ranges.b c.if-b-lt0.false))
+    done (λ (k : ℕ). neg_ℤ (pos k)) sat_neg_min c.ranges.a c.ranges.b c.negative_i64.type_inv c.negative_i64.ensures c.saturating_mul-product.ensures
+    c.unsigned_abs-first.ensures.value c.unsigned_abs-second.ensures.value
+    (mul_tf c.args.a c.args.b (plain c.ranges.a c.if-a-lt0.true) (plain c.ranges.b c.if-b-lt0.false))
 
 pub returns-then-b-lt0-2 : goal.returns-then-b-lt0-2
 returns-then-b-lt0-2 c =
-    let m = c.before.before.before in
-    let s = m.before.before.before in
-    done (λ (k : ℕ). neg_ℤ (pos k)) sat_neg_min s.ranges.a s.ranges.b c.negative_i64-then-b-lt0-2.type_inv c.negative_i64-then-b-lt0-2.ensures m.saturating_mul_u64-product.ensures
-    m.magnitude_i64.ensures m.magnitude_i64-2.ensures
-    (mul_ft s.args.a s.args.b (plain s.ranges.a c.if-a-lt0.false) (plain s.ranges.b c.if-b-lt0-2.true))
+    done (λ (k : ℕ). neg_ℤ (pos k)) sat_neg_min c.ranges.a c.ranges.b c.negative_i64-then-b-lt0-2.type_inv c.negative_i64-then-b-lt0-2.ensures c.saturating_mul-product.ensures
+    c.unsigned_abs-first.ensures.value c.unsigned_abs-second.ensures.value
+    (mul_ft c.args.a c.args.b (plain c.ranges.a c.if-a-lt0.false) (plain c.ranges.b c.if-b-lt0-2.true))
 
 pub returns-else-b-lt0-2 : goal.returns-else-b-lt0-2
 returns-else-b-lt0-2 c =
-    let m = c.before.before.before in
-    let s = m.before.before.before in
-    done pos sat_pos_min s.ranges.a s.ranges.b c.to_i64-else-b-lt0-2.type_inv c.to_i64-else-b-lt0-2.ensures m.saturating_mul_u64-product.ensures
-    m.magnitude_i64.ensures m.magnitude_i64-2.ensures
-    (mul_ff s.args.a s.args.b (plain s.ranges.a c.if-a-lt0.false) (plain s.ranges.b c.if-b-lt0-2.false))
+    done pos sat_pos_min c.ranges.a c.ranges.b c.to_i64-else-b-lt0-2.type_inv c.to_i64-else-b-lt0-2.ensures c.saturating_mul-product.ensures
+    c.unsigned_abs-first.ensures.value c.unsigned_abs-second.ensures.value
+    (mul_ff c.args.a c.args.b (plain c.ranges.a c.if-a-lt0.false) (plain c.ranges.b c.if-b-lt0-2.false))

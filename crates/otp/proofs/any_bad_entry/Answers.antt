@@ -6,19 +6,21 @@ use lib.ListN.{length}
 use Rattle.otp.specs.Table.{bad_entry}
 use Rattle.otp.specs.Search.{any_of}
 use Rattle.otp.proofs.Search.{any_none, any_more}
+use Rattle.otp.proofs.Bytes.{bad_in}
 use Rattle.otp.proofs.any_bad_entry.Goals as goal
 
 pub loop-entry-init : goal.loop-entry-init
-loop-entry-init c = (omega arith, any_none _)
-
-pub bad_entry-one-requires : goal.bad_entry-one-requires
-bad_entry-one-requires c = omega arith
+loop-entry-init c = any_none _
 
 pub loop-entry-preserved : goal.loop-entry-preserved
-loop-entry-preserved c = (omega arith, any_more _ _ _ _ c.loop-entry.invariant.1 c.bad_entry-one.ensures)
+loop-entry-preserved c =
+    let otp = c.args.otp.now in
+    let k = c.loop-entry.entry-index in
+    any_more _ _ _ _ c.loop-entry.invariant
+    (c.bad_entry-bad.ensures ∙ bad_in otp k (omega (arith, c.loop-entry-test.true, c.as_chunks.ensures.front_len)) c.as_chunks.ensures.front)
 
 pub returns : goal.returns
 returns c =
     let otp = c.args.otp.now in
-    let e : c.loop-entry.entry ≡ length otp / 118 = omega arith in
-    c.loop-entry.invariant.1 ∙ ap (any_of (bad_entry otp)) e
+    let e : c.loop-entry.entry-index ≡ length otp / 118 = omega (arith, c.as_chunks.ensures.front_len) in
+    c.loop-entry.invariant ∙ ap (any_of (bad_entry otp)) e

@@ -5,12 +5,5 @@ use Rattle.otp.proofs.covers_register.Goals as goal
 
 pub returns : goal.returns
 returns c =
-    let a = c in
-    let b = a in
-    let d = b in
-    let e = d in
-    let f = e in
-    let g = f in
-    let s = g in
-    covers_is s.args.otp.now s.args.entry s.args.mode s.args.register _ _ _ _ _ _ (mode_is s.args.mode) f.pair.ensures d.pair-2.ensures
-    e.reaches_down-reached.ensures b.sixteenths_of-upper.type_inv b.sixteenths_of-upper.ensures a.sixteenths_of-temperature.type_inv a.sixteenths_of-temperature.ensures
+    covers_is c.args.entry.now c.args.mode c.args.register _ _ _ _ _ _ (mode_is c.args.mode) c.pair.ensures c.pair-2.ensures
+    c.reaches_down-reached.ensures c.sixteenths_of-upper.type_inv c.sixteenths_of-upper.ensures c.sixteenths_of-temperature.type_inv c.sixteenths_of-temperature.ensures

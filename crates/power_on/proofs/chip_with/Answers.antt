@@ -3,4 +3,4 @@ use Rattle.power_on.proofs.Cases.{chips}
 use Rattle.power_on.proofs.chip_with.Goals as goal
 
 pub returns : goal.returns
-returns c = chips _ _ _ _ c.reset-regs.ensures c.no_display-display.ensures
+returns c = chips _ _ _ c.reset-regs.ensures

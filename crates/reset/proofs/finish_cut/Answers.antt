@@ -3,4 +3,4 @@ use Rattle.reset.proofs.Cases.{shortens}
 use Rattle.reset.proofs.finish_cut.Goals as goal
 
 pub returns : goal.returns
-returns c = shortens _ _ _ _ _ _ c.ns_between-into.ensures c.finish-finished.ensures c.stop-off.ensures c.set_glass.ensures
+returns c = shortens _ _ _ _ _ _ c.ns_between-into.ensures c.finish-finished.ensures c.set_glass.ensures

@@ -23,4 +23,4 @@ all_are b h = eqb→eq (made b) (codes_in_word b) (at is (replicate 256 0) tt b 
 
 pub returns : goal.returns
 unfolding made
-returns c = ap made c.wide.ensures ∙ all_are c.args.byte (omega arith)
+returns c = ap made c.from.ensures ∙ all_are c.args.byte (omega arith)

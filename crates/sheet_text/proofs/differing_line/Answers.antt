@@ -1,77 +1,51 @@
--- `sheet_text::differing_line` meets its contract: what the loop has passed is alike in both texts.
-use mathlib.Core.Path.{refl, sym, ap, ◌∙◌}
-use mathlib.Core.Bool.{Bool, true, false}
-use Prim.Native.Nat.{ℕ, ◌+◌, ◌≤◌}
+-- `sheet_text::differing_line` meets its contract: what is left of both texts is still to compare.
+use mathlib.Core.Path.{◌≡◌, sym, ap, ◌∙◌}
+use Prim.Native.Nat.{ℕ}
 use native.Mathlib.Omega.{arith}
-use lib.Dec.{eqb}
-use lib.ListN.{get_or}
-use Rattle.numbers.specs.Choice.{pick}
-use Rattle.sheet_text.specs.Reading.{line_after}
-use Rattle.sheet_text.proofs.Differ.{from, goes_on, stops, ends, one_ends}
+use lib.ListN.{length}
+use Rattle.sheet_text.specs.Reading.{differs_in}
+use Rattle.sheet_text.proofs.Differ.{goes_on, stops, one, ends, one_ends, after_most}
 use Rattle.sheet_text.proofs.differing_line.Goals as goal
 
--- a line more at most
-after_most : (n byte : ℕ) → line_after n byte ≤ n + 1
-after_most n byte = by (eqb byte 10)
-  where
-    by : (b : Bool) → pick b (n + 1) n ≤ n + 1
-    by true = omega arith
-    by false = omega arith
+-- the iterator begins with both texts
+first : (c : goal.After-into_iter-byte-iterator) → c.into_iter-byte-iterator.result.a.rest.now ≡ c.args.text.now
+first c = search (c.into_iter-byte-iterator.ensures, c.zip-byte-items.ensures, c.iter.ensures)
 
-pub min_u64-end-requires : goal.min_u64-end-requires
-min_u64-end-requires c = tt
+second : (c : goal.After-into_iter-byte-iterator) → c.into_iter-byte-iterator.result.b.rest.now ≡ c.args.written.now
+second c = search (c.into_iter-byte-iterator.ensures, c.zip-byte-items.ensures)
 
-pub loop-i-init : goal.loop-i-init
-loop-i-init c = (refl, omega arith)
+pub loop-byte-init : goal.loop-byte-init
+loop-byte-init c =
+    ((tt, tt), tt, sym (λ i. differs_in 1 (first c i) (second c i)), omega (arith, ap length (first c)), omega (arith, ap length (first c), ap length (second c)))
 
-pub bounds-text-i : goal.bounds-text-i
-bounds-text-i c = omega (arith, c.min_u64-end.ensures)
-
-pub bounds-written-i : goal.bounds-written-i
-bounds-written-i c =
-    let m = c in
-    omega (arith, m.min_u64-end.ensures, m.requires)
-
-pub returns-then-byte-written : goal.returns-then-byte-written
-returns-then-byte-written c =
-    let l = c in
-    let m = l in
-    let s = m.args in
-    let long = m.requires in
-    stops s.text.now s.written.now l.loop-i.line l.loop-i.i (omega (arith, m.min_u64-end.ensures, long)) (omega (arith, m.min_u64-end.ensures, long)) c.if-byte-written.true
-    ∙ sym l.loop-i.invariant.0
+pub returns-then-byte-other : goal.returns-then-byte-other
+returns-then-byte-other c =
+    let n = c.loop-byte.line in
+    let e = c.in-Some.ensures.steps in
+    stops n _ _ _ _ c.if-byte-other.true ∙ sym (c.loop-byte.invariant.2 ∙ (λ i. differs_in n (e.0 i) (e.1 i)))
 
 pub line_after-line-requires : goal.line_after-line-requires
-line_after-line-requires c = omega (arith, c.min_u64-end.ensures)
+line_after-line-requires c = omega (arith, c.loop-byte.invariant.3, ap length c.in-Some.ensures.steps.0)
 
-pub loop-i-preserved : goal.loop-i-preserved
-loop-i-preserved c =
-    let same = c in
-    let l = same in
-    let m = l in
-    let s = m.args in
-    let long = m.requires in
-    let byte = get_or s.text.now l.loop-i.i 0 in (
-      l.loop-i.invariant.0
-          ∙ goes_on s.text.now s.written.now l.loop-i.line l.loop-i.i (omega (arith, m.min_u64-end.ensures, long)) (omega (arith, m.min_u64-end.ensures, long)) same.if-byte-written.false
-          ∙ ap (λ (n : ℕ). from s.text.now s.written.now n (l.loop-i.i + 1)) (sym c.line_after-line.ensures),
-      omega (arith, c.line_after-line.ensures, after_most l.loop-i.line byte),
+pub loop-byte-preserved : goal.loop-byte-preserved
+loop-byte-preserved c =
+    let n = c.loop-byte.line in
+    let e = c.in-Some.ensures.steps in
+    let i = c.loop-byte.invariant in
+    let after = c.line_after-line.ensures in (
+      (tt, tt),
+      tt,
+      i.2 ∙ (λ j. differs_in n (e.0 j) (e.1 j)) ∙ goes_on n _ _ _ _ c.if-byte-other.false ∙ ap (λ (m : ℕ). differs_in m c.next.new.self.a.rest.now c.next.new.self.b.rest.now) (sym after),
+      omega (arith, after, after_most n c.in-Some.byte.now, i.3, ap length e.0),
+      omega (arith, i.4, ap length e.0, ap length e.1),
     )
 
-pub returns-then-text-eq-TEXT_BYTES : goal.returns-then-text-eq-TEXT_BYTES
-returns-then-text-eq-TEXT_BYTES c =
-    let l = c in
-    let m = l in
-    let s = m.args in
-    let long = m.requires in
-    ends s.text.now s.written.now l.loop-i.line l.loop-i.i (omega (arith, m.min_u64-end.ensures, long)) (omega (arith, m.min_u64-end.ensures, long)) ∙ sym l.loop-i.invariant.0
+pub returns-then-text-written : goal.returns-then-text-written
+returns-then-text-written c =
+    let i = c.loop-byte.invariant in
+    ends c.loop-byte.line _ _ (one c.loop-byte.byte-iterator.a c.loop-byte.byte-iterator.b c.in-None.ensures.steps) (omega (arith, i.4, c.if-text-written.true)) ∙ sym i.2
 
 pub returns : goal.returns
 returns c =
-    let l = c in
-    let m = l in
-    let s = m.args in
-    let long = m.requires in
-    one_ends s.text.now s.written.now l.loop-i.line l.loop-i.i (omega (arith, m.min_u64-end.ensures, long)) (omega (arith, m.min_u64-end.ensures, long))
-    (λ a b. omega (arith, m.min_u64-end.ensures, long)) (λ e. omega (arith, long))
-    ∙ sym l.loop-i.invariant.0
+    let i = c.loop-byte.invariant in
+    one_ends c.loop-byte.line _ _ (one c.loop-byte.byte-iterator.a c.loop-byte.byte-iterator.b c.in-None.ensures.steps) (λ h. omega (arith, i.4, c.if-text-written.false)) ∙ sym i.2

@@ -2,16 +2,14 @@
 use mathlib.Core.Path.{◌≡◌, refl, sym, ap, ◌∙◌}
 use mathlib.Core.List.{List}
 use Prim.Native.Nat.{ℕ}
-use native.Mathlib.Omega.{arith}
 use lib.ListN.{replicate}
 use Rattle.config.specs.Answer.{accepted}
-use Rattle.column.specs.Columns.{buffer, appended}
+use Rattle.column.specs.Columns.{gathered}
 use Rattle.drive_sheet.specs.declared.Sheet.{Sheet}
 use Rattle.drive_sheet.specs.declared.SheetError.{SheetError}
 use Rattle.drive_sheet.specs.declared.SheetError.TheVariants.{Length, NoCode, Repeats, Code}
 use Rattle.drive_sheet.specs.Tests.{setting_length, sheet_refusal, told_of, number_in, Reply, reply, written_of}
 use Rattle.sheet_text.specs.Answer.{number_text, reply_text, setting_text}
-use borrow.Author.Rules.{rules}
 use Rattle.sheet_text.proofs.put_setting.Goals as goal
 
 abbrev lent : List ℕ
@@ -39,16 +37,11 @@ module _ (h : Sheet) (bytes : List ℕ) where
 pub returns-in-Ok : goal.returns-in-Ok
 unfolding told_of
 returns-in-Ok c =
-    let d = c.args.out.now in
-    let setting = is-setting c.args.sheet c.write.new.out c.in-Ok.ensures.bytes in
-    record { text = c.put_text.ensures.text ∙ ap (λ (t : List ℕ). appended (buffer 0 d) t) setting; end = search rules }
+    c.put_text.ensures ∙ ap (gathered setting_length c.args.answer.now) (is-setting c.args.sheet c.write.new.out c.in-Ok.ensures.bytes)
 
 pub returns-in-Err : goal.returns-in-Err
 unfolding told_of
 returns-in-Err c =
-    let d = c.args.out.now in
-    let text = is_number c.args.sheet c.write.new.out c.in-Err.error c.in-Err.ensures.bytes in
-    record {
-      text = c.put_number.ensures.text ∙ ap (λ (n : ℕ). appended (buffer 0 d) (number_text n)) (c.wide.ensures ∙ c.number.ensures) ∙ ap (λ (t : List ℕ). appended (buffer 0 d) t) text;
-      end = omega (arith, c.put_number.ensures.end);
-    }
+    c.put_number.ensures
+    ∙ ap (gathered setting_length c.args.answer.now)
+    (ap number_text c.from.ensures ∙ is_number c.args.sheet c.write.new.out c.in-Err.error c.in-Err.ensures.bytes)

@@ -19,11 +19,11 @@ loop-i-init c =
     let all : n - 0 ≡ n = omega arith in
     (ap (λ (k : ℕ). feeding step k 0 given) all, search rules)
 
-pub turn-fed-requires : goal.turn-fed-requires
-turn-fed-requires c =
+pub invariant_of-events : goal.invariant_of-events
+invariant_of-events c =
     let one = c.min-count.ensures in
     let two = c.min.ensures in
-    (c.loop-i-test.true, omega (arith, one, two), omega (arith, one, two), omega (arith, one, two))
+    record { with_kinds = omega (arith, one, two); with_times = omega (arith, one, two); with_values = omega (arith, one, two) }
 
 pub shape_of-states-then-is_err : goal.shape_of-states-then-is_err
 shape_of-states-then-is_err c = c.turn-fed.auto.states ∙ c.loop-i.invariant.1.0

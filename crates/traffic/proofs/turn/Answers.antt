@@ -5,20 +5,9 @@ use Rattle.counts.specs.Counts.{picture}
 use Rattle.traffic.specs.Traffic.{EndsAlike}
 use Rattle.traffic.proofs.turn.Goals as goal
 
-pub one-requires : goal.one-requires
-one-requires c =
-    let s = c in
-    (omega (arith, c.stream-run.ensures.from_le_made.1), s.requires.1, s.requires.2, s.requires.3)
-
-pub shape_of-black_white : goal.shape_of-black_white
-shape_of-black_white c = c.one.auto.black_white ∙ c.stream-run.auto.black_white
-
-pub shape_of-red : goal.shape_of-red
-shape_of-red c = c.one.auto.red ∙ c.stream-run.auto.red
-
 pub returns : goal.returns
 unfolding EndsAlike
 returns c =
     let s = c in
     let k = c.stream-run.ensures in
-    let o = c.one.ensures in record { from_lt_made = λ h. let m = o.made_value h in (omega (arith, m, k.from_le_made.0, s.requires.0), omega (arith, m)); log_after = o.log_after ∙ k.ends_alike s.args.gates.now s.args.otp.now s.args.luts.now (picture s.args.pixels.now s.args.counts.now) s.args.log.now s.args.states.now c.planes_log_lent-lengths.ensures }
+    let o = c.one.ensures in record { from_lt_made = λ h. let m = o.made_value h in (omega (arith, m, k.from_le_made.0, s.requires), omega (arith, m)); log_after = o.log_after ∙ k.ends_alike s.args.gates.now s.args.otp.now s.args.luts.now (picture s.args.pixels.now s.args.counts.now) s.args.log.now s.args.states.now c.planes_log_lent-lengths.ensures }

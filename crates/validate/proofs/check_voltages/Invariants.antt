@@ -1,7 +1,6 @@
-use Prim.Native.Nat.{◌≤◌}
 use Rattle.config.proofs.Lowest.{Passed}
 use Rattle.otp.specs.Table.{unlisted_voltage}
 use Rattle.validate.proofs.check_voltages.Given as goal
 
 abbrev pub invariant-loop-entry : goal.invariant-loop-entry
-invariant-loop-entry l = (l.entry ≤ l.entries) × Passed (unlisted_voltage l.otp) l.entry
+invariant-loop-entry l = Passed (unlisted_voltage l.otp) l.entry

@@ -2,4 +2,4 @@
 use Rattle.voltage_shift.proofs.swing_of.Goals as goal
 
 pub returns : goal.returns
-returns c = c.min_u64.ensures
+returns c = c.min.ensures

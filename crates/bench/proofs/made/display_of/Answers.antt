@@ -1,8 +1,7 @@
 -- `display_of` meets its contract.
-use mathlib.Core.Bool.{true}
 use Rattle.bench.proofs.made.display_of.Goals as goal
 
 pub returns : goal.returns
 returns c =
     let a = c.args in
-    λ i. record { running = true; started = a.started; ends = 0; kind = c.kind_of-kind.ensures i; setting = a.setting.now; border = a.register }
+    λ i. record { started = a.started; ends = 0; kind = c.kind_of-kind.ensures i; setting = a.setting.now; border = a.register }

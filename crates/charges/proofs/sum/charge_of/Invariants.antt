@@ -6,5 +6,5 @@ use Rattle.charges.proofs.Bounds.{groups_of}
 use Rattle.charges.proofs.sum.charge_of.Given as goal
 
 -- the sum is kept as its bits
-abbrev pub invariant-loop-k : goal.invariant-loop-k
-invariant-loop-k l = (l.sum ≡ drive_sum (joined l.k (groups_of l.waveform (Lut l.lut))))
+abbrev pub invariant-loop-group : goal.invariant-loop-group
+invariant-loop-group l = (l.sum ≡ drive_sum (joined l.group-index (groups_of l.fn.waveform (Lut l.lut))))

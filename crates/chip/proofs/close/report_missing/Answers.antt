@@ -1,4 +1,7 @@
 -- `chip::close::report_missing` meets its contract.
+use mathlib.Core.Path.{sym}
+use Prim.Native.Nat.{zero-le}
+use Rattle.device.proofs.ByKind.{bounded, no_least}
 use Rattle.chip.proofs.Cases.{lacks, lacks_none}
 use Rattle.chip.specs.Close.{missing}
 use Rattle.chip.proofs.close.report_missing.Goals as goal
@@ -11,8 +14,15 @@ pub returns-in-Ignoring : goal.returns-in-Ignoring
 unfolding missing
 returns-in-Ignoring c = rw c.in-Ignoring.is
 
-pub returns-then-received-want : goal.returns-then-received-want
-returns-then-received-want c = lacks _ _ _ _ _ c.in-Active.is c.expected-want.ensures _ c.if-received-want.true c.report.ensures
+pub returns-in_default : goal.returns-in_default
+returns-in_default c = lacks_none _ _ _ _ c.in-Active.is 0 (sym (no_least c.in-Active.active.kind c.in_default.ensures)) zero-le
 
-pub returns-else-received-want : goal.returns-else-received-want
-returns-else-received-want c = lacks_none _ _ _ _ _ c.in-Active.is c.expected-want.ensures c.if-received-want.false
+pub returns-then-active-bounds : goal.returns-then-active-bounds
+returns-then-active-bounds c =
+    let b = bounded c.in-Active.active.kind c.in-Some.bounds c.in-Some.ensures in
+    lacks _ _ _ _ c.in-Active.is _ _ b.least c.if-active-bounds.true c.report.ensures
+
+pub returns-else-active-bounds : goal.returns-else-active-bounds
+returns-else-active-bounds c =
+    let b = bounded c.in-Active.active.kind c.in-Some.bounds c.in-Some.ensures in
+    lacks_none _ _ _ _ c.in-Active.is _ b.least c.if-active-bounds.false

@@ -19,12 +19,12 @@ returns-then-units-n c =
     let s = c.args in
     sym
     (a_digit s.n s.byte (omega arith) (omega arith)
-    ∙ ap (λ b. pick b (Some (10 * s.n + (s.byte - 48))) None) (le-ltb (10 * s.n + (s.byte - 48)) (2 ^ 64) (omega (arith, c.wide-units.ensures))))
+    ∙ ap (λ b. pick b (Some (10 * s.n + (s.byte - 48))) None) (le-ltb (10 * s.n + (s.byte - 48)) (2 ^ 64) (omega (arith, c.from-units.ensures))))
 
 pub returns : goal.returns
 returns c =
     let s = c.args in
     sym
     (a_digit s.n s.byte (omega arith) (omega arith)
-    ∙ ap (λ b. pick b (Some (10 * s.n + (s.byte - 48))) None) (lt-ltb (10 * s.n + (s.byte - 48)) (2 ^ 64) (omega (arith, c.wide-units.ensures)))
-    ∙ ap (λ (units : ℕ). Some (10 * s.n + units)) (sym c.wide-units.ensures))
+    ∙ ap (λ b. pick b (Some (10 * s.n + (s.byte - 48))) None) (lt-ltb (10 * s.n + (s.byte - 48)) (2 ^ 64) (omega (arith, c.from-units.ensures)))
+    ∙ ap (λ (units : ℕ). Some (10 * s.n + units)) (sym c.from-units.ensures))

@@ -6,4 +6,4 @@ use Rattle.combine.proofs.groups.frames.Goals as goal
 pub returns : goal.returns
 returns c =
     let s = c.args in
-    c.wide.ensures ∙ frames_at s.setting.now s.group s.phase c.requires.1
+    c.from.ensures ∙ frames_at s.setting.now s.group s.phase c.requires.1

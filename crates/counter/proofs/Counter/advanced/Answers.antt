@@ -1,30 +1,16 @@
--- `Counter::advanced` meets its contract: each way by the law of the axis that moves first.
-use mathlib.Core.Path.{sym, ◌∙◌}
-use Rattle.counter.proofs.Steps.{x_returns, x_steps, y_returns, y_steps}
+-- `advanced`: a step in x stays within a place of sixteen bits.
+use mathlib.Core.Path.{◌∙◌}
+use Prim.Native.Nat.{◌/◌}
+use native.Mathlib.Omega.{arith}
+use Rattle.counter.proofs.Steps.{step_below}
 use Rattle.counter.proofs.Counter.advanced.Goals as goal
 
-pub next_y-y-requires : goal.next_y-y-requires
-next_y-y-requires c = sym c.is_past_y.ensures ∙ c.if-is_past_y.false
+pub overflow_mul-x : goal.overflow_mul-x
+overflow_mul-x c =
+    let m = step_below (c.args.self.x / 8) (c.args.window.x_end / 8) 8191 c.in-Some-step.column (omega arith) (omega arith) c.x_increments.result c.in-Some-step.ensures in
+    omega arith
 
-pub next_x-x-requires : goal.next_x-x-requires
-next_x-x-requires c = sym c.is_past_x.ensures ∙ c.if-is_past_x.false
-
-pub returns-then-is_past_y : goal.returns-then-is_past_y
-returns-then-is_past_y c =
-    let a = c.args in
-    y_returns a.self a.window a.entry (sym c.y_first.ensures ∙ c.if-y_first.true) (sym c.is_past_y.ensures ∙ c.if-is_past_y.true) c.x_or_start-x.ensures
-
-pub returns-else-is_past_y : goal.returns-else-is_past_y
-returns-else-is_past_y c =
-    let a = c.args in
-    y_steps a.self a.window a.entry (sym c.y_first.ensures ∙ c.if-y_first.true) (sym c.is_past_y.ensures ∙ c.if-is_past_y.false) c.next_y-y.ensures
-
-pub returns-then-is_past_x : goal.returns-then-is_past_x
-returns-then-is_past_x c =
-    let a = c.args in
-    x_returns a.self a.window a.entry (sym c.y_first.ensures ∙ c.if-y_first.false) (sym c.is_past_x.ensures ∙ c.if-is_past_x.true) c.y_or_start-y.ensures
-
-pub returns-else-is_past_x : goal.returns-else-is_past_x
-returns-else-is_past_x c =
-    let a = c.args in
-    x_steps a.self a.window a.entry (sym c.y_first.ensures ∙ c.if-y_first.false) (sym c.is_past_x.ensures ∙ c.if-is_past_x.false) c.next_x-x.ensures
+pub overflow_mul-result : goal.overflow_mul-result
+overflow_mul-result c =
+    let m = step_below (c.args.self.x / 8) (c.args.window.x_end / 8) 8191 c.in-Some-step-2.column (omega arith) (omega arith) c.x_increments.result c.in-Some-step-2.ensures in
+    omega arith

@@ -6,16 +6,13 @@ use Rattle.otp.proofs.Search.{any_none, any_more}
 use Rattle.drive_sheet.proofs.groups.any_bad_codes.Invariants.{refused}
 use Rattle.drive_sheet.proofs.groups.any_bad_codes.Goals as goal
 
-pub loop-k-init : goal.loop-k-init
-loop-k-init c = any_none _
+pub loop-group-init : goal.loop-group-init
+loop-group-init c = any_none _
 
-pub bad_codes-one-requires : goal.bad_codes-one-requires
-bad_codes-one-requires c = tt
-
-pub loop-k-preserved : goal.loop-k-preserved
-loop-k-preserved c = any_more _ _ _ _ c.loop-k.invariant c.bad_codes-one.ensures
+pub loop-group-preserved : goal.loop-group-preserved
+loop-group-preserved c = any_more _ _ _ _ c.loop-group.invariant c.bad_codes-bad.ensures
 
 pub returns : goal.returns
 returns c =
-    let n : c.loop-k.k ≡ 10 = omega arith in
-    c.loop-k.invariant ∙ ap (any_of (refused c.args.sheet)) n
+    let n : c.loop-group.group-index ≡ 10 = omega arith in
+    c.loop-group.invariant ∙ ap (any_of (refused c.args.sheet)) n

@@ -11,5 +11,5 @@ use Rattle.drive_sheet.proofs.groups.any_bad_repeats.Given as goal
 abbrev pub refused : Sheet → ℕ → Bool
 refused h group = bad_repeats (group_at h group)
 
-abbrev pub invariant-loop-k : goal.invariant-loop-k
-invariant-loop-k l = (l.bad ≡ any_of (refused l.sheet) l.k)
+abbrev pub invariant-loop-group : goal.invariant-loop-group
+invariant-loop-group l = (l.bad ≡ any_of (refused l.fn.sheet) l.group-index)

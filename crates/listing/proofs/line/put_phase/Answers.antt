@@ -1,25 +1,22 @@
 -- `listing::line::put_phase` meets its contract.
-use mathlib.Core.Path.{refl, ap, ◌∙◌}
-use mathlib.Core.List.{List}
-use Prim.Native.Nat.{ℕ}
-use native.Mathlib.Omega.{arith}
+use mathlib.Core.Path.{ap, ◌∙◌, refl}
 use lib.ListN.{get_or}
 use borrow.Author.Tests.{eq-eqb, ne_eqb}
 use Rattle.numbers.proofs.Cases.{took, passed}
-use Rattle.column.specs.Columns.{buffer, appended}
-use Rattle.listing.specs.Listing.{phase_text}
-use Rattle.column.proofs.Appended.{nothing}
-use borrow.Author.Rules.{rules}
+use Rattle.column.specs.Columns.{gathered}
+use Rattle.column.proofs.Gathered.{nothing}
+use Rattle.listing.specs.Listing.{phase_text, room}
 use Rattle.listing.proofs.line.put_phase.Goals as goal
 
-pub returns-then-frames-eq0 : goal.returns-then-frames-eq0
+pub returns-then-group-phase-ne0 : goal.returns-then-group-phase-ne0
 unfolding phase_text
-returns-then-frames-eq0 c =
-    let s = c.args in record { text = nothing s.at s.out.now ∙ ap (λ (t : List ℕ). appended (buffer s.at s.out.now) t) (took _ _ _ _ (eq-eqb (get_or s.group.frames s.phase 0) 0 c.if-frames-eq0.true) refl); end = search rules }
+returns-then-group-phase-ne0 c =
+    let s = c.args in
+    c.put_line.ensures ∙ ap (gathered room s.text.now) (passed _ _ _ _ (ne_eqb (get_or s.group.frames s.phase 0) 0 c.if-group-phase-ne0.true) refl)
 
-pub returns : goal.returns
+pub returns-else-group-phase-ne0 : goal.returns-else-group-phase-ne0
 unfolding phase_text
-returns c =
-    let line = c in
-    let test = line in
-    let s = test.args in record { text = line.put_line.ensures.text ∙ ap (λ (t : List ℕ). appended (buffer s.at s.out.now) t) (passed _ _ _ _ (ne_eqb (get_or s.group.frames s.phase 0) 0 test.if-frames-eq0.false) refl); end = omega (arith, line.put_line.ensures.end) }
+returns-else-group-phase-ne0 c =
+    let s = c.args in
+    nothing room s.text.now
+    ∙ ap (gathered room s.text.now) (took _ _ _ _ (eq-eqb (get_or s.group.frames s.phase 0) 0 c.if-group-phase-ne0.false) refl)

@@ -1,38 +1,25 @@
--- `sheet_text::lines::put_frames` meets its contract.
-use mathlib.Core.Path.{◌≡◌, refl, ap, ◌∙◌}
+-- `sheet_text::lines::put_frames` meets its contract: a column for each phase.
+use mathlib.Core.Path.{◌≡◌, ap, ◌∙◌}
 use Prim.Native.Nat.{ℕ}
 use native.Mathlib.Omega.{arith}
 use Rattle.waveform.specs.Phases.{joined}
-use Rattle.column.specs.Columns.{natural, buffer, appended}
+use Rattle.column.specs.Columns.{natural, gathered}
 use Rattle.listing.proofs.Joined.{joined_none, joined_more}
-use Rattle.sheet_text.specs.Text.{frames_text}
-use Rattle.sheet_text.proofs.lines.put_frames.Invariants.{textIn}
+use Rattle.sheet_text.specs.Text.{frames_text, text_bytes}
+use Rattle.sheet_text.proofs.lines.put_frames.Invariants.{text_in}
 use Rattle.sheet_text.proofs.lines.put_frames.Goals as goal
 
-pub loop-phase-init : goal.loop-phase-init
-loop-phase-init c = let s = c.args in (joined_none s.at s.out.now _, omega arith, refl)
+pub loop-frames-init : goal.loop-frames-init
+loop-frames-init c = joined_none text_bytes c.args.text.now _
 
-pub wide-frames-requires : goal.wide-frames-requires
-wide-frames-requires c = tt
-
-pub put-next-requires : goal.put-next-requires
-put-next-requires c = let s = c in record { narrow = omega arith; room = omega (arith, s.requires) }
-
-pub loop-phase-preserved : goal.loop-phase-preserved
-loop-phase-preserved c =
-    let put = c in
-    let wide = put in
-    let l = wide in
-    let s = l in
-    let a = s.args in
-    let frames = put.put-next.ensures.text ∙ ap (λ (n : ℕ). appended (buffer l.loop-phase.next l.loop-phase.out) (natural 4 n)) wide.wide-frames.ensures in (joined_more a.at a.out.now (textIn a.group) l.loop-phase.phase (omega (arith, s.requires)) l.loop-phase.invariant.0 frames, omega (arith, put.put-next.ensures.end), omega arith)
-
-pub shape_of-out : goal.shape_of-out
-shape_of-out c = c.loop-phase.invariant.2
+pub loop-frames-preserved : goal.loop-frames-preserved
+loop-frames-preserved c =
+    let l = c.loop-frames in
+    joined_more text_bytes c.args.text.now (text_in c.args.group.frames) l.frames-index l.invariant
+    (c.put_number.ensures ∙ ap (λ (n : ℕ). gathered text_bytes l.text (natural 4 n)) c.from.ensures)
 
 pub returns : goal.returns
 unfolding frames_text
 returns c =
-    let l = c in
-    let a = l.args in
-    let e : l.loop-phase.phase ≡ 4 = omega arith in record { text = l.loop-phase.invariant.0 ∙ ap (λ (n : ℕ). appended (buffer a.at a.out.now) (joined n (textIn a.group))) e; end = omega arith }
+    let e : c.loop-frames.frames-index ≡ 4 = omega arith in
+    c.loop-frames.invariant ∙ ap (λ (n : ℕ). gathered text_bytes c.args.text.now (joined n (text_in c.args.group.frames))) e

@@ -1,32 +1,23 @@
--- `sheet_text::lines::put_groups` meets its contract: the lines of one group after the other.
-use mathlib.Core.Path.{◌≡◌, refl, ap, ◌∙◌}
+-- `sheet_text::lines::put_groups` meets its contract: the line of one group after the other.
+use mathlib.Core.Path.{◌≡◌, ap, ◌∙◌}
 use Prim.Native.Nat.{ℕ}
 use native.Mathlib.Omega.{arith}
 use Rattle.waveform.specs.Phases.{joined}
-use Rattle.column.specs.Columns.{buffer, appended}
+use Rattle.column.specs.Columns.{gathered}
 use Rattle.listing.proofs.Joined.{joined_none, joined_more}
-use Rattle.sheet_text.specs.Text.{group_lines}
-use Rattle.sheet_text.proofs.lines.put_groups.Invariants.{textIn}
+use Rattle.sheet_text.specs.Text.{group_lines, text_bytes}
+use Rattle.sheet_text.proofs.lines.put_groups.Invariants.{text_in}
 use Rattle.sheet_text.proofs.lines.put_groups.Goals as goal
 
 pub loop-number-init : goal.loop-number-init
-loop-number-init c = (joined_none 0 c.args.out.now _, omega arith, refl)
-
-pub put_group-at-requires : goal.put_group-at-requires
-put_group-at-requires c = omega (arith, c.requires)
+loop-number-init c = joined_none text_bytes c.args.text.now _
 
 pub loop-number-preserved : goal.loop-number-preserved
 loop-number-preserved c =
-    let put = c in
-    let l = put in
-    let a = l.args in (joined_more 0 a.out.now (textIn a.sheet) l.loop-number.number (omega arith) l.loop-number.invariant.0 put.put_group-at.ensures.text, omega (arith, put.put_group-at.ensures.end), omega arith)
-
-pub shape_of-out : goal.shape_of-out
-shape_of-out c = c.loop-number.invariant.2
+    joined_more text_bytes c.args.text.now (text_in c.args.sheet) c.loop-number.number c.loop-number.invariant c.put_group.ensures
 
 pub returns : goal.returns
 unfolding group_lines
 returns c =
-    let l = c in
-    let a = l.args in
-    let e : l.loop-number.number ≡ 10 = omega arith in record { text = l.loop-number.invariant.0 ∙ ap (λ (n : ℕ). appended (buffer 0 a.out.now) (joined n (textIn a.sheet))) e; end = omega arith }
+    let e : c.loop-number.number ≡ 10 = omega arith in
+    c.loop-number.invariant ∙ ap (λ (n : ℕ). gathered text_bytes c.args.text.now (joined n (text_in c.args.sheet))) e

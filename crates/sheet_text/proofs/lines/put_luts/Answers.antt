@@ -1,31 +1,30 @@
--- `sheet_text::lines::put_luts` meets its contract.
-use mathlib.Core.Path.{◌≡◌, refl, ap, ◌∙◌}
+-- `sheet_text::lines::put_luts` meets its contract: a blank and four digits for each LUT.
+use mathlib.Core.Path.{◌≡◌, ap, ◌∙◌}
 use Prim.Native.Nat.{ℕ}
 use native.Mathlib.Omega.{arith}
+use Rattle.waveform.specs.declared.GroupCodes.{GroupCodes}
+use mathlib.Core.List.{List, ◌∷◌, []}
 use Rattle.waveform.specs.Phases.{joined}
-use Rattle.column.specs.Columns.{buffer, appended}
+use Rattle.column.specs.Columns.{gathered}
+use Rattle.column.proofs.Gathered.{after}
 use Rattle.listing.proofs.Joined.{joined_none, joined_more}
-use Rattle.sheet_text.specs.Text.{codes_text}
+use Rattle.sheet_text.specs.Text.{digits_text, codes_text, text_bytes}
 use Rattle.sheet_text.proofs.lines.put_luts.Goals as goal
 
-pub loop-lut-init : goal.loop-lut-init
-loop-lut-init c = let s = c.args in (joined_none s.at s.out.now _, omega arith, refl)
+codes_of : (g : GroupCodes) (lut : ℕ) (t : List ℕ) {u v : List ℕ} → u ≡ gathered text_bytes t (32 ∷ []) → v ≡ gathered text_bytes u (digits_text g lut)
+    → v ≡ gathered text_bytes t (codes_text g lut)
+unfolding codes_text
+codes_of g lut t e f = after text_bytes _ _ _ e f
 
-pub put_codes-next-requires : goal.put_codes-next-requires
-put_codes-next-requires c = let s = c in record { room = omega (arith, s.requires); lut = omega arith }
+pub loop-lut-init : goal.loop-lut-init
+loop-lut-init c = joined_none text_bytes c.args.text.now _
 
 pub loop-lut-preserved : goal.loop-lut-preserved
 loop-lut-preserved c =
-    let put = c in
-    let l = put in
-    let s = l in
-    let a = s.args in (joined_more a.at a.out.now (codes_text a.group) l.loop-lut.lut (omega (arith, s.requires)) l.loop-lut.invariant.0 put.put_codes-next.ensures.text, omega (arith, put.put_codes-next.ensures.end), omega arith)
-
-pub shape_of-out : goal.shape_of-out
-shape_of-out c = c.loop-lut.invariant.2
+    let g = c.args.group in
+    joined_more text_bytes c.args.text.now (codes_text g) c.loop-lut.lut c.loop-lut.invariant (codes_of g c.loop-lut.lut c.loop-lut.text c.put.ensures c.put_codes.ensures)
 
 pub returns : goal.returns
 returns c =
-    let l = c in
-    let a = l.args in
-    let e : l.loop-lut.lut ≡ 5 = omega arith in record { text = l.loop-lut.invariant.0 ∙ ap (λ (n : ℕ). appended (buffer a.at a.out.now) (joined n (codes_text a.group))) e; end = omega arith }
+    let e : c.loop-lut.lut ≡ 5 = omega arith in
+    c.loop-lut.invariant ∙ ap (λ (n : ℕ). gathered text_bytes c.args.text.now (joined n (codes_text c.args.group))) e

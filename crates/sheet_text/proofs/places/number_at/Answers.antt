@@ -18,8 +18,8 @@ digit_at-digit-requires c = tt
 pub overflow_mul-n : goal.overflow_mul-n
 overflow_mul-n c = let l = c in omega (arith, bounded l.loop-i.i l.loop-i.n (omega arith) l.loop-i.invariant.1)
 
-pub wide-requires : goal.wide-requires
-wide-requires c = tt
+pub from-requires : goal.from-requires
+from-requires c = tt
 
 pub overflow_add-n : goal.overflow_add-n
 overflow_add-n c = let l = c in omega (arith, bounded l.loop-i.i l.loop-i.n (omega arith) l.loop-i.invariant.1)
@@ -28,9 +28,9 @@ pub loop-i-preserved : goal.loop-i-preserved
 loop-i-preserved c =
     let l = c in
     let s = l.args in
-    let d = c.wide.ensures ∙ c.digit_at-digit.ensures.digit in (
+    let d = c.from.ensures ∙ c.digit_at-digit.ensures.digit in (
       value_more l.loop-i.i (byteIn s.text.now s.at) l.loop-i.n _ l.loop-i.invariant.0 d,
-      bounded_more l.loop-i.i l.loop-i.n _ l.loop-i.invariant.1 (omega (arith, c.wide.ensures, c.digit_at-digit.ensures.small)),
+      bounded_more l.loop-i.i l.loop-i.n _ l.loop-i.invariant.1 (omega (arith, c.from.ensures, c.digit_at-digit.ensures.small)),
     )
 
 pub returns : goal.returns

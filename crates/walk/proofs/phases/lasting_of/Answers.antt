@@ -19,6 +19,6 @@ returns c =
       record {
         timed = subst (λ (x : Phase). 0 < x.frame_ns) (sym e) call.requires.1;
         drive_is = call.step_of-step.ensures ∙ ap (phase_step a.driving) (sym e);
-        length_is = c.saturating_mul_u64-length.ensures;
+        length_is = c.saturating_mul-length.ensures;
       },
     )

@@ -1,0 +1,2 @@
+-- The laws of device.
+pub mod ByKind

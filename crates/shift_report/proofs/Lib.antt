@@ -1,0 +1,3 @@
+-- The root of shift_report's proofs.
+pub mod Lengths
+pub mod Hex

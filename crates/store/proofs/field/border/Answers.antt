@@ -1,8 +1,0 @@
--- `field::border`: 0x3C stores its byte as it is.
-use mathlib.Core.Path.{refl}
-use Rattle.registers.specs.Store.{stored}
-use Rattle.store.proofs.field.border.Goals as goal
-
-pub returns : goal.returns
-unfolding stored
-returns c = refl
