@@ -149,7 +149,7 @@ fn cut_repeats(driving: Driving, until: u64, group: Group, progress: Progress) -
     moved
 }
 
-// A group that ends by the cut is walked whole; an end that stopped at 2^64 − 1 says nothing.
+// A group that ends by the cut is walked whole; an end that stopped at 2^64 − 1 does so only by a cut there, which cuts nothing.
 fn cut_group(driving: Driving, until: u64, group: Group, progress: Progress) -> Progress
     requires { (0 < group.frame_ns) × Drivable driving }
     ensures { result ≡ foldl (cut_step driving until) progress (group_in driving group) }
@@ -159,15 +159,13 @@ fn cut_group(driving: Driving, until: u64, group: Group, progress: Progress) -> 
     }
     let end = progress.elapsed.saturating_add(duration::group_ns(group));
     if end <= until {
-        if end < u64::MAX {
-            let transfer = progress.transfer;
-            let moved = group_transfer(driving, group, transfer);
-            return Progress {
-                transfer: moved,
-                elapsed: end,
-                stopped: false,
-            };
-        }
+        let transfer = progress.transfer;
+        let moved = group_transfer(driving, group, transfer);
+        return Progress {
+            transfer: moved,
+            elapsed: end,
+            stopped: false,
+        };
     }
     cut_repeats(driving, until, group, progress)
 }
