@@ -1,9 +1,11 @@
 -- Text gathered in a buffer, a byte more and a text more. Assumes nothing.
-use Rattle.std.proofs.Common.{◌≡◌, sym, ap, ◌∙◌, List, [], ◌∷◌, ◌++◌, ℕ, zero, suc, ◌+◌, ◌-◌, ◌<◌, ◌≤◌, append-nil, arith, length, take, get_or, set, length-append, length-take, length-take-le, take_all}
+use Rattle.std.proofs.Common.{◌≡◌, sym, ap, ◌∙◌, List, [], ◌∷◌, ◌++◌, ℕ, zero, suc, ◌+◌, ◌-◌, ◌<◌, ◌≤◌, append-nil, arith, length, take, get_or, set, drop, length-append, length-drop, length-take, length-take-le, take_all}
 use mathlib.Core.List.{append_assoc}
 use native.Mathlib.Numerals.{add-one}
 use lib.Seq.{take-suc}
+use borrow.Rule.Slice.PartMut.{put_mid}
 use Rattle.std.proofs.lemmas.List.{take_more_set}
+use Rattle.std.proofs.lemmas.Slice.{take-put_mid}
 use Rattle.column.specs.Columns.{gathered}
 
 -- what fits is all there
@@ -42,6 +44,20 @@ module _ (room : ℕ) (g : List ℕ) where
   byte_more l i h e f =
       after (take i l) (get_or l i 0 ∷ []) e f
       ∙ ap (gathered room g) (sym (take-suc l i 0 h) ∙ ap (λ (n : ℕ). take n l) (sym (add-one i)))
+
+-- a text over the places after the first n of a buffer, where it fits; those places are as many as it has bytes
+module _ (room : ℕ) (bytes : List ℕ) (n w : ℕ) {g : List ℕ} (l : length bytes ≡ room) (e : take n bytes ≡ g) (m : n ≤ room) (h : w ≤ room - n) where
+  front : length g ≡ n
+  front = ap length (sym e) ∙ length-take-le n bytes (omega arith)
+
+  pub wide : length (take ((n + w) - n) (drop n bytes)) ≡ w
+  wide = omega (arith, length-take ((n + w) - n) (drop n bytes), length-drop n bytes)
+
+  pub put_text : (t s : List ℕ) → t ≡ s → length s ≡ w → take (n + w) (put_mid n ((n + w) - n) bytes t) ≡ gathered room g s
+  put_text t s is long =
+      take-put_mid n ((n + w) - n) bytes t (n + w) (let q : length t ≡ w = ap length is ∙ long in omega (arith, q)) (omega arith)
+      ∙ (λ i. e i ++ is i)
+      ∙ sym (all_fits room g s (omega (arith, front, long)))
 
 -- a byte after the first n of a buffer, and none where there is no room
 module _ (room : ℕ) (bytes : List ℕ) (n b : ℕ) {g : List ℕ} (l : length bytes ≡ room) (e : take n bytes ≡ g) (m : n ≤ room) where

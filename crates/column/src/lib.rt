@@ -66,6 +66,17 @@ fn symbol(negative: bool, n: u64, place: usize) -> u8
     b' '
 }
 
+// A column as wide as `out`.
+fn fill_column(out: &mut [u8], negative: bool, n: u64)
+    ensures { out.new ≡ column_of (length out.old) negative n }
+{
+    let width = out.len();
+    // The counter is the place in the column, from the left.
+    for i in 0..width {
+        out[i] = symbol(negative, n, width - 1 - i);
+    }
+}
+
 // Text of up to `ROOM` bytes. What does not fit is left out.
 #[derive(Drop)]
 pub struct Columns<const ROOM: usize> {
@@ -104,6 +115,14 @@ impl<const ROOM: usize> Columns<ROOM> {
     pub fn put_text(&mut self, text: &[u8])
         ensures { self.new ≡ gathered ROOM self.old text.now }
     {
+        if text.len() <= ROOM - self.len {
+            let from = self.len;
+            let end = from + text.len();
+            let bytes = &mut self.bytes[..];
+            bytes[from..end].copy_from_slice(text);
+            self.len = end;
+            return;
+        }
         for byte in text {
             self.put(*byte);
         }
@@ -112,6 +131,14 @@ impl<const ROOM: usize> Columns<ROOM> {
     fn put_column(&mut self, width: usize, negative: bool, n: u64)
         ensures { self.new ≡ gathered ROOM self.old (column_of width negative n) }
     {
+        if width <= ROOM - self.len {
+            let from = self.len;
+            let end = from + width;
+            let bytes = &mut self.bytes[..];
+            fill_column(&mut bytes[from..end], negative, n);
+            self.len = end;
+            return;
+        }
         for i in 0..width {
             self.put(symbol(negative, n, width - 1 - i));
         }

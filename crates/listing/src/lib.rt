@@ -58,5 +58,9 @@ pub fn list(setting: &[u8], out: &mut [u8]) -> usize
     ensures text { buffer result out.new ≡ listed setting.now out.old }
     ensures within { result ≤ length out.new }
 {
+    // Before the text is made, which the test in `write_to` comes after.
+    if out.len() < ROOM {
+        return 0;
+    }
     text_of(setting).write_to(out)
 }

@@ -39,6 +39,10 @@ pub fn put(sheet: Sheet, out: &mut [u8]) -> usize
     ensures text { buffer result out.new ≡ put_in sheet out.old }
     ensures within { result ≤ length out.new }
 {
+    // Before the text is made, which the test in `write_to` comes after.
+    if out.len() < TEXT_BYTES {
+        return 0;
+    }
     lines::text_of(sheet).write_to(out)
 }
 
@@ -128,5 +132,8 @@ pub fn answer(text: &[u8], out: &mut [u8]) -> usize
     ensures text { buffer result out.new ≡ answered_in text.now out.old }
     ensures within { result ≤ length out.new }
 {
+    if out.len() < SETTING_BYTES {
+        return 0;
+    }
     answer_to(text).write_to(out)
 }

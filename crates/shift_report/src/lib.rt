@@ -96,6 +96,10 @@ pub fn report(
     ensures text { buffer result out.new ≡ at_front (bounds_text optics frame_period setting.now driving before after) out.old }
     ensures within { result ≤ length out.new }
 {
+    // Before the bounds are worked out, which the test in `write_to` comes after.
+    if out.len() < ROOM {
+        return 0;
+    }
     let bounded = voltage_shift::bounds(optics, frame_period, setting, driving, before, after);
     text_of(bounded).write_to(out)
 }

@@ -1,7 +1,7 @@
 -- `column::Columns::put_column` meets its contract: after i turns the column's first i bytes are put.
 use Rattle.std.proofs.Common.{ℕ, [], ◌∷◌, ap, sym, ◌∙◌, arith, take_all}
 use Rattle.column.specs.Columns.{column_of, gathered}
-use Rattle.column.proofs.Gathered.{nothing, byte_more}
+use Rattle.column.proofs.Gathered.{nothing, byte_more, wide, put_text}
 use Rattle.column.proofs.Symbols.{column_length, column_at_is}
 use Rattle.column.proofs.Columns.put_column.Goals as goal
 
@@ -21,3 +21,12 @@ returns g c =
     let s = c.args in
     c.loop-i.invariant
     ∙ ap (gathered g.row.ROOM s.self.now) (take_all c.loop-i.i (column_of s.width s.negative s.n) (omega (arith, column_length s.width s.negative s.n)))
+
+pub returns-then-width-self : goal.returns-then-width-self
+returns-then-width-self g c =
+    let s = c.self in
+    let a = c.args in
+    let w = wide g.row.ROOM s.inside.bytes s.inside.len a.width s.told s.view_is s.invariant c.if-width-self.true in
+    put_text g.row.ROOM s.inside.bytes s.inside.len a.width s.told s.view_is s.invariant c.if-width-self.true c.fill_column.new.out _
+    (c.fill_column.ensures ∙ ap (λ (k : ℕ). column_of k a.negative a.n) w)
+    (column_length a.width a.negative a.n)
