@@ -12,10 +12,6 @@ impl Answers {
         Answers { text: Text::new() }
     }
 
-    pub fn byte(&mut self, byte: u8) {
-        self.text.put(byte);
-    }
-
     pub fn word(&mut self, word: &[u8]) {
         self.text.word(word);
     }

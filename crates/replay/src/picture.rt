@@ -1,10 +1,15 @@
 // The panel's picture as text, a character a pixel.
+ghost use Rattle.std.specs.Prelude.{◌≤◌, length};
+
 use crate::answers::Answers;
 use glass::PanelImage;
 use std::io;
 
 // From black to white.
 const SHADES: [u8; 10] = *b"@%#*+=-:. ";
+
+// Pixels whose shades are gathered at most.
+const SHADED: usize = 256;
 
 fn shade(grey: u8) -> u8 {
     SHADES[grey as usize * 10 / 256]
@@ -17,9 +22,20 @@ fn head(answers: &mut Answers, image: PanelImage) {
     answers.end_line();
 }
 
+// The shades are gathered first: the text takes them at once.
+fn part(answers: &mut Answers, pixels: &[u8])
+    requires { length pixels.now ≤ 256 }
+{
+    let mut shades = [0u8; SHADED];
+    for i in 0..pixels.len() {
+        shades[i] = shade(pixels[i]);
+    }
+    answers.word(&shades[..pixels.len()]);
+}
+
 fn row(answers: &mut Answers, pixels: &[u8]) {
-    for pixel in pixels {
-        answers.byte(shade(*pixel));
+    for pixels in pixels.chunks(SHADED) {
+        part(answers, pixels);
     }
     answers.word(b"|\n");
 }

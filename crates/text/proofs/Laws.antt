@@ -1,16 +1,19 @@
 -- Texts written byte by byte, and the digits of a number. Assumes nothing.
 use mathlib.Core.Path.{◌≡◌, refl, sym, ap, subst, ◌∙◌}
 use mathlib.Core.Bool.{Bool, true, false, cond}
-use mathlib.Core.List.{List, [], ◌∷◌, ◌++◌}
+use mathlib.Core.List.{List, [], ◌∷◌, ◌++◌, append_assoc}
 use Prim.Native.Nat.{ℕ, zero, suc, ◌+◌, ◌-◌, ◌/◌, ◌%◌, ◌^◌, ◌<◌, ◌≤◌}
 use native.Mathlib.Nat.{pow-suc, one-le-pow, pow-le-pow_right, zero-lt-suc}
 use native.Mathlib.Numerals.{add-one}
 use native.Mathlib.Omega.{arith}
-use lib.Dec.{leb}
+use lib.Dec.{leb, ltb}
 use lib.ListN.{length, take, get_or, set}
 use lib.Seq.{take-suc}
-use Rattle.std.proofs.lemmas.List.{take_more_set, length-take-le}
-use borrow.Author.Tests.{leb-true, leb-false, lt-ltb, le-ltb}
+use Rattle.std.proofs.Common.{min, append-nil}
+use Rattle.std.proofs.lemmas.List.{take_more_set, length-take-le, length-append, take_all, take_min}
+use Rattle.std.proofs.lemmas.Slice.{take-put_mid}
+use borrow.Rule.Slice.PartMut.{put_mid}
+use borrow.Author.Tests.{leb-true, leb-false, lt-ltb, le-ltb, ltb-true, ltb-false}
 use Rattle.io.specs.Digits.{hex_digit_ascii, last_digits, IsDigitCount}
 use lib.IntN.{ℤ, pos, negsuc, nat_abs}
 use lib.Signed.{lt_z}
@@ -39,13 +42,43 @@ unfolding written
 written_more g [] t = refl
 written_more g (c ∷ s) t = written_more (put_of g c) s t
 
--- a text as far as its first i bytes, f of which is what is written
-module _ (g : List ℕ) (l : List ℕ) (i : ℕ) (h : i < length l) {a b : List ℕ} where
-  pub word_step : a ≡ written g (take i l) → b ≡ put_of a (get_or l i 0) → b ≡ written g (take (i + 1) l)
-  unfolding written
-  word_step e f =
-      f ∙ ap (λ (x : List ℕ). put_of x (get_or l i 0)) e ∙ sym (written_more g (take i l) (get_or l i 0 ∷ []))
-      ∙ ap (written g) (sym (take-suc l i 0 h)) ∙ ap (λ (n : ℕ). written g (take n l)) (sym (add-one i))
+-- a text is what there was, and as much of what is written as there is room for
+pub written_is : (g w : List ℕ) → length g ≤ 65536 → written g w ≡ g ++ take (65536 - length g) w
+unfolding written put_of
+written_is g [] h = sym (append-nil g) ∙ ap (λ (t : List ℕ). g ++ t) (sym (take_all (65536 - length g) [] (omega arith)))
+written_is g (c ∷ w) h = by_room (λ x. written_is x w) (ltb (length g) 65536) refl
+  where
+    by_room : ((x : List ℕ) → length x ≤ 65536 → written x w ≡ x ++ take (65536 - length x) w) → (t : Bool) → ltb (length g) 65536 ≡ t
+        → written (put_of g c) w ≡ g ++ take (65536 - length g) (c ∷ w)
+    by_room rest true e =
+        let r = ltb-true (length g) 65536 e in
+        let d = length-append g (c ∷ []) in
+        ap (λ (x : List ℕ). written x w) (sym (took _ _ _ _ e refl))
+        ∙ rest (g ++ (c ∷ [])) (omega (arith, d))
+        ∙ append_assoc g (c ∷ []) _
+        ∙ ap (λ (n : ℕ). g ++ (c ∷ take n w)) (let n : 65536 - length (g ++ (c ∷ [])) ≡ 65536 - length g - 1 = omega (arith, d) in n)
+        ∙ ap (λ (n : ℕ). g ++ take n (c ∷ w)) (let n : suc (65536 - length g - 1) ≡ 65536 - length g = omega arith in n)
+    by_room rest false e =
+        let r = ltb-false (length g) 65536 e in
+        let z : 65536 - length g ≡ 0 = omega arith in
+        ap (λ (x : List ℕ). written x w) (sym (passed _ _ _ _ e refl))
+        ∙ rest g h
+        ∙ ap (λ (n : ℕ). g ++ take n w) z
+        ∙ ap (λ (n : ℕ). g ++ take n (c ∷ w)) (sym z)
+
+-- a text copied to the place after the first n bytes of a buffer, f of its bytes, which are those that there is room for
+module _ (bytes : List ℕ) (n : ℕ) {g : List ℕ} (l : length bytes ≡ 65536) (e : take n bytes ≡ g) (m : n ≤ 65536) where
+  pub word_copied : (w part : List ℕ) (f k : ℕ) → f ≡ min (length w) (65536 - n) → part ≡ take f w
+      → take (n + f) (put_mid n k bytes part) ≡ written g w
+  word_copied w part f k o p =
+      let d = length-take-le f w (omega arith) in
+      let all : length part ≡ f = ap length p ∙ d in
+      let there : length g ≡ n = ap length (sym e) ∙ length-take-le n bytes (omega arith) in
+      take-put_mid n k bytes part (n + f) (omega arith) (omega arith)
+      ∙ (λ i. e i ++ p i)
+      ∙ ap (λ (x : ℕ). g ++ take x w) (let x : f ≡ min (65536 - length g) (length w) = omega arith in x)
+      ∙ ap (λ (t : List ℕ). g ++ t) (take_min (65536 - length g) w)
+      ∙ sym (written_is g w (omega arith))
 
 hex_more : (s : List ℕ) (c : ℕ) → hex_of (s ++ (c ∷ [])) ≡ hex_of s ++ hex_of (c ∷ [])
 unfolding hex_of

@@ -64,9 +64,10 @@ impl Text {
     pub fn word(&mut self, word: &[u8])
         ensures { self.new ≡ written self.old word.now }
     {
-        for byte in word {
-            self.put(*byte);
-        }
+        let fits = word.len().min(ROOM - self.len);
+        let end = self.len + fits;
+        self.bytes[self.len..end].copy_from_slice(&word[..fits]);
+        self.len = end;
     }
 
     pub fn number(&mut self, n: u64)

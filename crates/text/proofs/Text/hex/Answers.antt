@@ -1,5 +1,5 @@
 -- `text::Text::hex` meets its contract: after i turns the first i bytes are written.
-use mathlib.Core.Path.{◌≡◌, refl, ◌∙◌}
+use mathlib.Core.Path.{refl}
 use native.Mathlib.Omega.{arith}
 use Rattle.text.specs.Text.{written, hex_of}
 use Rattle.text.proofs.Laws.{hex_step}

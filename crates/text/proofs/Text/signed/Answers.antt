@@ -1,5 +1,5 @@
 -- `text::Text::signed` meets its contract: the digits are those of the size, after the sign of a negative number.
-use mathlib.Core.Path.{◌≡◌, sym, ap, ◌∙◌}
+use mathlib.Core.Path.{sym, ap, ◌∙◌}
 use Rattle.numbers.proofs.Lin.{rd, back}
 use Rattle.text.specs.Text.{written, decimal_of, signed_of}
 use Rattle.text.proofs.Laws.{minus_of, plus_of}

@@ -1,16 +1,10 @@
--- `text::Text::word` meets its contract: after i turns the first i bytes are written.
-use mathlib.Core.Path.{◌≡◌, refl, ◌∙◌}
-use native.Mathlib.Omega.{arith}
-use Rattle.text.specs.Text.{written}
-use Rattle.text.proofs.Laws.{word_step}
+-- `text::Text::word` meets its contract: as much of it as there is room for is copied.
+use Prim.Native.Nat.{◌+◌, ◌-◌}
+use Rattle.text.proofs.Laws.{word_copied}
 use Rattle.text.proofs.Text.word.Goals as goal
 
-pub loop-byte-init : goal.loop-byte-init
-unfolding written
-loop-byte-init c = refl
-
-pub loop-byte-preserved : goal.loop-byte-preserved
-loop-byte-preserved c =
-    let l = c.loop-byte in
-    let s = c.args in
-    word_step s.self.now s.word.now l.byte-index (omega arith) l.invariant c.put.ensures
+pub returns : goal.returns
+returns c =
+    let s = c.self in
+    word_copied s.inside.bytes s.inside.len s.told s.view_is s.invariant c.args.word.now c.copy_from_slice.new.self c.min-fits.result
+    (s.inside.len + c.min-fits.result - s.inside.len) c.min-fits.ensures c.copy_from_slice.ensures.after
