@@ -1,23 +1,13 @@
 -- Events from a start on, by what the start and the events leave. Assumes nothing.
-use Rattle.std.specs.Prelude.{Result, Ok, Err}
-use Rattle.std.specs.Result.{result_unwrap_or}
 use mathlib.Core.Path.{◌≡◌, ap, ◌∙◌}
 use mathlib.Core.List.{List}
 use Prim.Native.Nat.{ℕ}
-use Rattle.config.specs.declared.Ssd1677Config.{Ssd1677Config}
-use Rattle.device.specs.declared.Ssd1677.{Ssd1677}
 use Rattle.event.specs.declared.Event.{Event}
-use Rattle.power_on.specs.declared.StartError.{StartError}
-use Rattle.power_on.specs.Start.{buffers, Powered, world_of, unstarted, chip_in}
+use Rattle.power_on.specs.Start.{buffers, Powered, world_of}
 use Rattle.world.specs.World.{World}
 use Rattle.traffic.specs.Traffic.{fed, made, feeding}
 use Rattle.bench.specs.Made.{header_of}
 use Rattle.bench_device.specs.Whole.{ran, ran_of, ran_from}
-
--- the chip that was started, or the unstarted one
-pub chip_is : (c : Ssd1677Config) (r : Result Ssd1677 StartError) (d s : Ssd1677) → d ≡ unstarted c → s ≡ result_unwrap_or r d → s ≡ chip_in c r
-chip_is c (Ok state) d s e f = f
-chip_is c (Err error) d s e f = f ∙ e
 
 pub ran_on : (otp : List ℕ) (event : ℕ → Event) (n : ℕ) (p q : Powered) (left : World) {number count : ℕ} {header : List ℕ}
     → q ≡ p → fed number count left ≡ feeding (made otp event) n 0 (world_of q) → header ≡ header_of left.device.panel.image

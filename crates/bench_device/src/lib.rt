@@ -5,11 +5,23 @@ mod whole;
 
 ghost use Rattle.std.specs.Prelude.{◌≡◌};
 ghost use Rattle.counts.specs.Counts.{picture};
-ghost use Rattle.power_on.specs.Start.{buffers, started};
+ghost use Rattle.power_on.specs.Start.{buffers, chip_in, started};
 ghost use Rattle.traffic.specs.Traffic.{event_at, shortest};
 ghost use Rattle.bench_device.specs.Whole.{config_of, ran, ran_from};
 
 use bench::made;
+use device::Ssd1677;
+use power_on::RefusedStart;
+
+// The chip that a start hands back, accepted or refused.
+fn handed_back(started: Result<Ssd1677, RefusedStart>) -> Ssd1677
+    ensures { result ≡ chip_in started }
+{
+    match started {
+        Ok(state) => state,
+        Err(refused) => refused.state,
+    }
+}
 
 // A device started and fed with events; how many of them were made. The header is that of the image it then shows. After a refused start
 // none is made.
@@ -32,9 +44,8 @@ pub fn proved_traffic(
 ) -> usize
     ensures { ran result header.new (buffers states.new luts.new (picture pixels.new counts.new) black_white.new red.new gates.new log.new) ≡ ran_from otp.now (event_at kinds.now times.now values.now) (shortest kinds.now times.now values.now) (started (config_of width height) otp.now (buffers states.old luts.old (picture pixels.old counts.old) black_white.old red.old gates.old log.old)).left }
 {
-    let config = whole::config_of(width, height);
     let started = power_on::new(
-        config,
+        whole::config_of(width, height),
         &mut states[..],
         &mut luts[..],
         &mut pixels[..],
@@ -45,7 +56,7 @@ pub fn proved_traffic(
         &mut log[..],
         otp,
     );
-    let present = started.unwrap_or(power_on::unstarted(config));
+    let present = handed_back(started);
     let fed = traffic::feed(
         present,
         &mut states[..],

@@ -11,7 +11,7 @@ use Rattle.device.specs.declared.Ssd1677.{Ssd1677}
 use Rattle.query.specs.Outcome.{answer_in, state_in}
 use Rattle.query.specs.Queries.{taken_in}
 use Rattle.driven.specs.Read.{reading_in}
-use Rattle.power_on.specs.Start.{Buffers, buffers, Powered, powered, chip_in}
+use Rattle.power_on.specs.Start.{Buffers, buffers, Powered, powered, start_error_in, chip_in}
 use Rattle.calls.specs.World.{Call}
 use Rattle.power_on.proofs.new.Reads as new-reads
 use Rattle.wait.proofs.advance.Reads as advance-reads
@@ -30,8 +30,8 @@ pub data New : Ssd1677Config → List ℕ → Buffers → Result Ssd1677 StartEr
       → New a.0 a.1.1.1.1.1.1.1.1.1.0.now
       (buffers a.1.0.now a.1.1.0.now (picture a.1.1.1.0.now a.1.1.1.1.0.now) a.1.1.1.1.1.0.now a.1.1.1.1.1.1.0.now a.1.1.1.1.1.1.1.0.now
       a.1.1.1.1.1.1.1.1.0.now)
-      r
-      (powered (chip_in a.0 r)
+      (start_error_in r)
+      (powered (chip_in r)
       (buffers s.1.0.now s.1.1.0.now (picture s.1.1.1.0.now s.1.1.1.1.0.now) s.1.1.1.1.1.0.now s.1.1.1.1.1.1.0.now s.1.1.1.1.1.1.1.0.now
       s.1.1.1.1.1.1.1.1.0.now))
 

@@ -25,8 +25,9 @@ use Rattle.registers.specs.Reset.{reset_of}
 use Rattle.guard_lengths.specs.declared.Lengths.{Lengths}
 use Rattle.guard_lengths.specs.Lengths.{lengths_fit, counts_fit}
 use Rattle.power_on.specs.declared.StartError.{StartError}
+use Rattle.power_on.specs.declared.RefusedStart.{RefusedStart}
 use Rattle.power_on.specs.declared.StartError.TheVariants.{Parameters, Buffer, Counts}
-use Rattle.power_on.specs.Start.{buffer_test, counts_test, all_tests, start_refused_by, start_answer_of, chip_with, powered_on, chip_in, Buffers, buffers, lengths_in, Clean, clean, cleared, filled, powered, powered_up, start, started}
+use Rattle.power_on.specs.Start.{buffer_test, counts_test, all_tests, start_refused_by, start_answer_of, start_error_in, refused_start, chip_with, powered_on, chip_in, Buffers, buffers, lengths_in, Clean, clean, cleared, filled, powered, powered_up, start, started}
 
 -- ---- the tests
 module _ (p : PanelGeometry) (l : Lengths) (fit : Bool) (is : fit ≡ lengths_fit p l) where
@@ -111,11 +112,11 @@ module _ (c : Ssd1677Config) (otp : List ℕ) (b : Buffers) (l : Lengths) (is : 
   same x told = told ∙ ap (λ (z : Lengths). first_of (all_tests c otp z)) is
 
   pub starts : (d : Ssd1677) (left : Buffers) → start_answer_of {A = Unit} (Ok tt) ≡ first_of (all_tests c otp l) → powered d left ≡ powered_up c b
-      → start (start_answer_of (Ok d)) (powered (chip_in c (Ok d)) left) ≡ started c otp b
+      → start (start_answer_of (start_error_in (Ok d))) (powered (chip_in (Ok d)) left) ≡ started c otp b
   unfolding started start_answer_of
   starts d left told e = rw (← same accepted told, e)
 
-  pub starts_not : (error : StartError) → start_answer_of {A = Unit} (Err error) ≡ first_of (all_tests c otp l)
-      → start (start_answer_of {A = Ssd1677} (Err error)) (powered (chip_in c (Err error)) b) ≡ started c otp b
+  pub starts_not : (error : StartError) (r : RefusedStart) → start_answer_of {A = Unit} (Err error) ≡ first_of (all_tests c otp l) → r ≡ refused_start c error
+      → start (start_answer_of (start_error_in {A = Ssd1677} (Err r))) (powered (chip_in (Err r)) b) ≡ started c otp b
   unfolding started start_answer_of
-  starts_not error told = rw (← same (start_refused_by error) told, refused_all error)
+  starts_not error r told is = rw (is, ← same (start_refused_by error) told, refused_all error)

@@ -19,6 +19,7 @@ use Rattle.registers.specs.Reset.{reset_of}
 use Rattle.guard_lengths.specs.declared.Lengths.{Lengths}
 use Rattle.guard_lengths.specs.Lengths.{lengths_fit, counts_fit, all_lent}
 use Rattle.power_on.specs.declared.StartError.{StartError}
+use Rattle.power_on.specs.declared.RefusedStart.{RefusedStart}
 use Rattle.power_on.specs.declared.StartRefusal.{StartRefusal}
 use Rattle.power_on.specs.declared.StartError.TheVariants.{Parameters, Buffer, Counts}
 
@@ -102,10 +103,19 @@ no_glass =
 unfoldable pub unstarted : Ssd1677Config → Ssd1677
 unstarted c = chip_with c no_glass
 
--- the chip that a start hands back, or the unstarted one
-abbrev pub chip_in : Ssd1677Config → Result Ssd1677 StartError → Ssd1677
-chip_in c (Ok state) = state
-chip_in c (Err error) = unstarted c
+-- what a refused start hands back
+abbrev pub refused_start : Ssd1677Config → StartError → RefusedStart
+refused_start c error = record { error = error; state = unstarted c }
+
+-- whether a start was refused, of one that hands back a chip in either case
+abbrev pub start_error_in : {A : Type 0} → Result A RefusedStart → Result A StartError
+start_error_in (Ok value) = Ok value
+start_error_in (Err given) = Err given.error
+
+-- the chip that a start hands back, accepted or refused
+abbrev pub chip_in : Result Ssd1677 RefusedStart → Ssd1677
+chip_in (Ok state) = state
+chip_in (Err given) = given.state
 
 -- the planes and the log
 pub record Clean : Type 0 where

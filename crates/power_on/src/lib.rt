@@ -6,7 +6,7 @@ ghost use Rattle.config.specs.Answer.{first_of, refused_by};
 ghost use Rattle.gates_laws.specs.OneToOne.{Scanned};
 ghost use Rattle.counts.specs.Counts.{picture};
 ghost use Rattle.power_on.specs.declared.StartError.TheVariants.{Parameters};
-ghost use Rattle.power_on.specs.Start.{all_tests, start_refused_by, start_answer_of, chip_with, unstarted, chip_in, clean, cleared, buffers, powered, powered_up, start, started, refusal_of};
+ghost use Rattle.power_on.specs.Start.{all_tests, start_refused_by, start_answer_of, start_error_in, chip_with, unstarted, refused_start, chip_in, clean, cleared, buffers, powered, powered_up, start, started, refusal_of};
 
 use config::{ConfigError, Ssd1677Config};
 use counts::Counts;
@@ -33,6 +33,13 @@ impl From<ConfigError> for StartError {
     fn from(parameters: ConfigError) -> StartError {
         StartError::Parameters(parameters)
     }
+}
+
+// What a refused start hands back: a chip that every call refuses.
+#[derive(Clone, Copy)]
+pub struct RefusedStart {
+    pub error: StartError,
+    pub state: Ssd1677,
 }
 
 // A refused start's number and its value, 0 where it has none (SCOPE, Refusals).
@@ -171,6 +178,13 @@ pub fn unstarted(config: Ssd1677Config) -> Ssd1677
     chip_with(config, panel)
 }
 
+fn refuse(config: Ssd1677Config, error: StartError) -> RefusedStart
+    ensures { result ≡ refused_start config error }
+{
+    let state = unstarted(config);
+    RefusedStart { error, state }
+}
+
 // ASSUMPTION: the RAM reads 0 at power-on; the datasheet leaves it undefined (mod.rs).
 fn clear(black_white: &mut [u8], red: &mut [u8], log: &mut Log)
     ensures { clean black_white.new red.new log.new ≡ cleared (length black_white.old) (length red.old) (length log.old) }
@@ -214,8 +228,8 @@ pub fn new(
     gates: &mut [u16],
     log: &mut [u8],
     otp: &[u8],
-) -> Result<Ssd1677, StartError>
-    ensures { start (start_answer_of result) (powered (chip_in config result) (buffers states.new luts.new (picture pixels.new counts.new) black_white.new red.new gates.new log.new)) ≡ started config otp.now (buffers states.old luts.old (picture pixels.old counts.old) black_white.old red.old gates.old log.old) }
+) -> Result<Ssd1677, RefusedStart>
+    ensures { start (start_answer_of (start_error_in result)) (powered (chip_in result) (buffers states.new luts.new (picture pixels.new counts.new) black_white.new red.new gates.new log.new)) ≡ started config otp.now (buffers states.old luts.old (picture pixels.old counts.old) black_white.old red.old gates.old log.old) }
 {
     let lengths = guard_lengths::all_lent(
         states.len(),
@@ -227,13 +241,15 @@ pub fn new(
         red.len(),
         gates.len(),
     );
-    check(config, otp, lengths)?;
+    if let Err(error) = check(config, otp, lengths) {
+        return Err(refuse(config, error));
+    }
     // The test has seen both lengths.
     let Some(counts) = counts.as_mut_array() else {
-        return Err(StartError::Counts);
+        return Err(refuse(config, StartError::Counts));
     };
     let Some(log) = log.as_mut_array() else {
-        return Err(StartError::Buffer);
+        return Err(refuse(config, StartError::Buffer));
     };
     Ok(power_up(
         config,

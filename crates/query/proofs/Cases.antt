@@ -9,11 +9,12 @@ use Rattle.diagnostic.specs.declared.Journal.{Journal}
 use Rattle.device.specs.declared.Ssd1677.{Ssd1677}
 use Rattle.device.specs.Parts.{with_config, with_journal}
 use Rattle.guard.specs.declared.Refusal.{Refusal}
+use Rattle.guard.specs.declared.Refused.{Refused}
 use Rattle.guard.specs.declared.Refusal.TheVariants.{State}
 use Rattle.guard_state.specs.State.{state_fine}
 use Rattle.guard.specs.Refusals.{number_of}
 use Rattle.query.specs.Queries.{with_ambient, with_count, journal_emptied}
-use Rattle.query.specs.Outcome.{outcome, unless, told, state_guarded}
+use Rattle.query.specs.Outcome.{outcome, unless, told, told_part, given_back, state_guarded}
 
 module _ (d : Ssd1677) (b : Bool) (is : b ≡ state_fine d) where
   pub is_fine : b ≡ true → Ok tt ≡ state_guarded d
@@ -40,6 +41,16 @@ module _ {A : Type 0} (none done : A) where
 
   pub asks : (g checked : Result Unit Refusal) (v : A) (x : Result A Refusal) → checked ≡ g → v ≡ done → x ≡ result_and checked (Ok v) → told none x ≡ unless g none done
   asks g checked v x is e f = rw (f, e, is) (answers g)
+
+-- the same, of a part of the state, which a refused question hands back
+module _ {A : Type 0} (part : Ssd1677 → A) (d : Ssd1677) where
+  parts : (g : Result Unit Refusal) → told_part part (result_and (given_back d g) (Ok (part d))) ≡ unless g (part d) (part d)
+  parts (Ok value) = refl
+  parts (Err refusal) = refl
+
+  pub asks_part : (g : Result Unit Refusal) (checked : Result Unit Refused) (v : A) (x : Result A Refused) → checked ≡ given_back d g → v ≡ part d
+      → x ≡ result_and checked (Ok v) → told_part part x ≡ unless g (part d) (part d)
+  asks_part g checked v x is e f = rw (f, e, is) (parts g)
 
 pub sets : (d : Ssd1677) (register : ℕ) (c : Ssd1677Config) (r : Ssd1677) → c ≡ with_ambient d.config register → r ≡ with_config d c
     → r ≡ with_config d (with_ambient d.config register)

@@ -36,6 +36,16 @@ abbrev pub told : {A : Type 0} → A → Result A Refusal → Outcome A
 told none (Ok value) = outcome 0 value
 told none (Err refusal) = outcome (number_of refusal) none
 
+-- a refusal with the state as given
+abbrev pub given_back : Ssd1677 → Result Unit Refusal → Result Unit Refused
+given_back d (Ok value) = Ok value
+given_back d (Err refusal) = Err (record { refusal = refusal; state = d })
+
+-- what a question after a part of the state answers: of a refused state that part of the one handed back
+abbrev pub told_part : {A : Type 0} → (Ssd1677 → A) → Result A Refused → Outcome A
+told_part part (Ok value) = outcome 0 value
+told_part part (Err refused) = outcome (number_of refused.refusal) (part refused.state)
+
 -- 13 alone, of a call that is lent nothing
 unfoldable pub state_guarded : Ssd1677 → Result Unit Refusal
 state_guarded d = pick (not (state_fine d)) (Err State) (Ok tt)

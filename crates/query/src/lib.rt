@@ -4,7 +4,7 @@
 
 ghost use Rattle.std.specs.Prelude.{◌≡◌};
 ghost use Rattle.guard.specs.Refusals.{refusal_number};
-ghost use Rattle.query.specs.Outcome.{outcome, answer_in, state_in, state_guarded};
+ghost use Rattle.query.specs.Outcome.{outcome, answer_in, state_in, state_guarded, given_back};
 ghost use Rattle.query.specs.Queries.{with_ambient, ambient_set, taken_in, with_count, journal_emptied, diagnostics_taken};
 
 use config::Ssd1677Config;
@@ -27,6 +27,16 @@ pub fn check_state(state: Ssd1677) -> Result<(), Refusal>
         return Ok(());
     }
     Err(Refusal::State)
+}
+
+// The same, of a question that hands the state back where it is refused.
+pub fn check_given(state: Ssd1677) -> Result<(), Refused>
+    ensures { result ≡ given_back state (state_guarded state) }
+{
+    match check_state(state) {
+        Ok(()) => Ok(()),
+        Err(refusal) => Err(Refused { refusal, state }),
+    }
 }
 
 fn with_ambient(config: Ssd1677Config, register: u16) -> Ssd1677Config

@@ -3,8 +3,9 @@ use config::Ssd1677Config;
 use device::Ssd1677;
 use event::Event;
 use guard::Refused;
-use power_on::StartError;
+use power_on::RefusedStart;
 use ssd1677::Reading;
+use traffic::Fed;
 
 // Pixels and rows of the largest panel.
 pub const PIXELS: usize = 652800;
@@ -57,6 +58,11 @@ pub struct Hashes {
     pub gates: u64,
 }
 
+// Data that are made at once at most, and their kinds.
+pub const LIST: usize = 1024;
+
+static DATA: [u8; LIST] = [burst::DATA; LIST];
+
 // The front of a buffer, but never more than there is: a panel that asks for more is refused before the buffers are looked at.
 fn front_mut<T>(buffer: &mut [T], length: usize) -> &mut [T] {
     let end = length.min(buffer.len());
@@ -74,7 +80,7 @@ impl Buffers<'_> {
         lengths: &Lengths,
         config: Ssd1677Config,
         otp: &[u8],
-    ) -> Result<Ssd1677, StartError> {
+    ) -> Result<Ssd1677, RefusedStart> {
         power_on::new(
             config,
             front_mut(self.states, lengths.states),
@@ -108,6 +114,32 @@ impl Buffers<'_> {
             front_mut(self.log, lengths.log),
             otp,
             event,
+        )
+    }
+
+    // Data that are made as a list of events.
+    pub fn feed(
+        &mut self,
+        lengths: &Lengths,
+        device: Ssd1677,
+        otp: &[u8],
+        times: &[u64],
+        values: &[u8],
+    ) -> Fed {
+        traffic::feed(
+            device,
+            front_mut(self.states, lengths.states),
+            front_mut(self.luts, lengths.luts),
+            front_mut(self.pixels, lengths.pixels),
+            front_mut(self.counts, lengths.counts),
+            front_mut(self.black_white, lengths.black_white),
+            front_mut(self.red, lengths.red),
+            front_mut(self.gates, lengths.gates),
+            front_mut(self.log, lengths.log),
+            otp,
+            &DATA,
+            times,
+            values,
         )
     }
 

@@ -1,6 +1,6 @@
 // A run: the lines that it takes, and what each does.
 use crate::answers::Answers;
-use crate::buffers::{Buffers, Lengths};
+use crate::buffers::{self, Buffers, Lengths};
 use crate::setup::Setup;
 use crate::{dump, handed, picture};
 use device::Ssd1677;
@@ -9,6 +9,13 @@ use guard::Refusal;
 use line::Line;
 use power_on::StartRefusal;
 use std::io;
+
+// What is left to do of data that a line makes many times.
+#[derive(Clone, Copy)]
+struct Data {
+    device: Ssd1677,
+    left: u64,
+}
 
 #[derive(Drop)]
 pub struct Run<'a> {
@@ -38,21 +45,22 @@ impl<'a> Run<'a> {
         }
     }
 
-    // Takes a line, and writes the text when there is enough of it.
+    // Takes a line, and writes the text when there is enough of it: after what the line itself says, before an event's answer.
     pub fn take(&mut self, rt: &(impl Print + Eprint), bytes: &[u8]) -> io::Result<()> {
         if self.ended {
             return Ok(());
         }
-        self.answers.flush_when_long(rt)?;
         self.lines = self.lines.saturating_add(1);
-        match line::parse(bytes) {
-            Some(line) => self.obey(rt, line),
-            None => {
-                self.answers.line(b"bad line", self.lines);
-                self.ended = true;
-                Ok(())
-            }
+        let Some(line) = line::parse(bytes) else {
+            self.answers.line(b"bad line", self.lines);
+            self.ended = true;
+            return self.answers.flush_when_long(rt);
+        };
+        if let Line::Case(value) = line {
+            self.case(value);
         }
+        self.answers.flush_when_long(rt)?;
+        self.obey(rt, line)
     }
 
     pub fn flush(&mut self, rt: &(impl Print + Eprint)) -> io::Result<()> {
@@ -63,7 +71,7 @@ impl<'a> Run<'a> {
         match line {
             Line::Event(event) => self.event(rt, event)?,
             Line::Repeat(count) => self.repeat = Some(count),
-            Line::Case(value) => self.case(value),
+            Line::Case(_) => (),
             Line::Field(field, n) => self.setup.fields.set(field, n),
             Line::Otp(place, byte) => self.setup.otp.set(place, byte),
             Line::Start => self.start(),
@@ -114,9 +122,9 @@ impl<'a> Run<'a> {
                 self.device = Some(device);
                 self.answers.word(b"start ok\n");
             }
-            Err(error) => {
+            Err(refused) => {
                 self.device = None;
-                self.start_refused(StartRefusal::from(error));
+                self.start_refused(StartRefusal::from(refused.error));
             }
         }
     }
@@ -142,29 +150,77 @@ impl<'a> Run<'a> {
         if let Some(device) = self.device {
             let lengths = self.setup.lengths(device.config.panel);
             let mut next = device;
-            for _ in 0..times {
-                next = self.tell(&lengths, next, event);
-                self.answers.flush_when_long(rt)?;
+            let mut left = times;
+            if let Event::Data(time, byte) = event {
+                if 1 < times {
+                    let fed = self.feed(&lengths, next, time, byte, times);
+                    next = fed.device;
+                    left = fed.left;
+                }
+            }
+            for _ in 0..left {
+                self.tell(rt, &lengths, &mut next, event)?;
             }
             self.device = Some(next);
         }
         Ok(())
     }
 
-    fn tell(&mut self, lengths: &Lengths, device: Ssd1677, event: Event) -> Ssd1677 {
+    // Data that a line makes many times, as lists of events. From the first one on that is refused none are made.
+    fn feed(
+        &mut self,
+        lengths: &Lengths,
+        device: Ssd1677,
+        time: u64,
+        byte: u8,
+        times: u64,
+    ) -> Data {
         let table = self.setup.table.front(lengths.table);
-        match self.buffers.tell(lengths, device, table, event) {
+        let moments = [time; buffers::LIST];
+        let values = [byte; buffers::LIST];
+        let mut data = Data {
+            device,
+            left: times,
+        };
+        for _ in 0..times.div_ceil(buffers::LIST as u64) {
+            let count = data.left.min(buffers::LIST as u64) as usize;
+            let fed = self.buffers.feed(
+                lengths,
+                data.device,
+                table,
+                &moments[..count],
+                &values[..count],
+            );
+            data.device = fed.state;
+            data.left = data.left.saturating_sub(fed.made as u64);
+            if fed.answer.is_err() {
+                break;
+            }
+        }
+        data
+    }
+
+    // A refused call hands the state back as it was given.
+    fn tell(
+        &mut self,
+        rt: &(impl Print + Eprint),
+        lengths: &Lengths,
+        device: &mut Ssd1677,
+        event: Event,
+    ) -> io::Result<()> {
+        let table = self.setup.table.front(lengths.table);
+        let told = self.buffers.tell(lengths, *device, table, event);
+        self.answers.flush_when_long(rt)?;
+        match told {
             Ok(reading) => {
+                *device = reading.state;
                 if let Event::Read(_) = event {
                     self.read(reading.byte);
                 }
-                reading.state
             }
-            Err(refused) => {
-                self.refused(refused.refusal);
-                refused.state
-            }
+            Err(refused) => self.refused(refused.refusal),
         }
+        Ok(())
     }
 
     // The byte of a read, or that nothing is driven.
@@ -218,8 +274,8 @@ impl<'a> Run<'a> {
     ) -> io::Result<()> {
         match query_state::panel_image(device) {
             Ok(image) => picture::put(rt, &mut self.answers, image, self.buffers.picture(lengths)),
-            Err(refusal) => {
-                self.refused(refusal);
+            Err(refused) => {
+                self.refused(refused.refusal);
                 Ok(())
             }
         }
