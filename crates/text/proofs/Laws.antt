@@ -42,6 +42,14 @@ unfolding written
 written_more g [] t = refl
 written_more g (c ∷ s) t = written_more (put_of g c) s t
 
+-- the first i bytes of a text written, and the next one after them: of a text put byte by byte
+module _ (g : List ℕ) (l : List ℕ) (i : ℕ) (h : i < length l) {a b : List ℕ} where
+  pub word_step : a ≡ written g (take i l) → b ≡ put_of a (get_or l i 0) → b ≡ written g (take (i + 1) l)
+  unfolding written
+  word_step e f =
+      f ∙ ap (λ (x : List ℕ). put_of x (get_or l i 0)) e ∙ sym (written_more g (take i l) (get_or l i 0 ∷ []))
+      ∙ ap (written g) (sym (take-suc l i 0 h)) ∙ ap (λ (n : ℕ). written g (take n l)) (sym (add-one i))
+
 -- a text is what there was, and as much of what is written as there is room for
 pub written_is : (g w : List ℕ) → length g ≤ 65536 → written g w ≡ g ++ take (65536 - length g) w
 unfolding written put_of
